@@ -1,0 +1,55 @@
+-- Document 01, "Columns": what a field of bytes says, and the lines of a text.
+use Prim.Native.Nat.{ℕ, suc, _+_, _-_, _*_}
+use mathlib.Core.Bool.{Bool, true, false, cond, _&&_}
+use mathlib.Core.List.{List, [], _∷_}
+use mathlib.Core.Option.{Option, none, some}
+use lib.ListN.{length, take, drop}
+use lib.Dec.{leb, eqb}
+
+-- 0 to 9.
+unfoldable pub isDigit : ℕ → Bool
+isDigit b = leb 48 b && leb b 57
+
+-- The number that goes on with these digits after `n`, or none where a byte is no digit.
+unfoldable pub digits : ℕ → List ℕ → Option ℕ
+digits n [] = some n
+digits n (b ∷ bs) = cond (isDigit b) (digits (n * 10 + (b - 48)) bs) none
+
+-- A number that starts with this byte: no leading zero except the number 0 itself.
+unfoldable pub number : ℕ → List ℕ → Option ℕ
+number b [] = digits 0 (b ∷ [])
+number b (c ∷ cs) = cond (eqb b 48) none (digits 0 (b ∷ c ∷ cs))
+
+-- A field: blanks to the left, at least one digit, right-justified. None where it is malformed.
+unfoldable pub field : List ℕ → Option ℕ
+field [] = none
+field (b ∷ bs) = cond (eqb b 32) (field bs) (number b bs)
+
+-- The field in columns `first` to `last` of a line, counted from 1. None where the line is too short.
+unfoldable pub fieldAt : (first last : ℕ) → List ℕ → Option ℕ
+fieldAt first last line = cond (leb last (length line)) (field (take (suc last - first) (drop (first - 1) line))) none
+
+-- Go on with a number that was read.
+abbrev pub andThen : {A B : Type 0} → Option A → (A → Option B) → Option B
+andThen none f = none
+andThen (some a) f = f a
+
+-- The range from `low` to `high`, both in it.
+unfoldable pub between : (low high n : ℕ) → Bool
+between low high n = leb low n && leb n high
+
+-- A line that ends in LF, with the bytes before that; or the bytes after the last LF, which are one malformed line and aren't read.
+pub data Line : Type 0 where
+  ended : List ℕ → Line
+  unended : Line
+
+-- One more byte at the front of the first line.
+unfoldable pub prepend : ℕ → List Line → List Line
+prepend b [] = unended ∷ []
+prepend b (ended bs ∷ ls) = ended (b ∷ bs) ∷ ls
+prepend b (unended ∷ ls) = unended ∷ ls
+
+-- The lines of a text. An empty text has none.
+unfoldable pub lines : List ℕ → List Line
+lines [] = []
+lines (b ∷ bs) = cond (eqb b 10) (ended [] ∷ lines bs) (prepend b (lines bs))

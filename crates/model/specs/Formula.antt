@@ -1,0 +1,51 @@
+-- Document 01, "The book": the threshold-based model in whole units. Bytes on the wire, kbit/s, µs; a link's speed in Mbit/s.
+-- The equations are those of source 000.
+use Prim.Native.Nat.{ℕ, _+_, _-_, _*_, _/_}
+use mathlib.Core.Bool.{Bool}
+use mathlib.Core.List.{List}
+use lib.Dec.{ltb}
+use Rattle.model.specs.Total.{total, largest}
+
+-- The quotient rounded up.
+unfoldable pub ceilDiv : ℕ → ℕ → ℕ
+ceilDiv a b = (a + (b - 1)) / b
+
+-- Burst at a hop: `sum` is the sum of the thresholds of the earlier hops, rounded once (section III).
+unfoldable pub burstAtHop : (rate burst sum : ℕ) → ℕ
+burstAtHop rate burst sum = burst + ceilDiv (rate * sum) 8000
+
+-- Res: what the levels above leave of the link.
+unfoldable pub residual : (speed above : ℕ) → ℕ
+residual speed above = 1000 * speed - above
+
+-- The rate rule: the rate sum of all levels of a link stays below its speed.
+unfoldable pub withinRate : (speed sum : ℕ) → Bool
+withinRate speed sum = ltb sum (1000 * speed)
+
+-- Delay, µs (eq. 12): `y` is Y, `burst` the burst sum of the level, `res` its Res.
+unfoldable pub delayBound : (y burst res : ℕ) → ℕ
+delayBound y burst res = ceilDiv (8000 * (y + burst)) res
+
+-- Backlog, bytes (eq. 13).
+unfoldable pub backlogBound : (rate burst y res : ℕ) → ℕ
+backlogBound rate burst y res = burst + ceilDiv (rate * y) res
+
+-- The aggregate of a queue (document 01: its figures): rate sum, burst sum and largest frame, 0 where none.
+pub record Aggregate : Type 0 where
+  pub rate : ℕ
+  pub burst : ℕ
+  pub frame : ℕ
+
+-- A level of a link stands between those above it (served first) and those below it.
+-- Y: burst sums above, the largest frame below, and the level's own largest frame.
+unfoldable pub interference : (above : List Aggregate) (own : Aggregate) (below : List Aggregate) → ℕ
+interference above own below = total (λ a. a .burst) above + largest (λ a. a .frame) below + own .frame
+
+unfoldable pub levelResidual : (speed : ℕ) (above : List Aggregate) → ℕ
+levelResidual speed above = residual speed (total (λ a. a .rate) above)
+
+unfoldable pub delay : (speed : ℕ) (above : List Aggregate) (own : Aggregate) (below : List Aggregate) → ℕ
+delay speed above own below = delayBound (interference above own below) (own .burst) (levelResidual speed above)
+
+unfoldable pub backlog : (speed : ℕ) (above : List Aggregate) (own : Aggregate) (below : List Aggregate) → ℕ
+backlog speed above own below = backlogBound (own .rate) (own .burst) (interference above own below) (levelResidual speed above)

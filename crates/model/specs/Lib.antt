@@ -1,0 +1,9 @@
+pub mod Total
+pub mod Formula
+pub mod Columns
+pub mod QueueTable
+pub mod Orders
+pub mod LinkCheck
+pub mod HandSums
+pub mod Aggregates
+pub mod Schedulable

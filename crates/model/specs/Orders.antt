@@ -1,0 +1,106 @@
+-- Document 01, "Columns", order lines: what an order line says, for every line; 10 before 11.
+use Prim.Native.Nat.{ℕ, zero, suc, _+_, _*_}
+use mathlib.Core.Bool.{Bool, cond, _&&_}
+use mathlib.Core.List.{List, [], _∷_}
+use mathlib.Core.Option.{Option, none, some}
+use lib.ListN.{length, drop}
+use lib.Dec.{eqb}
+use Rattle.model.specs.Columns.{Line, ended, unended, fieldAt, andThen, between}
+
+pub record Hop : Type 0 where
+  pub link : ℕ
+  pub level : ℕ
+
+-- A flow as its line gives it: rate in kbit/s, burst and largest frame in bytes, deadline in µs.
+pub record Flow : Type 0 where
+  pub number : ℕ
+  pub rate : ℕ
+  pub burst : ℕ
+  pub frame : ℕ
+  pub deadline : ℕ
+  pub path : List Hop
+
+-- A registration with its flow, a release with its flow number, or 10 or 11.
+pub data Order : Type 0 where
+  register : Flow → Order
+  release : ℕ → Order
+  rejected : ℕ → Order
+
+-- The columns of a registration before its hops.
+pub record Head : Type 0 where
+  pub number : ℕ
+  pub rate : ℕ
+  pub burst : ℕ
+  pub frame : ℕ
+  pub deadline : ℕ
+  pub hops : ℕ
+
+unfoldable pub headFields : List ℕ → Option Head
+headFields line =
+    andThen (fieldAt 3 8 line) λ number.
+    andThen (fieldAt 9 17 line) λ rate.
+    andThen (fieldAt 18 25 line) λ burst.
+    andThen (fieldAt 26 30 line) λ frame.
+    andThen (fieldAt 31 38 line) λ deadline.
+    andThen (fieldAt 39 41 line) λ hops.
+    some (record { number = number; rate = rate; burst = burst; frame = frame; deadline = deadline; hops = hops })
+
+-- So many hops, six columns each: link 1-4, level 5-6.
+unfoldable pub hopFields : ℕ → List ℕ → Option (List Hop)
+hopFields zero bytes = some []
+hopFields (suc n) bytes =
+    andThen (fieldAt 1 4 bytes) λ link.
+    andThen (fieldAt 5 6 bytes) λ level.
+    andThen (hopFields n (drop 6 bytes)) λ hops.
+    some (record { link = link; level = level } ∷ hops)
+
+-- With a hop count in range the line has exactly 41 + 6 × hops columns.
+unfoldable pub pathFields : ℕ → List ℕ → Option (List Hop)
+pathFields hops line = cond (eqb (length line) (41 + 6 * hops)) (hopFields hops (drop 41 line)) none
+
+unfoldable pub numberInRange : ℕ → Bool
+numberInRange = between 1 65535
+
+unfoldable pub hopsInRange : ℕ → Bool
+hopsInRange = between 1 12
+
+-- The ranges of a registration, its hop count aside. A hop's link and level have none.
+unfoldable pub headInRange : Head → Bool
+headInRange h =
+    numberInRange (h .number)
+    && between 1 10000000 (h .rate)
+    && between 84 1000000 (h .burst)
+    && between 84 1542 (h .frame)
+    && between 1 10000000 (h .deadline)
+
+unfoldable pub flowOf : Head → List Hop → Flow
+flowOf h path =
+    record { number = h .number; rate = h .rate; burst = h .burst; frame = h .frame; deadline = h .deadline; path = path }
+
+unfoldable pub withPath : Head → Option (List Hop) → Order
+withPath h none = rejected 10
+withPath h (some path) = cond (headInRange h) (register (flowOf h path)) (rejected 11)
+
+-- With a hop count out of range, nothing after column 41 is read.
+unfoldable pub registration : List ℕ → Option Head → Order
+registration line none = rejected 10
+registration line (some h) = cond (hopsInRange (h .hops)) (withPath h (pathFields (h .hops) line)) (rejected 11)
+
+unfoldable pub releaseOf : Option ℕ → Order
+releaseOf none = rejected 10
+releaseOf (some n) = cond (numberInRange n) (release n) (rejected 11)
+
+-- Kind 1 registers, kind 2 releases and ends after column 8; another kind is out of range and the rest isn't read.
+unfoldable pub orderOfKind : List ℕ → Option ℕ → Order
+orderOfKind line none = rejected 10
+orderOfKind line (some kind) =
+    cond (eqb kind 1)
+    (registration line (headFields line))
+    (cond (eqb kind 2) (cond (eqb (length line) 8) (releaseOf (fieldAt 3 8 line)) (rejected 10)) (rejected 11))
+
+unfoldable pub readOrder : List ℕ → Order
+readOrder line = orderOfKind line (fieldAt 1 2 line)
+
+unfoldable pub orderLine : Line → Order
+orderLine unended = rejected 10
+orderLine (ended line) = readOrder line
