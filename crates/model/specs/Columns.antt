@@ -1,7 +1,7 @@
 -- Document 01, "Columns": what a field of bytes says, and the lines of a text.
-use Prim.Native.Nat.{ℕ, suc, _+_, _-_, _*_}
+use Prim.Native.Nat.{ℕ, zero, suc, _+_, _-_, _*_, _/_, _%_}
 use mathlib.Core.Bool.{Bool, true, false, cond, _&&_}
-use mathlib.Core.List.{List, [], _∷_}
+use mathlib.Core.List.{List, [], _∷_, _++_}
 use mathlib.Core.Option.{Option, none, some}
 use lib.ListN.{length, take, drop}
 use lib.Dec.{leb, eqb}
@@ -27,7 +27,17 @@ field (b ∷ bs) = cond (eqb b 32) (field bs) (number b bs)
 
 -- The field in columns `first` to `last` of a line, counted from 1. None where the line is too short.
 unfoldable pub fieldAt : (first last : ℕ) → List ℕ → Option ℕ
-fieldAt first last line = cond (leb last (length line)) (field (take (suc last - first) (drop (first - 1) line))) none
+fieldAt first last line = cond (leb last (length line)) (field (take (last - (first - 1)) (drop (first - 1) line))) none
+
+-- A number written in so many columns, filled from the right: first the digits that are left, then blanks.
+unfoldable pub padded : (width n : ℕ) → List ℕ
+padded zero n = []
+padded (suc w) n = padded w (n / 10) ++ (cond (eqb n 0) 32 (48 + n % 10) ∷ [])
+
+-- The same with at least one digit.
+unfoldable pub justified : (width n : ℕ) → List ℕ
+justified zero n = []
+justified (suc w) n = padded w (n / 10) ++ ((48 + n % 10) ∷ [])
 
 -- Go on with a number that was read.
 abbrev pub andThen : {A B : Type 0} → Option A → (A → Option B) → Option B

@@ -1,6 +1,8 @@
 pub mod Total
 pub mod Formula
+pub mod FormulaLaws
 pub mod Columns
+pub mod ColumnsLaws
 pub mod QueueTable
 pub mod Orders
 pub mod LinkCheck

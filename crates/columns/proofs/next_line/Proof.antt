@@ -1,0 +1,70 @@
+-- `columns::next_line` meets its contract. The invariant: the bytes from `at` to `i` hold no LF, so they stand before the lines from `i` on.
+-- Assumes nothing.
+use borrow.Author.Needs.{needs}
+use Prim.Native.Nat.{_-_, _≤_}
+use mathlib.Core.Path.{_≡_, _∙_}
+use native.Mathlib.Omega.{arith}
+use lib.ListN.{length, take, drop}
+use Rattle.model.specs.Columns.{lines}
+use Rattle.model.specs.ColumnsLaws.{prependAll, line-step, line-start, line-ended, line-unended, lines-nothing}
+use Rattle.columns.proofs.next_line.Statement.{statement}
+use Rattle.columns.proofs.next_line.Tie as tie
+
+abbrev Inv-loop : tie.InvT-loop
+Inv-loop text at i₀ i = (at ≤ i) × (i ≤ length text) × (lines (drop at text) ≡ prependAll (take (i - at) (drop at text)) (lines (drop i text)))
+
+abbrev μ-loop : tie.MeasureT-loop
+μ-loop text at i₀ i = length text - i
+
+returns : tie.Need-returns Inv-loop μ-loop
+returns c = record { same = lines-nothing (c .before .args .text .now) (c .before .args .at) (c .if1 .taken); within = tt }
+
+loop-holds : tie.Need-loop-holds Inv-loop μ-loop
+loop-holds c = (omega arith, omega arith, line-start (c .before .args .text .now) (c .before .args .at))
+
+shared-slice-read-if2 : tie.Need-shared-slice-read-if2 Inv-loop μ-loop
+shared-slice-read-if2 c = search needs
+
+returns-2 : tie.Need-returns-2 Inv-loop μ-loop
+returns-2 c =
+    let before = c .before .before .before in
+    let args = before .before .before .args in
+    let at = before .loop in
+    record {
+      same = at .inv .2 ∙ line-ended (args .text .now) (args .at) (at .i) (omega arith) (c .if2 .taken);
+      within = (at .inv .0, omega arith);
+    }
+
+add-i : tie.Need-add-i Inv-loop μ-loop
+add-i c = search needs
+
+loop-less : tie.Need-loop-less Inv-loop μ-loop
+loop-less c = search needs
+
+loop-again : tie.Need-loop-again Inv-loop μ-loop
+loop-again c =
+    let before = c .before .before .before in
+    let args = before .before .before .args in
+    let at = before .loop in
+    (omega arith, omega arith, at .inv .2 ∙ line-step (args .text .now) (args .at) (at .i) (at .inv .0) (omega arith) (c .if2 .left))
+
+returns-3 : tie.Need-returns-3 Inv-loop μ-loop
+returns-3 c =
+    let args = c .before .before .before .args in
+    let at = c .before .loop in
+    record { same = at .inv .2 ∙ line-unended (args .text .now) (args .at) (at .i) (omega arith) (omega arith); within = tt }
+
+pub next-line-spec : {M : Type 1} → statement M
+next-line-spec =
+    tie.close
+    (tie.spec
+    Inv-loop
+    μ-loop
+    returns
+    loop-holds
+    shared-slice-read-if2
+    returns-2
+    add-i
+    loop-less
+    loop-again
+    returns-3)

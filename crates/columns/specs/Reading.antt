@@ -1,0 +1,37 @@
+-- What the answers of this crate say in the terms of the model.
+use Prim.Native.Nat.{ℕ, _+_, _-_, _≤_, _<_}
+use mathlib.Core.Path.{_≡_}
+use mathlib.Core.List.{List, [], _∷_}
+use mathlib.Core.Option.{Option, none, some}
+use lib.ListN.{length, getD, take, drop}
+use Rattle.model.specs.Columns.{Line, ended, unended, lines, field}
+use Rattle.columns.specs.declared.Field.{Field}
+use Rattle.columns.specs.declared.Field.the-variants.{Number, Malformed}
+use Rattle.columns.specs.declared.NextLine.{NextLine}
+use Rattle.columns.specs.declared.NextLine.the-variants.{Ended, Unended, Nothing}
+
+-- The number of a field, none where it is malformed.
+abbrev pub valueOf : Field → Option ℕ
+valueOf (Number n) = some n
+valueOf Malformed = none
+
+-- `at` is the first place of a field that is no blank: those before it don't count.
+pub record FirstNonBlank (s : List ℕ) (at : ℕ) : Type 0 where
+  pub within : at ≤ length s
+  pub rest : field s ≡ field (drop at s)
+  pub other : at < length s → getD s at 0 ≡ 32 → ⊥
+
+-- The lines of a text from `at` on, by where the first of them ends.
+abbrev pub linesFrom : List ℕ → ℕ → NextLine → List Line
+linesFrom text at (Ended e) = ended (take (e - at) (drop at text)) ∷ lines (drop (e + 1) text)
+linesFrom text at Unended = unended ∷ []
+linesFrom text at Nothing = []
+
+abbrev pub endsWithin : List ℕ → ℕ → NextLine → Type 0
+endsWithin text at (Ended e) = (at ≤ e) × (e < length text)
+endsWithin text at Unended = Unit {0}
+endsWithin text at Nothing = Unit {0}
+
+pub record FirstLine (text : List ℕ) (at : ℕ) (found : NextLine) : Type 0 where
+  pub same : lines (drop at text) ≡ linesFrom text at found
+  pub within : endsWithin text at found

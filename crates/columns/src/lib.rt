@@ -1,0 +1,146 @@
+// Decimal fields in fixed columns, and the lines of a text (document 01, "Columns").
+ghost use mathlib.Core.Path.{_≡_};
+ghost use mathlib.Core.List.{_++_};
+ghost use mathlib.Core.Bool.{cond};
+ghost use Prim.Native.Nat.{_+_, _%_, _≤_, _<_};
+ghost use lib.Dec.{eqb};
+ghost use lib.ListN.{length, drop};
+ghost use Rattle.model.specs.Columns.{field, fieldAt, digits, justified};
+ghost use Rattle.columns.specs.Reading.{valueOf, FirstNonBlank, FirstLine};
+
+const BLANK: u8 = 32;
+
+const LF: u8 = 10;
+
+// What a field says.
+pub enum Field {
+    Number(u32),
+    Malformed,
+}
+
+// The first line of a text from a position on.
+pub enum NextLine {
+    // It ends in the LF at this position.
+    Ended(usize),
+    // No LF follows.
+    Unended,
+    // The text is at its end.
+    Nothing,
+}
+
+fn wide(x: u8) -> u32
+    ensures { λ r. ⌜ r ≡ x ⌝ }
+{
+    x as u32
+}
+
+// The position of the first byte that is no blank, or the field's width.
+fn skip_blanks(s: &[u8]) -> usize
+    ensures { λ r. ⌜ FirstNonBlank (now (s .entry)) r ⌝ }
+{
+    let mut i = 0;
+    while i < s.len() {
+        if s[i] != BLANK {
+            return i;
+        }
+        i += 1;
+    }
+    i
+}
+
+// The number of a run of digits.
+fn read_digits(s: &[u8]) -> Field
+    requires { ⌜ length (now s) ≤ 9 ⌝ }
+    ensures { λ r. ⌜ valueOf r ≡ digits 0 (now (s .entry)) ⌝ }
+{
+    let mut n: u32 = 0;
+    let mut i = 0;
+    while i < s.len() {
+        let b = wide(s[i]);
+        if b < 48 {
+            return Field::Malformed;
+        }
+        if 57 < b {
+            return Field::Malformed;
+        }
+        n = n * 10 + (b - 48);
+        i += 1;
+    }
+    Field::Number(n)
+}
+
+fn read_field(s: &[u8]) -> Field
+    requires { ⌜ length (now s) ≤ 9 ⌝ }
+    ensures { λ r. ⌜ valueOf r ≡ field (now (s .entry)) ⌝ }
+{
+    let at = skip_blanks(s);
+    if s.len() <= at {
+        return Field::Malformed;
+    }
+    if s[at] == 48 {
+        if at + 1 < s.len() {
+            return Field::Malformed;
+        }
+        return Field::Number(0);
+    }
+    read_digits(&s[at..])
+}
+
+// The field in columns `first` to `last` of a line, counted from 1, up to 9 of them.
+pub fn read_at(line: &[u8], first: usize, last: usize) -> Field
+    requires { ⌜ (1 ≤ first) × ((first ≤ last) × (last < first + 9)) ⌝ }
+    ensures { λ r. ⌜ valueOf r ≡ fieldAt first last (now (line .entry)) ⌝ }
+{
+    if line.len() < last {
+        return Field::Malformed;
+    }
+    let start = first - 1;
+    read_field(&line[start..last])
+}
+
+fn digit(n: u64) -> u8
+    ensures { λ r. ⌜ r ≡ 48 + n % 10 ⌝ }
+{
+    48 + (n % 10) as u8
+}
+
+fn digit_or_blank(n: u64) -> u8
+    ensures { λ r. ⌜ r ≡ cond (eqb n 0) 32 (48 + n % 10) ⌝ }
+{
+    if n == 0 {
+        return BLANK;
+    }
+    digit(n)
+}
+
+// Writes a number right-justified into the first `width` bytes of a part of a line already begun.
+pub fn write_field(part: &mut [u8], width: usize, n: u64)
+    requires { ⌜ (1 ≤ width) × (width ≤ length (now part)) ⌝ }
+    ensures { λ r. ⌜ now (part .exit) ≡ justified width n ++ drop width (now (part .entry)) ⌝ }
+{
+    let mut at = width - 1;
+    part[at] = digit(n);
+    let mut rest = n / 10;
+    while 0 < at {
+        at -= 1;
+        part[at] = digit_or_blank(rest);
+        rest = rest / 10;
+    }
+}
+
+// Where the line that starts at `at` ends.
+pub fn next_line(text: &[u8], at: usize) -> NextLine
+    ensures { λ r. ⌜ FirstLine (now (text .entry)) at r ⌝ }
+{
+    if text.len() <= at {
+        return NextLine::Nothing;
+    }
+    let mut i = at;
+    while i < text.len() {
+        if text[i] == LF {
+            return NextLine::Ended(i);
+        }
+        i += 1;
+    }
+    NextLine::Unended
+}
