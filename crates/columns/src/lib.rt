@@ -5,7 +5,7 @@ ghost use mathlib.Core.Bool.{cond};
 ghost use Prim.Native.Nat.{_+_, _%_, _≤_, _<_};
 ghost use lib.Dec.{eqb};
 ghost use lib.ListN.{length, drop};
-ghost use Rattle.model.specs.Columns.{field, fieldAt, digits, justified};
+ghost use Rattle.model.specs.Columns.{field, fieldAt, digits, justified, between};
 ghost use Rattle.columns.specs.Reading.{valueOf, FirstNonBlank, FirstLine};
 
 const BLANK: u8 = 32;
@@ -28,7 +28,7 @@ pub enum NextLine {
     Nothing,
 }
 
-fn wide(x: u8) -> u32
+fn byte(x: u8) -> u32
     ensures { λ r. ⌜ r ≡ x ⌝ }
 {
     x as u32
@@ -56,7 +56,7 @@ fn read_digits(s: &[u8]) -> Field
     let mut n: u32 = 0;
     let mut i = 0;
     while i < s.len() {
-        let b = wide(s[i]);
+        let b = byte(s[i]);
         if b < 48 {
             return Field::Malformed;
         }
@@ -111,6 +111,23 @@ fn digit_or_blank(n: u64) -> u8
         return BLANK;
     }
     digit(n)
+}
+
+// A number of a field, for sums that need room.
+pub fn wide(n: u32) -> u64
+    ensures { λ r. ⌜ r ≡ n ⌝ }
+{
+    n as u64
+}
+
+// Whether a number is in a range, both ends in it.
+pub fn within(low: u64, high: u64, n: u64) -> bool
+    ensures { λ r. ⌜ r ≡ between low high n ⌝ }
+{
+    if n < low {
+        return false;
+    }
+    n <= high
 }
 
 // Writes a number right-justified into the first `width` bytes of a part of a line already begun.

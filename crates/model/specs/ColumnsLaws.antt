@@ -2,7 +2,7 @@
 -- Assumes nothing.
 use Prim.Native.Nat.{ℕ, zero, suc, _+_, _-_, _*_, _/_, _%_, _≤_, _<_}
 use mathlib.Core.Path.{_≡_, refl, sym, ap, ap₂, _∙_}
-use mathlib.Core.Bool.{Bool, true, false, cond, _&&_}
+use mathlib.Core.Bool.{true, cond, _&&_, and-eq-true-iff}
 use mathlib.Core.List.{List, [], _∷_, _++_, append-assoc}
 use mathlib.Core.Option.{Option, none, some}
 use native.Mathlib.Omega.{arith}
@@ -10,8 +10,8 @@ use native.Mathlib.Numerals.{add-one}
 use lib.ListN.{length, getD, take, drop, set, drop-of-length-le, length-take, length-drop}
 use lib.Seq.{drop-cons, take-suc, getD-drop, drop-set-lt, getD-set-same, lt-length-set}
 use lib.Dec.{leb, eqb}
-use borrow.Author.Tests.{le-leb, lt-leb, eq-eqb, ne-eqb}
-use Rattle.model.specs.Columns.{isDigit, digits, number, field, padded, justified, Line, ended, unended, prepend, lines}
+use borrow.Author.Tests.{leb-true, le-leb, lt-leb, eq-eqb, ne-eqb}
+use Rattle.model.specs.Columns.{isDigit, digits, number, field, padded, justified, between, Line, ended, unended, prepend, lines}
 
 of-other : (b : ℕ) (l : List ℕ) → (b ≡ 48 → ⊥) → number b l ≡ digits 0 (b ∷ l)
 unfolding number
@@ -143,3 +143,9 @@ pub padded-done : (at rest : ℕ) (l : List ℕ) → at ≤ 0 → padded at rest
 unfolding padded
 padded-done zero rest l h = refl
 padded-done (suc k) rest l h = absurd (omega arith)
+
+pub between-true : (low high n : ℕ) → between low high n ≡ true → (low ≤ n) × (n ≤ high)
+unfolding between
+between-true low high n e =
+    let both = and-eq-true-iff (leb low n) (leb n high) .0 e in
+    (leb-true low n (both .0), leb-true n high (both .1))

@@ -45,14 +45,17 @@ headFields line =
     andThen (fieldAt 39 41 line) λ hops.
     some (record { number = number; rate = rate; burst = burst; frame = frame; deadline = deadline; hops = hops })
 
--- So many hops, six columns each: link 1-4, level 5-6.
-unfoldable pub hopFields : ℕ → List ℕ → Option (List Hop)
-hopFields zero bytes = some []
-hopFields (suc n) bytes =
+-- A hop's six columns: link 1-4, level 5-6.
+unfoldable pub hopField : List ℕ → Option Hop
+hopField bytes =
     andThen (fieldAt 1 4 bytes) λ link.
     andThen (fieldAt 5 6 bytes) λ level.
-    andThen (hopFields n (drop 6 bytes)) λ hops.
-    some (record { link = link; level = level } ∷ hops)
+    some (record { link = link; level = level })
+
+-- So many hops, one after the other.
+unfoldable pub hopFields : ℕ → List ℕ → Option (List Hop)
+hopFields zero bytes = some []
+hopFields (suc n) bytes = andThen (hopField bytes) λ hop. andThen (hopFields n (drop 6 bytes)) λ hops. some (hop ∷ hops)
 
 -- With a hop count in range the line has exactly 41 + 6 × hops columns.
 unfoldable pub pathFields : ℕ → List ℕ → Option (List Hop)
@@ -82,21 +85,25 @@ withPath h none = rejected 10
 withPath h (some path) = cond (headInRange h) (register (flowOf h path)) (rejected 11)
 
 -- With a hop count out of range, nothing after column 41 is read.
-unfoldable pub registration : List ℕ → Option Head → Order
-registration line none = rejected 10
-registration line (some h) = cond (hopsInRange (h .hops)) (withPath h (pathFields (h .hops) line)) (rejected 11)
+unfoldable pub registrationOf : List ℕ → Option Head → Order
+registrationOf line none = rejected 10
+registrationOf line (some h) = cond (hopsInRange (h .hops)) (withPath h (pathFields (h .hops) line)) (rejected 11)
+
+unfoldable pub registration : List ℕ → Order
+registration line = registrationOf line (headFields line)
 
 unfoldable pub releaseOf : Option ℕ → Order
 releaseOf none = rejected 10
 releaseOf (some n) = cond (numberInRange n) (release n) (rejected 11)
 
--- Kind 1 registers, kind 2 releases and ends after column 8; another kind is out of range and the rest isn't read.
+-- A release ends after column 8.
+unfoldable pub releaseLine : List ℕ → Order
+releaseLine line = cond (eqb (length line) 8) (releaseOf (fieldAt 3 8 line)) (rejected 10)
+
+-- Kind 1 registers, kind 2 releases; another kind is out of range and the rest isn't read.
 unfoldable pub orderOfKind : List ℕ → Option ℕ → Order
 orderOfKind line none = rejected 10
-orderOfKind line (some kind) =
-    cond (eqb kind 1)
-    (registration line (headFields line))
-    (cond (eqb kind 2) (cond (eqb (length line) 8) (releaseOf (fieldAt 3 8 line)) (rejected 10)) (rejected 11))
+orderOfKind line (some kind) = cond (eqb kind 1) (registration line) (cond (eqb kind 2) (releaseLine line) (rejected 11))
 
 unfoldable pub readOrder : List ℕ → Order
 readOrder line = orderOfKind line (fieldAt 1 2 line)

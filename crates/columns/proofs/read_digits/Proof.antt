@@ -27,33 +27,33 @@ small c =
     omega (arith, pow-le-pow-right {n = 10} (lit≤ tt) i)
 
 -- The byte is a digit.
-byte : (c : tie.Else2 Inv-loop μ-loop) → (48 ≤ c .before .before .wide .result) × (c .before .before .wide .result ≤ 57)
-byte c = (c .before .if1 .left, c .if2 .left)
+digit : (c : tie.Else2 Inv-loop μ-loop) → (48 ≤ c .before .before .byte .result) × (c .before .before .byte .result ≤ 57)
+digit c = (c .before .if1 .left, c .if2 .left)
 
 loop-holds : tie.Need-loop-holds Inv-loop μ-loop
 loop-holds c = (omega arith, omega arith, refl)
 
-shared-slice-read-wide : tie.Need-shared-slice-read-wide Inv-loop μ-loop
-shared-slice-read-wide c = search needs
+shared-slice-read-byte : tie.Need-shared-slice-read-byte Inv-loop μ-loop
+shared-slice-read-byte c = search needs
 
-wide-requires : tie.Need-wide-requires Inv-loop μ-loop
-wide-requires c κs = search needs
+byte-requires : tie.Need-byte-requires Inv-loop μ-loop
+byte-requires c κs = search needs
 
 returns : tie.Need-returns Inv-loop μ-loop
 returns c =
     let before = c .before .before .before .before in
-    sym (before .loop .inv .2 ∙ digits-low (before .before .before .args .s .now) (before .loop .i) (omega arith) (before .loop .n) (omega (arith, c .before .wide .ensures, c .if1 .taken)))
+    sym (before .loop .inv .2 ∙ digits-low (before .before .before .args .s .now) (before .loop .i) (omega arith) (before .loop .n) (omega (arith, c .before .byte .ensures, c .if1 .taken)))
 
 returns-2 : tie.Need-returns-2 Inv-loop μ-loop
 returns-2 c =
     let before = c .before .before .before .before .before in
-    sym (before .loop .inv .2 ∙ digits-high (before .before .before .args .s .now) (before .loop .i) (omega arith) (before .loop .n) (omega (arith, c .before .before .wide .ensures, c .if2 .taken)))
+    sym (before .loop .inv .2 ∙ digits-high (before .before .before .args .s .now) (before .loop .i) (omega arith) (before .loop .n) (omega (arith, c .before .before .byte .ensures, c .if2 .taken)))
 
 mul-n : tie.Need-mul-n Inv-loop μ-loop
 mul-n c = omega (arith, small c)
 
 add-n : tie.Need-add-n Inv-loop μ-loop
-add-n c = omega (arith, small c, byte c)
+add-n c = omega (arith, small c, digit c)
 
 add-i : tie.Need-add-i Inv-loop μ-loop
 add-i c = search needs
@@ -66,8 +66,8 @@ loop-again c =
     let before = c .before .before .before .before .before in
     let i = before .loop .i in (
       omega arith,
-      rw (add-one i) (omega (arith, pow-suc 10 i, byte c)),
-      before .loop .inv .2 ∙ rw (c .before .before .wide .ensures) (digits-more (before .before .before .args .s .now) i (omega arith) (before .loop .n) (omega (arith, byte c)) (omega (arith, byte c))),
+      rw (add-one i) (omega (arith, pow-suc 10 i, digit c)),
+      before .loop .inv .2 ∙ rw (c .before .before .byte .ensures) (digits-more (before .before .before .args .s .now) i (omega arith) (before .loop .n) (omega (arith, digit c)) (omega (arith, digit c))),
     )
 
 returns-3 : tie.Need-returns-3 Inv-loop μ-loop
@@ -81,8 +81,8 @@ read-digits-spec =
     Inv-loop
     μ-loop
     loop-holds
-    shared-slice-read-wide
-    wide-requires
+    shared-slice-read-byte
+    byte-requires
     returns
     returns-2
     mul-n

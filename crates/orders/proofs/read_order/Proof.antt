@@ -1,0 +1,73 @@
+-- `orders::read_order` meets its contract: the kind alone says what the rest is read as.
+-- Assumes nothing.
+use borrow.Author.Needs.{needs}
+use mathlib.Core.Path.{_≡_, sym, _∙_, ap}
+use mathlib.Core.Option.{some}
+use borrow.Author.Tests.{eq-eqb, ne-eqb}
+use Rattle.columns.specs.Reading.{valueOf}
+use Rattle.model.specs.Columns.{fieldAt}
+use Rattle.model.specs.Orders.{readOrder, orderOfKind}
+use Rattle.orders.proofs.PathLaws.{with-order}
+use Rattle.orders.proofs.read_order.Statement.{statement}
+use Rattle.orders.proofs.read_order.Tie as tie
+
+kind : (c : tie.After-kind) → fieldAt 1 2 (c .before .before .before .before .args .line .now) ≡ some (c .kind .given .0 .0)
+kind c = sym (c .before .before .read-at .ensures) ∙ ap valueOf (c .kind .given .1)
+
+read-at-requires : tie.Need-read-at-requires
+read-at-requires c κs = search needs
+
+enum-known-kind : tie.Need-enum-known-kind
+enum-known-kind c = search needs
+
+enum-told : tie.Need-enum-told
+enum-told c = search needs
+
+bare-requires : tie.Need-bare-requires
+bare-requires c κs = search needs
+
+returns : tie.Need-returns
+unfolding readOrder orderOfKind
+returns c =
+    let ends = sym (c .before .before .before .read-at .ensures) ∙ ap valueOf (c .before .enum-told .given .1) in
+    with-order _ _ (c .bare .ensures)
+    ∙ sym (simp ends)
+
+read-registration-requires : tie.Need-read-registration-requires
+read-registration-requires c κs = search needs
+
+returns-2 : tie.Need-returns-2
+unfolding readOrder orderOfKind
+returns-2 c = c .read-registration .ensures ∙ sym (simp (kind (c .before .before .before), eq-eqb _ _ (c .before .if1 .taken)))
+
+read-release-requires : tie.Need-read-release-requires
+read-release-requires c κs = search needs
+
+returns-3 : tie.Need-returns-3
+unfolding readOrder orderOfKind
+returns-3 c = c .read-release .ensures ∙ sym (simp (kind (c .before .before .before .before), ne-eqb _ _ (c .before .before .if1 .left), eq-eqb _ _ (c .before .if2 .taken)))
+
+bare-requires-2 : tie.Need-bare-requires-2
+bare-requires-2 c κs = search needs
+
+returns-4 : tie.Need-returns-4
+unfolding readOrder orderOfKind
+returns-4 c =
+    with-order _ _ (c .bare2 .ensures)
+    ∙ sym (simp (kind (c .before .before .before .before), ne-eqb _ _ (c .before .before .if1 .left), ne-eqb _ _ (c .before .if2 .left)))
+
+pub read-order-spec : {M : Type 1} → statement M
+read-order-spec =
+    tie.close
+    (tie.spec
+    read-at-requires
+    enum-known-kind
+    enum-told
+    bare-requires
+    returns
+    read-registration-requires
+    returns-2
+    read-release-requires
+    returns-3
+    bare-requires-2
+    returns-4)

@@ -1,0 +1,124 @@
+-- `orders::read_path` meets its contract. The invariant: the hops read so far, before what the rest of the line says, are the whole path.
+-- Assumes nothing.
+use borrow.Author.Needs.{needs}
+use Prim.Native.Nat.{ℕ, suc, _+_, _-_, _*_, _≤_}
+use mathlib.Core.Path.{_≡_, refl, sym, _∙_, ap}
+use native.Mathlib.Omega.{arith}
+use mathlib.Core.List.{[]}
+use borrow.Author.Tests.{eq-eqb, ne-eqb}
+use lib.ListN.{length, take, drop, length-set}
+use Rattle.model.specs.Orders.{hopFields, pathFields}
+use Rattle.orders.specs.Reading.{hopOf}
+use Rattle.orders.proofs.PathLaws.{read-so-far, path-start, path-step, path-malformed, path-end}
+use Rattle.orders.proofs.read_path.Statement.{statement}
+use Rattle.orders.proofs.read_path.Tie as tie
+
+abbrev Inv-loop : tie.InvT-loop
+Inv-loop line hops n links₀ levels₀ i₀ links levels i =
+    (length links ≡ 12) × (length levels ≡ 12) × (i ≤ n) × (read-so-far line links levels n i ≡ hopFields n (drop 41 line))
+
+abbrev μ-loop : tie.MeasureT-loop
+μ-loop line hops n links₀ levels₀ i₀ links levels i = n - i
+
+mul-if1 : tie.Need-mul-if1 Inv-loop μ-loop
+mul-if1 c = search needs
+
+add-if1 : tie.Need-add-if1 Inv-loop μ-loop
+add-if1 c = search needs
+
+returns : tie.Need-returns Inv-loop μ-loop
+unfolding pathFields
+returns c = sym (simp (ne-eqb _ _ (c .if1 .taken)))
+
+loop-holds : tie.Need-loop-holds Inv-loop μ-loop
+loop-holds c = (refl, refl, omega arith, path-start (c .before .before .args .line .now) [] [] (c .before .before .args .hops))
+
+mul-read-hop : tie.Need-mul-read-hop Inv-loop μ-loop
+mul-read-hop c = search needs
+
+add-read-hop : tie.Need-add-read-hop Inv-loop μ-loop
+add-read-hop c = search needs
+
+read-hop-requires : tie.Need-read-hop-requires Inv-loop μ-loop
+read-hop-requires c κs = search needs
+
+enum-known-link : tie.Need-enum-known-link Inv-loop μ-loop
+enum-known-link c = search needs
+
+enum-told : tie.Need-enum-told Inv-loop μ-loop
+enum-told c = search needs
+
+returns-2 : tie.Need-returns-2 Inv-loop μ-loop
+unfolding pathFields
+returns-2 c =
+    let at = c .before .before .before .before in
+    let args = at .before .before .before .args in
+    let l = at .loop in
+    sym
+    (simp (eq-eqb _ _ (at .before .if1 .left))
+    (sym (l .inv .3) ∙ path-malformed (args .line .now) (l .links) (l .levels) (args .hops) (l .i) (omega arith) (sym (c .before .before .read-hop .ensures) ∙ ap hopOf (c .enum-told .given .1))))
+
+mul-links : tie.Need-mul-links Inv-loop μ-loop
+mul-links c = search needs
+
+array-write-links : tie.Need-array-write-links Inv-loop μ-loop
+array-write-links c = search needs
+
+mul-levels : tie.Need-mul-levels Inv-loop μ-loop
+mul-levels c = search needs
+
+array-write-levels : tie.Need-array-write-levels Inv-loop μ-loop
+array-write-levels c = search needs
+
+add-i : tie.Need-add-i Inv-loop μ-loop
+add-i c = search needs
+
+loop-less : tie.Need-loop-less Inv-loop μ-loop
+loop-less c = search needs
+
+loop-again : tie.Need-loop-again Inv-loop μ-loop
+loop-again c =
+    let at = c .before .before .before .before .before in
+    let args = at .before .before .before .args in
+    let l = at .loop in
+    let link = c .before .link .given in (
+      length-set (l .links) (l .i) (link .0 .0) ∙ l .inv .0,
+      length-set (l .levels) (l .i) (link .0 .1 .0) ∙ l .inv .1,
+      omega arith,
+      sym (path-step (args .line .now) (l .links) (l .levels) (args .hops) (l .i) (link .0 .0) (link .0 .1 .0) (omega (arith, l .inv .0, l .inv .1)) (omega (arith, l .inv .0, at .before .before .before .pre)) (omega arith) (sym (c .before .before .before .read-hop .ensures) ∙ ap hopOf (link .1)))
+          ∙ l .inv .3,
+    )
+
+returns-3 : tie.Need-returns-3 Inv-loop μ-loop
+unfolding pathFields
+returns-3 c =
+    let args = c .before .before .before .before .args in
+    let l = c .before .loop in
+    sym
+    (simp (eq-eqb _ _ (c .before .before .if1 .left))
+    (sym (l .inv .3) ∙ path-end (args .line .now) (l .links) (l .levels) (args .hops) (l .i) (omega arith)))
+
+pub read-path-spec : {M : Type 1} → statement M
+read-path-spec =
+    tie.close
+    (tie.spec
+    Inv-loop
+    μ-loop
+    mul-if1
+    add-if1
+    returns
+    loop-holds
+    mul-read-hop
+    add-read-hop
+    read-hop-requires
+    enum-known-link
+    enum-told
+    returns-2
+    mul-links
+    array-write-links
+    mul-levels
+    array-write-levels
+    add-i
+    loop-less
+    loop-again
+    returns-3)

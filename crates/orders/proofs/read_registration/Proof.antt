@@ -1,0 +1,122 @@
+-- `orders::read_registration` meets its contract: head, hop count, path and ranges are judged in the definition's order.
+-- Assumes nothing.
+use Prim.Native.Nat.{ℕ}
+use mathlib.Core.Path.{_≡_, sym, _∙_, ap}
+use mathlib.Core.Bool.{Bool, true, false}
+use mathlib.Core.Option.{Option, none, some}
+use lib.ListN.{take}
+use borrow.Author.Tests.{not-true, not-false}
+use Rattle.model.specs.Columns.{between}
+use Rattle.model.specs.ColumnsLaws.{between-true}
+use Rattle.model.specs.Orders.{headFields, headInRange, hopsInRange, pathFields, registration, registrationOf, withPath}
+use Rattle.orders.specs.Reading.{fieldsOf, headOf, pathWhen, zipHops}
+use borrow.Author.Needs.{needs}
+use Rattle.orders.proofs.PathLaws.{with-order}
+use Rattle.orders.proofs.read_registration.Statement.{statement}
+use Rattle.orders.proofs.read_registration.Tie as tie
+
+head : (c : tie.After-flow) → headFields (c .before .before .before .before .args .line .now) ≡ some (fieldsOf (c .flow .given .0 .0))
+head c = sym (c .before .before .read-head .ensures) ∙ ap headOf (c .flow .given .1)
+
+counted : (c : tie.After-within) → hopsInRange (c .before .before .before .flow .given .0 .0 .hops) ≡ c .within .result
+unfolding hopsInRange
+counted c = ap (between 1 12) (sym (c .before .wide .ensures)) ∙ sym (c .within .ensures)
+
+few : (c : tie.Else1) → hopsInRange (c .before .before .before .before .flow .given .0 .0 .hops) ≡ true
+few c = counted (c .before) ∙ not-false _ (c .if1 .left)
+
+-- What `read_path` says, once its flag is known.
+path : (c : tie.After-read-path) (whole : Bool) → c .read-path .result .whole ≡ whole
+    → pathFields (c .before .before .before .before .before .flow .given .0 .0 .hops) (c .before .before .before .before .before .before .before .before .before .args .line .now)
+    ≡ pathWhen whole (take (c .before .before .before .before .before .flow .given .0 .0 .hops) (zipHops (c .read-path .result .links) (c .read-path .result .levels)))
+path c whole e =
+    sym (c .read-path .ensures)
+    ∙ ap (λ (w : Bool). pathWhen w (take (c .before .before .before .before .before .flow .given .0 .0 .hops) (zipHops (c .read-path .result .links) (c .read-path .result .levels)))) e
+
+read-head-requires : tie.Need-read-head-requires
+read-head-requires c κs = search needs
+
+enum-known-flow : tie.Need-enum-known-flow
+enum-known-flow c = search needs
+
+enum-told : tie.Need-enum-told
+enum-told c = search needs
+
+bare-requires : tie.Need-bare-requires
+bare-requires c κs = search needs
+
+returns : tie.Need-returns
+unfolding registration registrationOf
+returns c =
+    let ends = sym (c .before .before .before .read-head .ensures) ∙ ap headOf (c .before .enum-told .given .1) in
+    with-order _ _ (c .bare .ensures) ∙ sym (simp ends)
+
+wide-requires : tie.Need-wide-requires
+wide-requires c κs = search needs
+
+within-requires : tie.Need-within-requires
+within-requires c κs = search needs
+
+bare-requires-2 : tie.Need-bare-requires-2
+bare-requires-2 c κs = search needs
+
+returns-2 : tie.Need-returns-2
+unfolding registration registrationOf
+returns-2 c =
+    with-order _ _ (c .bare2 .ensures)
+    ∙ sym (simp (head (c .before .before .before .before .before), counted (c .before .before) ∙ not-true _ (c .before .if1 .taken)))
+
+read-path-requires : tie.Need-read-path-requires
+unfolding hopsInRange
+read-path-requires c κs = between-true 1 12 _ (few c) .1
+
+bare-requires-3 : tie.Need-bare-requires-3
+bare-requires-3 c κs = search needs
+
+returns-3 : tie.Need-returns-3
+unfolding registration registrationOf withPath
+returns-3 c =
+    with-order _ _ (c .bare3 .ensures)
+    ∙ sym (simp (head (c .before .before .before .before .before .before .before), few (c .before .before .before), path (c .before .before) false (not-true _ (c .before .if2 .taken))))
+
+in-range-requires : tie.Need-in-range-requires
+in-range-requires c κs = search needs
+
+bare-requires-4 : tie.Need-bare-requires-4
+bare-requires-4 c κs = search needs
+
+returns-4 : tie.Need-returns-4
+unfolding registration registrationOf withPath
+returns-4 c =
+    with-order _ _ (c .bare4 .ensures)
+    ∙ sym
+    (simp
+    (head (c .before .before .before .before .before .before .before .before .before), few (c .before .before .before .before .before), path (c .before .before .before .before) true (not-false _ (c .before .before .before .if2 .left)), sym (c .before .before .in-range .ensures) ∙ not-true _ (c .before .if3 .taken)))
+
+returns-5 : tie.Need-returns-5
+unfolding registration registrationOf withPath
+returns-5 c =
+    sym
+    (simp
+    (head (c .before .before .before .before .before .before .before .before .before .before), few (c .before .before .before .before .before .before), path (c .before .before .before .before .before) true (not-false _ (c .before .before .before .before .if2 .left)), sym (c .before .before .before .in-range .ensures) ∙ not-false _ (c .before .before .if3 .left)))
+
+pub read-registration-spec : {M : Type 1} → statement M
+read-registration-spec =
+    tie.close
+    (tie.spec
+    read-head-requires
+    enum-known-flow
+    enum-told
+    bare-requires
+    returns
+    wide-requires
+    within-requires
+    bare-requires-2
+    returns-2
+    read-path-requires
+    bare-requires-3
+    returns-3
+    in-range-requires
+    bare-requires-4
+    returns-4
+    returns-5)
