@@ -7,11 +7,8 @@ use Rattle.columns.proofs.digit_or_blank.Tie as tie
 returns : tie.Need-returns
 returns c = simp (eq-eqb _ _ (c .if1 .taken))
 
-digit-requires : tie.Need-digit-requires
-digit-requires c κs = search needs
-
 returns-2 : tie.Need-returns-2
 returns-2 c = simp (ne-eqb _ _ (c .before .if1 .left)) (c .digit .ensures)
 
 pub digit-or-blank-spec : {M : Type 1} → statement M
-digit-or-blank-spec = tie.close (tie.spec returns digit-requires returns-2)
+digit-or-blank-spec = tie.close (tie.spec returns (λ c κs. search needs) returns-2)

@@ -12,21 +12,6 @@ returns : tie.Need-returns
 unfolding fieldAt
 returns c = simp (lt-leb (c .before .before .args .last) (length (c .before .before .args .line .now)) (c .if1 .taken))
 
-sub-start : tie.Need-sub-start
-sub-start c = search needs
-
-sub-read-field : tie.Need-sub-read-field
-sub-read-field c = search needs
-
-part-read-field-start : tie.Need-part-read-field-start
-part-read-field-start c = search needs
-
-part-read-field-end : tie.Need-part-read-field-end
-part-read-field-end c = search needs
-
-read-field-requires : tie.Need-read-field-requires
-read-field-requires c κs = search needs
-
 returns-2 : tie.Need-returns-2
 unfolding fieldAt
 returns-2 c =
@@ -36,11 +21,4 @@ returns-2 c =
 pub read-at-spec : {M : Type 1} → statement M
 read-at-spec =
     tie.close
-    (tie.spec
-    returns
-    sub-start
-    sub-read-field
-    part-read-field-start
-    part-read-field-end
-    read-field-requires
-    returns-2)
+    (tie.spec returns (λ c. search needs) (λ c. search needs) (λ c. search needs) (λ c. search needs) (λ c κs. search needs) returns-2)

@@ -20,20 +20,11 @@ unblanked c h =
     let told = c .skip-blanks .ensures in
     told .rest ∙ field-other (c .before .before .args .s .now) (c .skip-blanks .result) h (told .other h)
 
-skip-blanks-requires : tie.Need-skip-blanks-requires
-skip-blanks-requires c κs = search needs
-
 returns : tie.Need-returns
 unfolding field
 returns c =
     let skipped = c .before .skip-blanks in
     sym (skipped .ensures .rest ∙ ap field (drop-of-length-le (c .before .before .before .args .s .now) (c .if1 .taken)))
-
-shared-slice-read-if2 : tie.Need-shared-slice-read-if2
-shared-slice-read-if2 c = search needs
-
-add-if3 : tie.Need-add-if3
-add-if3 c = search needs
 
 returns-2 : tie.Need-returns-2
 returns-2 c =
@@ -50,18 +41,6 @@ returns-3 c =
     let i = at .skip-blanks .result in
     sym (unblanked at (omega arith) ∙ ap (λ (b : ℕ). number b (drop (i + 1) s)) (c .before .if2 .taken) ∙ ap (number 48) (drop-of-length-le s (c .if3 .left)))
 
-sub-read-digits : tie.Need-sub-read-digits
-sub-read-digits c = search needs
-
-part-read-digits-start : tie.Need-part-read-digits-start
-part-read-digits-start c = search needs
-
-part-read-digits-end : tie.Need-part-read-digits-end
-part-read-digits-end c = search needs
-
-read-digits-requires : tie.Need-read-digits-requires
-read-digits-requires c κs = search needs
-
 returns-4 : tie.Need-returns-4
 returns-4 c =
     let at = c .before .before .before .before .before in
@@ -73,15 +52,5 @@ returns-4 c =
 pub read-field-spec : {M : Type 1} → statement M
 read-field-spec =
     tie.close
-    (tie.spec
-    skip-blanks-requires
-    returns
-    shared-slice-read-if2
-    add-if3
-    returns-2
-    returns-3
-    sub-read-digits
-    part-read-digits-start
-    part-read-digits-end
-    read-digits-requires
-    returns-4)
+    (tie.spec (λ c κs. search needs) returns (λ c. search needs) (λ c. search needs) returns-2 returns-3 (λ c. search needs) (λ c. search needs)
+    (λ c. search needs) (λ c κs. search needs) returns-4)

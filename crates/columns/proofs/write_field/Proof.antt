@@ -17,23 +17,8 @@ Inv-loop part₀ width n at₀ rest₀ part at rest = (at ≤ at₀) × (length 
 abbrev μ-loop : tie.MeasureT-loop
 μ-loop part₀ width n at₀ rest₀ part at rest = at
 
-sub-at : tie.Need-sub-at Inv-loop μ-loop
-sub-at c = search needs
-
-digit-requires : tie.Need-digit-requires Inv-loop μ-loop
-digit-requires c κs = search needs
-
-slice-write-part : tie.Need-slice-write-part Inv-loop μ-loop
-slice-write-part c = search needs
-
 loop-holds : tie.Need-loop-holds Inv-loop μ-loop
 loop-holds c = (omega arith, refl, refl)
-
-sub-at-2 : tie.Need-sub-at-2 Inv-loop μ-loop
-sub-at-2 c = search needs
-
-digit-or-blank-requires : tie.Need-digit-or-blank-requires Inv-loop μ-loop
-digit-or-blank-requires c κs = search needs
 
 -- The loop's part is as long as the one lent.
 long : (c : tie.At-loop Inv-loop μ-loop) → length (c .loop .part) ≡ length (c .before .before .before .args .part .now)
@@ -43,9 +28,6 @@ long c =
 
 slice-write-part-2 : tie.Need-slice-write-part-2 Inv-loop μ-loop
 slice-write-part-2 c = omega (arith, long (c .before .before))
-
-loop-less : tie.Need-loop-less Inv-loop μ-loop
-loop-less c = search needs
 
 loop-again : tie.Need-loop-again Inv-loop μ-loop
 loop-again c =
@@ -69,17 +51,5 @@ returns c =
 pub write-field-spec : {M : Type 1} → statement M
 write-field-spec =
     tie.close
-    (tie.spec
-    Inv-loop
-    μ-loop
-    sub-at
-    digit-requires
-    slice-write-part
-    loop-holds
-    sub-at-2
-    digit-or-blank-requires
-    slice-write-part-2
-    loop-less
-    loop-again
-    same-length
-    returns)
+    (tie.spec Inv-loop μ-loop (λ c. search needs) (λ c κs. search needs) (λ c. search needs) loop-holds (λ c. search needs) (λ c κs. search needs)
+    slice-write-part-2 (λ c. search needs) loop-again same-length returns)

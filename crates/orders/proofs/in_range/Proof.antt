@@ -21,20 +21,11 @@ burst-within c = sym (c .before .within3 .ensures) ∙ not-false _ (c .if3 .left
 frame-within : (c : tie.Else4) → between 84 1542 (c .before .before .before .before .before .before .before .before .before .args .flow .frame .0) ≡ true
 frame-within c = sym (c .before .within4 .ensures) ∙ not-false _ (c .if4 .left)
 
-wide-requires : tie.Need-wide-requires
-wide-requires c κs = search needs
-
-within-requires : tie.Need-within-requires
-within-requires c κs = search needs
-
 returns : tie.Need-returns
 unfolding headInRange numberInRange
 returns c =
     let ends = ap (between 1 65535) (sym (c .before .before .wide .ensures)) ∙ sym (c .before .within .ensures) ∙ not-true _ (c .if1 .taken) in
     sym (simp (ends))
-
-within-requires-2 : tie.Need-within-requires-2
-within-requires-2 c κs = search needs
 
 returns-2 : tie.Need-returns-2
 unfolding headInRange numberInRange
@@ -42,26 +33,17 @@ returns-2 c =
     let ends = sym (c .before .within2 .ensures) ∙ not-true _ (c .if2 .taken) in
     sym (simp (number-within (c .before .before), ends))
 
-within-requires-3 : tie.Need-within-requires-3
-within-requires-3 c κs = search needs
-
 returns-3 : tie.Need-returns-3
 unfolding headInRange numberInRange
 returns-3 c =
     let ends = sym (c .before .within3 .ensures) ∙ not-true _ (c .if3 .taken) in
     sym (simp (number-within (c .before .before .before .before), rate-within (c .before .before), ends))
 
-within-requires-4 : tie.Need-within-requires-4
-within-requires-4 c κs = search needs
-
 returns-4 : tie.Need-returns-4
 unfolding headInRange numberInRange
 returns-4 c =
     let ends = sym (c .before .within4 .ensures) ∙ not-true _ (c .if4 .taken) in
     sym (simp (number-within (c .before .before .before .before .before .before), rate-within (c .before .before .before .before), burst-within (c .before .before), ends))
-
-within-requires-5 : tie.Need-within-requires-5
-within-requires-5 c κs = search needs
 
 returns-5 : tie.Need-returns-5
 unfolding headInRange numberInRange
@@ -70,15 +52,5 @@ returns-5 c = c .within5 .ensures ∙ sym (simp (number-within (c .before .befor
 pub in-range-spec : {M : Type 1} → statement M
 in-range-spec =
     tie.close
-    (tie.spec
-    wide-requires
-    within-requires
-    returns
-    within-requires-2
-    returns-2
-    within-requires-3
-    returns-3
-    within-requires-4
-    returns-4
-    within-requires-5
-    returns-5)
+    (tie.spec (λ c κs. search needs) (λ c κs. search needs) returns (λ c κs. search needs) returns-2 (λ c κs. search needs) returns-3
+    (λ c κs. search needs) returns-4 (λ c κs. search needs) returns-5)

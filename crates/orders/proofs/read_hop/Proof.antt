@@ -18,39 +18,12 @@ use Rattle.orders.proofs.read_hop.Tie as tie
 whole : {A : Type 0} (f : List ℕ → A) (l : List ℕ) (at : ℕ) → f (drop at l) ≡ f (take (length l - at) (drop at l))
 whole f l at = sym (ap f (take-all (length l - at) (drop at l) (simp length-drop (omega arith))))
 
-sub-rest : tie.Need-sub-rest
-sub-rest c = search needs
-
-part-rest-start : tie.Need-part-rest-start
-part-rest-start c = search needs
-
-part-rest-end : tie.Need-part-rest-end
-part-rest-end c = search needs
-
-read-at-requires : tie.Need-read-at-requires
-read-at-requires c κs = search needs
-
-enum-known-link : tie.Need-enum-known-link
-enum-known-link c = search needs
-
-enum-told : tie.Need-enum-told
-enum-told c = search needs
-
 returns : tie.Need-returns
 unfolding hopField
 returns c =
     let args = c .before .before .before .before .before .args in
     let e1 = whole (fieldAt 1 4) (args .line .now) (args .at) ∙ sym (c .before .before .read-at .ensures) ∙ ap valueOf (c .enum-told .given .1) in
     sym (simp e1)
-
-read-at-requires-2 : tie.Need-read-at-requires-2
-read-at-requires-2 c κs = search needs
-
-enum-known-level : tie.Need-enum-known-level
-enum-known-level c = search needs
-
-enum-told-2 : tie.Need-enum-told-2
-enum-told-2 c = search needs
 
 returns-2 : tie.Need-returns-2
 unfolding hopField
@@ -71,16 +44,5 @@ returns-3 c =
 pub read-hop-spec : {M : Type 1} → statement M
 read-hop-spec =
     tie.close
-    (tie.spec
-    sub-rest
-    part-rest-start
-    part-rest-end
-    read-at-requires
-    enum-known-link
-    enum-told
-    returns
-    read-at-requires-2
-    enum-known-level
-    enum-told-2
-    returns-2
-    returns-3)
+    (tie.spec (λ c. search needs) (λ c. search needs) (λ c. search needs) (λ c κs. search needs) (λ c. search needs) (λ c. search needs) returns
+    (λ c κs. search needs) (λ c. search needs) (λ c. search needs) returns-2 returns-3)

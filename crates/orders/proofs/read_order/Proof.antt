@@ -14,18 +14,6 @@ use Rattle.orders.proofs.read_order.Tie as tie
 kind : (c : tie.After-kind) → fieldAt 1 2 (c .before .before .before .before .args .line .now) ≡ some (c .kind .given .0 .0)
 kind c = sym (c .before .before .read-at .ensures) ∙ ap valueOf (c .kind .given .1)
 
-read-at-requires : tie.Need-read-at-requires
-read-at-requires c κs = search needs
-
-enum-known-kind : tie.Need-enum-known-kind
-enum-known-kind c = search needs
-
-enum-told : tie.Need-enum-told
-enum-told c = search needs
-
-bare-requires : tie.Need-bare-requires
-bare-requires c κs = search needs
-
 returns : tie.Need-returns
 unfolding readOrder orderOfKind
 returns c =
@@ -33,22 +21,13 @@ returns c =
     with-order _ _ (c .bare .ensures)
     ∙ sym (simp ends)
 
-read-registration-requires : tie.Need-read-registration-requires
-read-registration-requires c κs = search needs
-
 returns-2 : tie.Need-returns-2
 unfolding readOrder orderOfKind
 returns-2 c = c .read-registration .ensures ∙ sym (simp (kind (c .before .before .before), eq-eqb _ _ (c .before .if1 .taken)))
 
-read-release-requires : tie.Need-read-release-requires
-read-release-requires c κs = search needs
-
 returns-3 : tie.Need-returns-3
 unfolding readOrder orderOfKind
 returns-3 c = c .read-release .ensures ∙ sym (simp (kind (c .before .before .before .before), ne-eqb _ _ (c .before .before .if1 .left), eq-eqb _ _ (c .before .if2 .taken)))
-
-bare-requires-2 : tie.Need-bare-requires-2
-bare-requires-2 c κs = search needs
 
 returns-4 : tie.Need-returns-4
 unfolding readOrder orderOfKind
@@ -59,15 +38,5 @@ returns-4 c =
 pub read-order-spec : {M : Type 1} → statement M
 read-order-spec =
     tie.close
-    (tie.spec
-    read-at-requires
-    enum-known-kind
-    enum-told
-    bare-requires
-    returns
-    read-registration-requires
-    returns-2
-    read-release-requires
-    returns-3
-    bare-requires-2
-    returns-4)
+    (tie.spec (λ c κs. search needs) (λ c. search needs) (λ c. search needs) (λ c κs. search needs) returns (λ c κs. search needs) returns-2
+    (λ c κs. search needs) returns-3 (λ c κs. search needs) returns-4)

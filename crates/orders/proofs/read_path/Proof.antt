@@ -20,33 +20,12 @@ Inv-loop line hops n links₀ levels₀ i₀ links levels i =
 abbrev μ-loop : tie.MeasureT-loop
 μ-loop line hops n links₀ levels₀ i₀ links levels i = n - i
 
-mul-if1 : tie.Need-mul-if1 Inv-loop μ-loop
-mul-if1 c = search needs
-
-add-if1 : tie.Need-add-if1 Inv-loop μ-loop
-add-if1 c = search needs
-
 returns : tie.Need-returns Inv-loop μ-loop
 unfolding pathFields
 returns c = sym (simp (ne-eqb _ _ (c .if1 .taken)))
 
 loop-holds : tie.Need-loop-holds Inv-loop μ-loop
 loop-holds c = (refl, refl, omega arith, path-start (c .before .before .args .line .now) [] [] (c .before .before .args .hops))
-
-mul-read-hop : tie.Need-mul-read-hop Inv-loop μ-loop
-mul-read-hop c = search needs
-
-add-read-hop : tie.Need-add-read-hop Inv-loop μ-loop
-add-read-hop c = search needs
-
-read-hop-requires : tie.Need-read-hop-requires Inv-loop μ-loop
-read-hop-requires c κs = search needs
-
-enum-known-link : tie.Need-enum-known-link Inv-loop μ-loop
-enum-known-link c = search needs
-
-enum-told : tie.Need-enum-told Inv-loop μ-loop
-enum-told c = search needs
 
 returns-2 : tie.Need-returns-2 Inv-loop μ-loop
 unfolding pathFields
@@ -57,24 +36,6 @@ returns-2 c =
     sym
     (simp (eq-eqb _ _ (at .before .if1 .left))
     (sym (l .inv .3) ∙ path-malformed (args .line .now) (l .links) (l .levels) (args .hops) (l .i) (omega arith) (sym (c .before .before .read-hop .ensures) ∙ ap hopOf (c .enum-told .given .1))))
-
-mul-links : tie.Need-mul-links Inv-loop μ-loop
-mul-links c = search needs
-
-array-write-links : tie.Need-array-write-links Inv-loop μ-loop
-array-write-links c = search needs
-
-mul-levels : tie.Need-mul-levels Inv-loop μ-loop
-mul-levels c = search needs
-
-array-write-levels : tie.Need-array-write-levels Inv-loop μ-loop
-array-write-levels c = search needs
-
-add-i : tie.Need-add-i Inv-loop μ-loop
-add-i c = search needs
-
-loop-less : tie.Need-loop-less Inv-loop μ-loop
-loop-less c = search needs
 
 loop-again : tie.Need-loop-again Inv-loop μ-loop
 loop-again c =
@@ -101,24 +62,6 @@ returns-3 c =
 pub read-path-spec : {M : Type 1} → statement M
 read-path-spec =
     tie.close
-    (tie.spec
-    Inv-loop
-    μ-loop
-    mul-if1
-    add-if1
-    returns
-    loop-holds
-    mul-read-hop
-    add-read-hop
-    read-hop-requires
-    enum-known-link
-    enum-told
-    returns-2
-    mul-links
-    array-write-links
-    mul-levels
-    array-write-levels
-    add-i
-    loop-less
-    loop-again
-    returns-3)
+    (tie.spec Inv-loop μ-loop (λ c. search needs) (λ c. search needs) returns loop-holds (λ c. search needs) (λ c. search needs)
+    (λ c κs. search needs) (λ c. search needs) (λ c. search needs) returns-2 (λ c. search needs) (λ c. search needs) (λ c. search needs)
+    (λ c. search needs) (λ c. search needs) (λ c. search needs) loop-again returns-3)

@@ -33,32 +33,11 @@ path c whole e =
     sym (c .read-path .ensures)
     ∙ ap (λ (w : Bool). pathWhen w (take (c .before .before .before .before .before .flow .given .0 .0 .hops) (zipHops (c .read-path .result .links) (c .read-path .result .levels)))) e
 
-read-head-requires : tie.Need-read-head-requires
-read-head-requires c κs = search needs
-
-enum-known-flow : tie.Need-enum-known-flow
-enum-known-flow c = search needs
-
-enum-told : tie.Need-enum-told
-enum-told c = search needs
-
-bare-requires : tie.Need-bare-requires
-bare-requires c κs = search needs
-
 returns : tie.Need-returns
 unfolding registration registrationOf
 returns c =
     let ends = sym (c .before .before .before .read-head .ensures) ∙ ap headOf (c .before .enum-told .given .1) in
     with-order _ _ (c .bare .ensures) ∙ sym (simp ends)
-
-wide-requires : tie.Need-wide-requires
-wide-requires c κs = search needs
-
-within-requires : tie.Need-within-requires
-within-requires c κs = search needs
-
-bare-requires-2 : tie.Need-bare-requires-2
-bare-requires-2 c κs = search needs
 
 returns-2 : tie.Need-returns-2
 unfolding registration registrationOf
@@ -70,20 +49,11 @@ read-path-requires : tie.Need-read-path-requires
 unfolding hopsInRange
 read-path-requires c κs = between-true 1 12 _ (few c) .1
 
-bare-requires-3 : tie.Need-bare-requires-3
-bare-requires-3 c κs = search needs
-
 returns-3 : tie.Need-returns-3
 unfolding registration registrationOf withPath
 returns-3 c =
     with-order _ _ (c .bare3 .ensures)
     ∙ sym (simp (head (c .before .before .before .before .before .before .before), few (c .before .before .before), path (c .before .before) false (not-true _ (c .before .if2 .taken))))
-
-in-range-requires : tie.Need-in-range-requires
-in-range-requires c κs = search needs
-
-bare-requires-4 : tie.Need-bare-requires-4
-bare-requires-4 c κs = search needs
 
 returns-4 : tie.Need-returns-4
 unfolding registration registrationOf withPath
@@ -103,20 +73,6 @@ returns-5 c =
 pub read-registration-spec : {M : Type 1} → statement M
 read-registration-spec =
     tie.close
-    (tie.spec
-    read-head-requires
-    enum-known-flow
-    enum-told
-    bare-requires
-    returns
-    wide-requires
-    within-requires
-    bare-requires-2
-    returns-2
-    read-path-requires
-    bare-requires-3
-    returns-3
-    in-range-requires
-    bare-requires-4
-    returns-4
-    returns-5)
+    (tie.spec (λ c κs. search needs) (λ c. search needs) (λ c. search needs) (λ c κs. search needs) returns (λ c κs. search needs)
+    (λ c κs. search needs) (λ c κs. search needs) returns-2 read-path-requires (λ c κs. search needs) returns-3 (λ c κs. search needs)
+    (λ c κs. search needs) returns-4 returns-5)

@@ -15,26 +15,11 @@ judged : (c : tie.After-within) → numberInRange (c .before .before .before .nu
 unfolding numberInRange
 judged c = ap (between 1 65535) (sym (c .before .wide .ensures)) ∙ sym (c .within .ensures)
 
-bare-requires : tie.Need-bare-requires
-bare-requires c κs = search needs
-
 returns : tie.Need-returns
 unfolding releaseLine
 returns c =
     with-order _ _ (c .bare .ensures)
     ∙ sym (simp (ne-eqb _ _ (c .before .if1 .taken)))
-
-read-at-requires : tie.Need-read-at-requires
-read-at-requires c κs = search needs
-
-enum-known-number : tie.Need-enum-known-number
-enum-known-number c = search needs
-
-enum-told : tie.Need-enum-told
-enum-told c = search needs
-
-bare-requires-2 : tie.Need-bare-requires-2
-bare-requires-2 c κs = search needs
 
 returns-2 : tie.Need-returns-2
 unfolding releaseLine releaseOf
@@ -43,24 +28,12 @@ returns-2 c =
     with-order _ _ (c .bare2 .ensures)
     ∙ sym (simp (eq-eqb _ _ (c .before .before .before .before .if1 .left), ends))
 
-wide-requires : tie.Need-wide-requires
-wide-requires c κs = search needs
-
-within-requires : tie.Need-within-requires
-within-requires c κs = search needs
-
-bare-requires-3 : tie.Need-bare-requires-3
-bare-requires-3 c κs = search needs
-
 returns-3 : tie.Need-returns-3
 unfolding releaseLine releaseOf
 returns-3 c =
     let number = sym (c .before .before .before .before .before .before .before .read-at .ensures) ∙ ap valueOf (c .before .before .before .before .before .number .given .1) in
     with-order _ _ (c .bare3 .ensures)
     ∙ sym (simp (eq-eqb _ _ (c .before .before .before .before .before .before .before .before .if1 .left), number, judged (c .before .before) ∙ c .before .if2 .taken))
-
-bare-requires-4 : tie.Need-bare-requires-4
-bare-requires-4 c κs = search needs
 
 returns-4 : tie.Need-returns-4
 unfolding releaseLine releaseOf
@@ -72,17 +45,5 @@ returns-4 c =
 pub read-release-spec : {M : Type 1} → statement M
 read-release-spec =
     tie.close
-    (tie.spec
-    bare-requires
-    returns
-    read-at-requires
-    enum-known-number
-    enum-told
-    bare-requires-2
-    returns-2
-    wide-requires
-    within-requires
-    bare-requires-3
-    returns-3
-    bare-requires-4
-    returns-4)
+    (tie.spec (λ c κs. search needs) returns (λ c κs. search needs) (λ c. search needs) (λ c. search needs) (λ c κs. search needs) returns-2
+    (λ c κs. search needs) (λ c κs. search needs) (λ c κs. search needs) returns-3 (λ c κs. search needs) returns-4)

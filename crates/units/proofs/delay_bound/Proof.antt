@@ -4,18 +4,9 @@ use borrow.Author.Needs.{needs}
 use Rattle.units.proofs.delay_bound.Statement.{statement}
 use Rattle.units.proofs.delay_bound.Tie as tie
 
-add-ceil-div : tie.Need-add-ceil-div
-add-ceil-div c = search needs
-
-mul-ceil-div : tie.Need-mul-ceil-div
-mul-ceil-div c = search needs
-
-ceil-div-requires : tie.Need-ceil-div-requires
-ceil-div-requires c κs = search needs
-
 returns : tie.Need-returns
 unfolding delayBound
 returns c = search needs
 
 pub delay-bound-spec : {M : Type 1} → statement M
-delay-bound-spec = tie.close (tie.spec add-ceil-div mul-ceil-div ceil-div-requires returns)
+delay-bound-spec = tie.close (tie.spec (λ c. search needs) (λ c. search needs) (λ c κs. search needs) returns)
