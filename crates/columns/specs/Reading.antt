@@ -8,7 +8,7 @@ use Rattle.model.specs.Columns.{Line, ended, unended, lines, field}
 use Rattle.columns.specs.declared.Field.{Field}
 use Rattle.columns.specs.declared.Field.the-variants.{Number, Malformed}
 use Rattle.columns.specs.declared.NextLine.{NextLine}
-use Rattle.columns.specs.declared.NextLine.the-variants.{Ended, Unended, Nothing}
+use Rattle.columns.specs.declared.NextLine.the-variants.{Ended, Unended}
 
 -- The number of a field, none where it is malformed.
 abbrev pub valueOf : Field → Option ℕ
@@ -25,12 +25,10 @@ pub record FirstNonBlank (s : List ℕ) (at : ℕ) : Type 0 where
 abbrev pub linesFrom : List ℕ → ℕ → NextLine → List Line
 linesFrom text at (Ended e) = ended (take (e - at) (drop at text)) ∷ lines (drop (e + 1) text)
 linesFrom text at Unended = unended ∷ []
-linesFrom text at Nothing = []
 
 abbrev pub endsWithin : List ℕ → ℕ → NextLine → Type 0
 endsWithin text at (Ended e) = (at ≤ e) × (e < length text)
 endsWithin text at Unended = Unit {0}
-endsWithin text at Nothing = Unit {0}
 
 pub record FirstLine (text : List ℕ) (at : ℕ) (found : NextLine) : Type 0 where
   pub same : lines (drop at text) ≡ linesFrom text at found

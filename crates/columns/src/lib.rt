@@ -18,14 +18,12 @@ pub enum Field {
     Malformed,
 }
 
-// The first line of a text from a position on.
+// The line of a text that starts at a position.
 pub enum NextLine {
     // It ends in the LF at this position.
     Ended(usize),
     // No LF follows.
     Unended,
-    // The text is at its end.
-    Nothing,
 }
 
 fn byte(x: u8) -> u32
@@ -147,11 +145,9 @@ pub fn write_field(part: &mut [u8], width: usize, n: u64)
 
 // Where the line that starts at `at` ends.
 pub fn next_line(text: &[u8], at: usize) -> NextLine
+    requires { ⌜ at < length (now text) ⌝ }
     ensures { λ r. ⌜ FirstLine (now (text .entry)) at r ⌝ }
 {
-    if text.len() <= at {
-        return NextLine::Nothing;
-    }
     let mut i = at;
     while i < text.len() {
         if text[i] == LF {

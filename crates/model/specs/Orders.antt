@@ -37,12 +37,9 @@ pub record Head : Type 0 where
 
 unfoldable pub headFields : List ℕ → Option Head
 headFields line =
-    andThen (fieldAt 3 8 line) λ number.
-    andThen (fieldAt 9 17 line) λ rate.
-    andThen (fieldAt 18 25 line) λ burst.
-    andThen (fieldAt 26 30 line) λ frame.
-    andThen (fieldAt 31 38 line) λ deadline.
-    andThen (fieldAt 39 41 line) λ hops.
+    andThen (fieldAt 3 8 line) λ number. andThen (fieldAt 9 17 line) λ rate.
+    andThen (fieldAt 18 25 line) λ burst. andThen (fieldAt 26 30 line) λ frame.
+    andThen (fieldAt 31 38 line) λ deadline. andThen (fieldAt 39 41 line) λ hops.
     some (record { number = number; rate = rate; burst = burst; frame = frame; deadline = deadline; hops = hops })
 
 -- A hop's six columns: link 1-4, level 5-6.

@@ -6,7 +6,7 @@ use mathlib.Core.Path.{_≡_, _∙_}
 use native.Mathlib.Omega.{arith}
 use lib.ListN.{length, take, drop}
 use Rattle.model.specs.Columns.{lines}
-use Rattle.model.specs.ColumnsLaws.{prependAll, line-step, line-start, line-ended, line-unended, lines-nothing}
+use Rattle.model.specs.ColumnsLaws.{prependAll, line-step, line-start, line-ended, line-unended}
 use Rattle.columns.proofs.next_line.Statement.{statement}
 use Rattle.columns.proofs.next_line.Tie as tie
 
@@ -16,36 +16,31 @@ Inv-loop text at i₀ i = (at ≤ i) × (i ≤ length text) × (lines (drop at t
 abbrev μ-loop : tie.MeasureT-loop
 μ-loop text at i₀ i = length text - i
 
-returns : tie.Need-returns Inv-loop μ-loop
-returns c = record { same = lines-nothing (c .before .args .text .now) (c .before .args .at) (c .if1 .taken); within = tt }
-
 loop-holds : tie.Need-loop-holds Inv-loop μ-loop
-loop-holds c = (omega arith, omega arith, line-start (c .before .args .text .now) (c .before .args .at))
+loop-holds c = (omega arith, omega arith, line-start (c .args .text .now) (c .args .at))
 
-returns-2 : tie.Need-returns-2 Inv-loop μ-loop
-returns-2 c =
-    let before = c .before .before .before in
-    let args = before .before .before .args in
-    let at = before .loop in
+returns : tie.Need-returns Inv-loop μ-loop
+returns c =
+    let args = c .before .before .before .before .args in
+    let at = c .before .before .before .loop in
     record {
-      same = at .inv .2 ∙ line-ended (args .text .now) (args .at) (at .i) (omega arith) (c .if2 .taken);
+      same = at .inv .2 ∙ line-ended (args .text .now) (args .at) (at .i) (omega arith) (c .if1 .taken);
       within = (at .inv .0, omega arith);
     }
 
 loop-again : tie.Need-loop-again Inv-loop μ-loop
 loop-again c =
-    let before = c .before .before .before in
-    let args = before .before .before .args in
-    let at = before .loop in
-    (omega arith, omega arith, at .inv .2 ∙ line-step (args .text .now) (args .at) (at .i) (at .inv .0) (omega arith) (c .if2 .left))
+    let args = c .before .before .before .before .args in
+    let at = c .before .before .before .loop in
+    (omega arith, omega arith, at .inv .2 ∙ line-step (args .text .now) (args .at) (at .i) (at .inv .0) (omega arith) (c .if1 .left))
 
-returns-3 : tie.Need-returns-3 Inv-loop μ-loop
-returns-3 c =
-    let args = c .before .before .before .args in
+returns-2 : tie.Need-returns-2 Inv-loop μ-loop
+returns-2 c =
+    let args = c .before .before .args in
     let at = c .before .loop in
-    record { same = at .inv .2 ∙ line-unended (args .text .now) (args .at) (at .i) (omega arith) (omega arith); within = tt }
+    record { same = at .inv .2 ∙ line-unended (args .text .now) (args .at) (at .i) (omega (arith, c .before .before .pre)) (omega arith); within = tt }
 
 pub next-line-spec : {M : Type 1} → statement M
 next-line-spec =
     tie.close
-    (tie.spec Inv-loop μ-loop returns loop-holds (λ c. search needs) returns-2 (λ c. search needs) (λ c. search needs) loop-again returns-3)
+    (tie.spec Inv-loop μ-loop loop-holds (λ c. search needs) returns (λ c. search needs) (λ c. search needs) loop-again returns-2)
