@@ -5,7 +5,7 @@ ghost use mathlib.Core.Bool.{cond};
 ghost use Prim.Native.Nat.{_+_, _%_, _≤_, _<_};
 ghost use lib.Dec.{eqb};
 ghost use lib.ListN.{length, drop};
-ghost use Rattle.model.specs.Columns.{field, fieldAt, digits, justified, between};
+ghost use Rattle.model.specs.Columns.{field, fieldAt, digits, justified, writtenAt, between};
 ghost use Rattle.columns.specs.Reading.{valueOf, FirstNonBlank, FirstLine};
 
 const BLANK: u8 = 32;
@@ -129,7 +129,7 @@ pub fn within(low: u64, high: u64, n: u64) -> bool
 }
 
 // Writes a number right-justified into the first `width` bytes of a part of a line already begun.
-pub fn write_field(part: &mut [u8], width: usize, n: u64)
+fn write_field(part: &mut [u8], width: usize, n: u64)
     requires { ⌜ (1 ≤ width) × (width ≤ length (now part)) ⌝ }
     ensures { λ r. ⌜ now (part .exit) ≡ justified width n ++ drop width (now (part .entry)) ⌝ }
 {
@@ -141,6 +141,15 @@ pub fn write_field(part: &mut [u8], width: usize, n: u64)
         part[at] = digit_or_blank(rest);
         rest = rest / 10;
     }
+}
+
+// Writes a number into columns `first` to `last` of a line already begun, counted from 1.
+pub fn write_at(line: &mut [u8], first: usize, last: usize, n: u64)
+    requires { ⌜ (1 ≤ first) × ((first ≤ last) × (last ≤ length (now line))) ⌝ }
+    ensures { λ _. ⌜ now (line .exit) ≡ writtenAt first last n (now (line .entry)) ⌝ }
+{
+    let start = first - 1;
+    write_field(&mut line[start..], last - start, n);
 }
 
 // Where the line that starts at `at` ends.

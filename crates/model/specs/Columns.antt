@@ -39,6 +39,10 @@ unfoldable pub justified : (width n : ℕ) → List ℕ
 justified zero n = []
 justified (suc w) n = padded w (n / 10) ++ ((48 + n % 10) ∷ [])
 
+-- A line with a number written in columns `first` to `last`, counted from 1.
+unfoldable pub writtenAt : (first last n : ℕ) → List ℕ → List ℕ
+writtenAt first last n line = take (first - 1) line ++ (justified (last - (first - 1)) n ++ drop last line)
+
 -- Go on with a number that was read.
 abbrev pub andThen : {A B : Type 0} → Option A → (A → Option B) → Option B
 andThen none f = none

@@ -1,0 +1,29 @@
+// Document 01's sums to check by hand, worked out by `units`. One line for each: the result in 8 columns.
+use libc::STDOUT_FILENO;
+use units::Bytes;
+use units::Micros;
+use units::Rate;
+
+fn show(n: u64) {
+    let mut line = *b"        \n";
+    columns::write_at(&mut line, 1, 8, n);
+    io::write_all(STDOUT_FILENO, &line);
+}
+
+fn main() {
+    // Level 1 alone, then level 2 below it, then level 1 with level 2 below it.
+    let res = units::residual_rate(100, Rate(0));
+    let below = units::residual_rate(100, Rate(1000));
+    show(units::delay_bound(Bytes(1542), Bytes(1542), res).0);
+    show(units::backlog_bound(Rate(1000), Bytes(1542), Bytes(1542), res).0);
+    show(units::delay_bound(Bytes(3084), Bytes(1542), below).0);
+    show(units::backlog_bound(Rate(1000), Bytes(1542), Bytes(3084), below).0);
+    show(units::delay_bound(Bytes(3084), Bytes(1542), res).0);
+    show(units::backlog_bound(Rate(1000), Bytes(1542), Bytes(3084), res).0);
+    // Bursts after one threshold of 371 and after two.
+    show(units::burst_at_hop(Rate(1000), Bytes(1542), Micros(371)).0);
+    show(units::burst_at_hop(Rate(1000), Bytes(1542), Micros(742)).0);
+    // Held rates 99,000, and 999 or 1,000 more: 1 where the rate rule is met.
+    show(units::within_rate(100, Rate(99_999)) as u64);
+    show(units::within_rate(100, Rate(100_000)) as u64);
+}
