@@ -1,7 +1,9 @@
 #!/usr/bin/env python3
 """Writes the inputs of the programs table_cases and order_cases, each case beside what document 01 says of it.
 
-Run at the project's root after a change to a case. The expected lines are given here by hand, not worked out."""
+Run at the project's root after a change to a case; --check only says which files differ. The expected lines are given by
+hand, not worked out."""
+import sys
 from pathlib import Path
 
 
@@ -122,17 +124,25 @@ orders = [
 ]
 
 
-def main():
-    data = Path("crates/table_cases/data")
-    for old in data.glob("t*"):
-        old.unlink()
-    out = ""
+def files():
+    """What stands in each file."""
+    out = {}
+    shown = ""
     for k, (text, code, line, links, queues) in enumerate(tables):
-        (data / f"t{k:02}").write_bytes(text.encode())
-        out += f"{code:3}{line:6}{links:4}{queues:5}\n"
-    Path("crates/table_cases/stdout").write_text(out)
-    Path("crates/order_cases/data/orders.txt").write_bytes("".join(o for o, _ in orders).encode())
-    Path("crates/order_cases/stdout").write_text("".join(p for _, p in orders))
+        out[f"crates/table_cases/data/t{k:02}"] = text
+        shown += f"{code:3}{line:6}{links:4}{queues:5}\n"
+    out["crates/table_cases/stdout"] = shown
+    out["crates/order_cases/data/orders.txt"] = "".join(o for o, _ in orders)
+    out["crates/order_cases/stdout"] = "".join(p for _, p in orders)
+    return out
+
+
+def main():
+    wrong = [name for name, text in files().items() if not Path(name).is_file() or Path(name).read_bytes() != text.encode()]
+    if "--check" in sys.argv:
+        sys.exit(f"not as tests/cases.py has them: {wrong}" if wrong else 0)
+    for name in wrong:
+        Path(name).write_bytes(files()[name].encode())
 
 
 if __name__ == "__main__":
