@@ -6,7 +6,7 @@ use mathlib.Core.Path.{_≡_, _∙_}
 use native.Mathlib.Omega.{arith}
 use lib.ListN.{length, take, drop}
 use Rattle.model.specs.Columns.{lines}
-use Rattle.model.specs.ColumnsLaws.{prependAll, line-step, line-start, line-ended, line-unended}
+use Rattle.model.specs.Laws.Columns.{prependAll, line-step, line-start, line-ended, line-unended}
 use Rattle.columns.proofs.next_line.Statement.{statement}
 use Rattle.columns.proofs.next_line.Tie as tie
 

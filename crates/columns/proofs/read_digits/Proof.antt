@@ -9,7 +9,7 @@ use native.Mathlib.Numerals.{add-one}
 use lib.ListN.{length, getD, drop, drop-of-length-le}
 use lib.Dec.{lit≤}
 use Rattle.model.specs.Columns.{digits}
-use Rattle.model.specs.ColumnsLaws.{digits-more, digits-low, digits-high}
+use Rattle.model.specs.Laws.Columns.{digits-more, digits-low, digits-high}
 use Rattle.columns.proofs.read_digits.Statement.{statement}
 use Rattle.columns.proofs.read_digits.Tie as tie
 

@@ -8,7 +8,7 @@ use native.Mathlib.Omega.{arith}
 use lib.ListN.{length, getD, take, drop, length-drop, drop-of-length-le}
 use lib.Seq.{take-all}
 use Rattle.model.specs.Columns.{field, number, digits, isDigit}
-use Rattle.model.specs.ColumnsLaws.{field-other, number-zero-led, number-other}
+use Rattle.model.specs.Laws.Columns.{field-other, number-zero-led, number-other}
 use Rattle.columns.proofs.read_field.Statement.{statement}
 use Rattle.columns.proofs.read_field.Tie as tie
 

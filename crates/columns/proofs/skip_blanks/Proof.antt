@@ -7,7 +7,7 @@ use native.Mathlib.Numerals.{add-one}
 use borrow.Author.Needs.{needs}
 use lib.ListN.{length, drop}
 use Rattle.model.specs.Columns.{field}
-use Rattle.model.specs.ColumnsLaws.{field-blank}
+use Rattle.model.specs.Laws.Columns.{field-blank}
 use Rattle.columns.proofs.skip_blanks.Statement.{statement}
 use Rattle.columns.proofs.skip_blanks.Tie as tie
 

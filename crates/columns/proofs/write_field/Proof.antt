@@ -7,7 +7,7 @@ use mathlib.Core.List.{_++_}
 use native.Mathlib.Omega.{arith}
 use lib.ListN.{length, drop, length-set}
 use Rattle.model.specs.Columns.{padded}
-use Rattle.model.specs.ColumnsLaws.{padded-step, padded-done, justified-step}
+use Rattle.model.specs.Laws.Columns.{padded-step, padded-done, justified-step}
 use Rattle.columns.proofs.write_field.Statement.{statement}
 use Rattle.columns.proofs.write_field.Tie as tie
 

@@ -7,7 +7,7 @@ use mathlib.Core.Option.{Option, none, some}
 use lib.ListN.{take}
 use borrow.Author.Tests.{not-true, not-false}
 use Rattle.model.specs.Columns.{between}
-use Rattle.model.specs.ColumnsLaws.{between-true}
+use Rattle.model.specs.Laws.Columns.{between-true}
 use Rattle.model.specs.Orders.{headFields, headInRange, hopsInRange, pathFields, registration, registrationOf, withPath}
 use Rattle.orders.specs.Reading.{fieldsOf, headOf, pathWhen, zipHops}
 use borrow.Author.Needs.{needs}

@@ -8,7 +8,7 @@ use native.Mathlib.Numerals.{add-one}
 use borrow.Author.Tests.{eq-eqb, ne-eqb, le-leb, lt-leb}
 use lib.ListN.{length, drop}
 use Rattle.model.specs.Columns.{Line, lines}
-use Rattle.model.specs.ColumnsLaws.{lines-nothing}
+use Rattle.model.specs.Laws.Columns.{lines-nothing}
 use Rattle.model.specs.QueueTable as model
 use Rattle.queue_table.specs.View.{linksOf, Columns}
 use Rattle.queue_table.proofs.ViewLaws.{links-none, links-reversed}

@@ -4,7 +4,7 @@ use Prim.Native.Nat.{ℕ, _+_, _*_, _^_, _≤_}
 use native.Mathlib.Nat.{mul-le-mul}
 use native.Mathlib.Omega.{arith}
 use Rattle.model.specs.Formula.{ceilDiv, backlogBound}
-use Rattle.model.specs.FormulaLaws.{ceilDiv-le}
+use Rattle.model.specs.Laws.Formula.{ceilDiv-self}
 use Rattle.units.proofs.backlog_bound.Statement.{statement}
 use Rattle.units.proofs.backlog_bound.Tie as tie
 
@@ -21,7 +21,7 @@ ceil-div-requires c κs = (c .pre .1 .0, omega (arith, product c, c .pre .1 .1 .
 
 add-t11 : tie.Need-add-t11
 add-t11 c =
-    omega (arith, product (c .before), c .ceil-div .ensures, ceilDiv-le (c .before .args .rate .0 * c .before .args .y .0) (c .before .pre .1 .0), c .before .pre .1 .1 .1)
+    omega (arith, product (c .before), c .ceil-div .ensures, ceilDiv-self (c .before .args .rate .0 * c .before .args .y .0) (c .before .pre .1 .0), c .before .pre .1 .1 .1)
 
 returns : tie.Need-returns
 unfolding backlogBound

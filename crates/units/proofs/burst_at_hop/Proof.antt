@@ -6,7 +6,7 @@ use native.Mathlib.Omega.{arith}
 use lib.Dec.{lit≤}
 use mathlib.Core.Path.{ap}
 use Rattle.model.specs.Formula.{ceilDiv, burstAtHop}
-use Rattle.model.specs.FormulaLaws.{ceilDiv-le}
+use Rattle.model.specs.Laws.Formula.{ceilDiv-self}
 use Rattle.units.proofs.burst_at_hop.Statement.{statement}
 use Rattle.units.proofs.burst_at_hop.Tie as tie
 
@@ -21,7 +21,7 @@ ceil-div-requires c κs = omega (arith, product c)
 
 add-t9 : tie.Need-add-t9
 add-t9 c =
-    omega (arith, product (c .before), c .ceil-div .ensures, ceilDiv-le (c .before .args .rate .0 * c .before .args .sum .0) {b = 8000} (lit≤ tt), c .before .pre)
+    omega (arith, product (c .before), c .ceil-div .ensures, ceilDiv-self (c .before .args .rate .0 * c .before .args .sum .0) {b = 8000} (lit≤ tt), c .before .pre)
 
 returns : tie.Need-returns
 unfolding burstAtHop

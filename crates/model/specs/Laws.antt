@@ -1,0 +1,20 @@
+-- Laws of the definitions, one file for each subject.
+pub mod Formula
+pub mod Columns
+pub mod Total
+pub mod Test
+pub mod LinkCheck
+pub mod Aggregates
+pub mod All
+pub mod Finding
+pub mod LinkMeets
+pub mod Consistent
+pub mod Slot
+pub mod Order
+pub mod Table
+pub mod Reference
+pub mod Room
+pub mod Reached
+pub mod Schedulable
+pub mod Carries
+pub mod Admissible

@@ -1,0 +1,177 @@
+-- A link with no finding, said plainly: the rate rule, and eq. 15 at each level that carries a flow. It stays so when the aggregates grow smaller.
+-- By induction on the levels, for any number of them. Assumes nothing.
+use Prim.Native.Nat.{ℕ, suc, _+_, _*_, _≤_, _<_}
+use mathlib.Core.Path.{_≡_, refl}
+use mathlib.Core.Bool.{Bool, true, false, cond, true≢false}
+use mathlib.Core.List.{List, [], _∷_}
+use native.Mathlib.Nat.{le-trans}
+use native.Mathlib.Omega.{arith}
+use lib.Dec.{leb, eqb}
+use borrow.Author.Tests.{eqb-true, eqb-false, leb-true, le-leb, ltb-true, lt-ltb, ne-eqb, eq-eqb}
+use Rattle.model.specs.Total.{total}
+use Rattle.model.specs.Laws.Total.{Pairs, none, pair}
+use Rattle.model.specs.Formula.{Aggregate, withinRate, delay, backlog}
+use Rattle.model.specs.Laws.Formula.{AtMost, rate-mono, delay-mono, backlog-mono}
+use Rattle.model.specs.QueueTable.{Queue}
+use Rattle.model.specs.LinkCheck.{Finding, isEmpty, levelCode, orElse, levelsFinding, rateCode, linkFinding}
+
+-- Eq. 15 at a level that carries a flow: its largest frame isn't 0.
+pub record LevelMeets (speed : ℕ) (q : Queue) (above : List Aggregate) (own : Aggregate) (below : List Aggregate) : Type 0 where
+  pub threshold : 1 ≤ own .frame → delay speed above own below ≤ q .threshold
+  pub buffer : 1 ≤ own .frame → backlog speed above own below ≤ q .buffer
+
+-- The same at each level.
+abbrev pub LevelsMeet : (speed : ℕ) (above : List Aggregate) → List Queue → List Aggregate → Type 0
+LevelsMeet speed above [] own = Unit {0}
+LevelsMeet speed above (q ∷ qs) [] = Unit {0}
+LevelsMeet speed above (q ∷ qs) (a ∷ below) = LevelMeets speed q above a below × LevelsMeet speed (a ∷ above) qs below
+
+-- What a level's code says of its three tests: empty, delay, backlog.
+code-tests : (e d b : Bool) → _≡_ {A = ℕ} (cond e 0 (cond d (cond b 0 23) 22)) 0 → e ≡ false → (d ≡ true) × (b ≡ true)
+code-tests true d b z e = absurd (true≢false e)
+code-tests false true true z e = (refl, refl)
+code-tests false true false z e = absurd (omega arith)
+code-tests false false b z e = absurd (omega arith)
+
+tests-code : (e d b : Bool) → (e ≡ false → (d ≡ true) × (b ≡ true)) → _≡_ {A = ℕ} (cond e 0 (cond d (cond b 0 23) 22)) 0
+tests-code true d b h = refl
+tests-code false d b h = rw (h refl .0, h refl .1)
+
+module _ (speed : ℕ) (q : Queue) (above : List Aggregate) (own : Aggregate) (below : List Aggregate) where
+  pub level-meets : levelCode speed q above own below ≡ 0 → LevelMeets speed q above own below
+  unfolding levelCode isEmpty
+  level-meets z = record { threshold = λ h. leb-true _ _ (tests h .0); buffer = λ h. leb-true _ _ (tests h .1) }
+    where
+      tests : 1 ≤ own .frame
+          → (leb (delay speed above own below) (q .threshold) ≡ true) × (leb (backlog speed above own below) (q .buffer) ≡ true)
+      tests h =
+          code-tests
+          (eqb (own .frame) 0)
+          (leb (delay speed above own below) (q .threshold))
+          (leb (backlog speed above own below) (q .buffer))
+          z
+          (ne-eqb (own .frame) 0 (omega arith))
+
+  pub meets-level : LevelMeets speed q above own below → levelCode speed q above own below ≡ 0
+  unfolding levelCode isEmpty
+  meets-level m =
+      tests-code _ _ _ λ (e : eqb (own .frame) 0 ≡ false).
+      let h : 1 ≤ own .frame = omega (arith, eqb-false (own .frame) 0 e) in
+      (le-leb _ _ (m .threshold h), le-leb _ _ (m .buffer h))
+
+orElse-zero : (a b : Finding) → orElse a b .code ≡ 0 → (a .code ≡ 0) × (b .code ≡ 0)
+unfolding orElse
+orElse-zero a b = go (eqb (a .code) 0) refl
+  where
+    go : (t : Bool) → eqb (a .code) 0 ≡ t → cond t b a .code ≡ 0 → (a .code ≡ 0) × (b .code ≡ 0)
+    go true e h = (eqb-true _ _ e, h)
+    go false e h = absurd (eqb-false _ _ e h)
+
+zero-orElse : (a b : Finding) → a .code ≡ 0 → b .code ≡ 0 → orElse a b .code ≡ 0
+unfolding orElse
+zero-orElse a b ha hb = rw (eq-eqb _ _ ha) hb
+
+rate-test : (b : Bool) → _≡_ {A = ℕ} (cond b 0 21) 0 → b ≡ true
+rate-test true z = refl
+rate-test false z = absurd (omega arith)
+
+module _ (speed : ℕ) where
+  pub levels-meet : (n : ℕ) (above : List Aggregate) (qs : List Queue) (own : List Aggregate)
+      → levelsFinding speed n above qs own .code ≡ 0
+      → LevelsMeet speed above qs own
+  unfolding levelsFinding
+  levels-meet n above [] own e = tt
+  levels-meet n above (q ∷ qs) [] e = tt
+  levels-meet n above (q ∷ qs) (a ∷ below) e =
+      (level-meets speed q above a below (orElse-zero _ _ e .0), levels-meet (suc n) (a ∷ above) qs below (orElse-zero _ _ e .1))
+
+  pub meet-levels : (n : ℕ) (above : List Aggregate) (qs : List Queue) (own : List Aggregate)
+      → LevelsMeet speed above qs own
+      → levelsFinding speed n above qs own .code ≡ 0
+  unfolding levelsFinding
+  meet-levels n above [] own m = refl
+  meet-levels n above (q ∷ qs) [] m = refl
+  meet-levels n above (q ∷ qs) (a ∷ below) m =
+      zero-orElse _ _ (meets-level speed q above a below (m .0)) (meet-levels (suc n) (a ∷ above) qs below (m .1))
+
+  -- The rate rule over all levels, and each level.
+  pub link-meets : (qs : List Queue) (levels : List Aggregate) → linkFinding speed qs levels .code ≡ 0
+      → (total (λ a. a .rate) levels < 1000 * speed) × LevelsMeet speed [] qs levels
+  unfolding linkFinding rateCode withinRate
+  link-meets qs levels e =
+      (ltb-true _ _ (rate-test _ (orElse-zero _ _ e .0)), levels-meet 1 [] qs levels (orElse-zero _ _ e .1))
+
+  pub meets-link : (qs : List Queue) (levels : List Aggregate) → total (λ a. a .rate) levels < 1000 * speed → LevelsMeet speed [] qs levels
+      → linkFinding speed qs levels .code ≡ 0
+  unfolding linkFinding rateCode withinRate
+  meets-link qs levels r m = zero-orElse _ _ (rw (lt-ltb _ _ r)) (meet-levels 1 [] qs levels m)
+
+  -- Fewer flows on each level.
+  levels-mono : (qs : List Queue) {above above′ own own′ : List Aggregate} → Pairs AtMost above above′ → Pairs AtMost own own′
+      → total (λ a. a .rate) above′ + total (λ a. a .rate) own′ < 1000 * speed
+      → LevelsMeet speed above′ qs own′
+      → LevelsMeet speed above qs own
+  unfolding total
+  levels-mono [] ups owns left m = tt
+  levels-mono (q ∷ qs) ups none left m = tt
+  levels-mono (q ∷ qs) ups (pair r owns) left m = (
+    record {
+      threshold = λ h. le-trans (delay-mono speed ups r owns (omega arith)) (m .0 .threshold (omega (arith, r .frame)));
+      buffer = λ h. le-trans (backlog-mono speed ups r owns (omega arith)) (m .0 .buffer (omega (arith, r .frame)));
+    },
+    levels-mono qs (pair r ups) owns (omega arith) (m .1),
+  )
+
+  pub link-mono : (qs : List Queue) {levels levels′ : List Aggregate} → Pairs AtMost levels levels′
+      → linkFinding speed qs levels′ .code ≡ 0
+      → linkFinding speed qs levels .code ≡ 0
+  unfolding total
+  link-mono qs {levels} {levels′} p e =
+      let (rate, m) = link-meets qs levels′ e in
+      meets-link qs levels (omega (arith, rate-mono p)) (levels-mono qs none p (omega arith) m)
+
+-- The codes are 0 and 21 to 23.
+orElse-at-most : (a b : Finding) → a .code ≤ 23 → b .code ≤ 23 → orElse a b .code ≤ 23
+unfolding orElse
+orElse-at-most a b ha hb = go (eqb (a .code) 0)
+  where
+    go : (t : Bool) → cond t b a .code ≤ 23
+    go true = hb
+    go false = ha
+
+tests-at-most : (e d b : Bool) → cond e 0 (cond d (cond b 0 23) 22) ≤ 23
+tests-at-most true d b = omega arith
+tests-at-most false true true = omega arith
+tests-at-most false true false = omega arith
+tests-at-most false false b = omega arith
+
+level-at-most : (speed : ℕ) (q : Queue) (above : List Aggregate) (own : Aggregate) (below : List Aggregate)
+    → levelCode speed q above own below ≤ 23
+unfolding levelCode
+level-at-most speed q above own below =
+    tests-at-most (isEmpty own) (leb (delay speed above own below) (q .threshold)) (leb (backlog speed above own below) (q .buffer))
+
+levels-at-most : (speed n : ℕ) (above : List Aggregate) (qs : List Queue) (own : List Aggregate)
+    → levelsFinding speed n above qs own .code ≤ 23
+unfolding levelsFinding
+levels-at-most speed n above [] own = omega arith
+levels-at-most speed n above (q ∷ qs) [] = omega arith
+levels-at-most speed n above (q ∷ qs) (a ∷ below) =
+    orElse-at-most
+    (record { code = levelCode speed q above a below; level = n })
+    (levelsFinding speed (suc n) (a ∷ above) qs below)
+    (level-at-most speed q above a below)
+    (levels-at-most speed (suc n) (a ∷ above) qs below)
+
+rate-at-most : (b : Bool) → cond b 0 21 ≤ 23
+rate-at-most true = omega arith
+rate-at-most false = omega arith
+
+pub code-at-most : (speed : ℕ) (qs : List Queue) (levels : List Aggregate) → linkFinding speed qs levels .code ≤ 23
+unfolding linkFinding rateCode
+code-at-most speed qs levels =
+    orElse-at-most
+    (record { code = rateCode speed levels; level = 0 })
+    (levelsFinding speed 1 [] qs levels)
+    (rate-at-most (withinRate speed (total (λ a. a .rate) levels)))
+    (levels-at-most speed 1 [] qs levels)

@@ -1,0 +1,88 @@
+-- A link that meets 21 to 23 still does with a part of the flows, and with a flow more that doesn't cross it. No finding along a path says that
+-- each of its links meets them. By the monotone bounds of LinkCheckLaws. Assumes nothing.
+use Prim.Native.Nat.{ℕ, _≤_}
+use mathlib.Core.Path.{_≡_, refl}
+use mathlib.Core.Bool.{Bool, true, false, cond}
+use mathlib.Core.List.{List, _∷_}
+use mathlib.Core.Option.{Option, none, some, Option·some-ne-none}
+use native.Mathlib.Omega.{arith}
+use lib.Dec.{eqb}
+use borrow.Author.Tests.{eqb-true, eqb-false, eq-eqb}
+use Rattle.model.specs.Part.{Part}
+use Rattle.model.specs.QueueTable.{Link, Table}
+use Rattle.model.specs.Orders.{Hop, Flow}
+use Rattle.model.specs.LinkCheck.{Finding}
+use Rattle.model.specs.Laws.LinkCheck.{link-mono, code-at-most}
+use Rattle.model.specs.Aggregates.{linkAt}
+use Rattle.model.specs.Laws.Aggregates.{aggregate-part, aggregate-off, level-pairs}
+use Rattle.model.specs.Schedulable.{All, LinkMeets}
+use Rattle.model.specs.Reference.{Cause, crosses, linkCause, causeAt, linkFindings}
+use Rattle.model.specs.Laws.All.{map-all, all-map, all-imp, member-all}
+use Rattle.model.specs.Outcomes.{NoneApplies}
+use Rattle.model.specs.Laws.Finding.{Coded}
+
+module _ (t : Table) where
+  pub meets-part : {part fs : List Flow} → Part part fs → (n : ℕ) → LinkMeets t fs n → LinkMeets t part n
+  meets-part {part} {fs} p n m =
+      record {
+        meets = λ k e.
+            link-mono (k .speed) (k .levels) (level-pairs t part fs n (λ level. aggregate-part t p _) 1 (k .levels)) (m .meets k e);
+      }
+
+  pub meets-off : (f : Flow) (fs : List Flow) (n : ℕ) → crosses n (f .path) ≡ false → LinkMeets t fs n → LinkMeets t (f ∷ fs) n
+  meets-off f fs n off m =
+      record {
+        meets = λ k e.
+            link-mono (k .speed) (k .levels) (level-pairs t (f ∷ fs) fs n (λ p. aggregate-off t f fs n p off) 1 (k .levels)) (m .meets k e);
+      }
+
+-- A link's cause and its finding.
+unless-none : (b : Bool) (c : Cause) → cond b none (some c) ≡ none → b ≡ true
+unless-none true c e = refl
+unless-none false c e = absurd (Option·some-ne-none c e)
+
+unless-coded : (P : ℕ → Type 0) (b : Bool) (c : Cause) → (b ≡ false → P (c .code)) → Coded P (cond b none (some c))
+unless-coded P true c h = tt
+unless-coded P false c h = h refl
+
+cause-code : (n : ℕ) (w : Finding) → linkCause n w ≡ none → w .code ≡ 0
+unfolding linkCause
+cause-code n w z = eqb-true _ _ (unless-none _ _ z)
+
+code-cause : (n : ℕ) (w : Finding) → w .code ≡ 0 → linkCause n w ≡ none
+unfolding linkCause
+code-cause n w z = rw (eq-eqb (w .code) 0 z)
+
+cause-coded : (P : ℕ → Type 0) (n : ℕ) (w : Finding) → (1 ≤ w .code → P (w .code)) → Coded P (linkCause n w)
+unfolding linkCause
+cause-coded P n w h = unless-coded P (eqb (w .code) 0) _ (λ e. h (omega (arith, eqb-false (w .code) 0 e)))
+
+module _ (t : Table) (fs : List Flow) where
+  pub cause-meets : (n : ℕ) → causeAt t fs n (linkAt t n) ≡ none → LinkMeets t fs n
+  unfolding causeAt
+  cause-meets n z = record { meets = λ k e. cause-code n _ (rw e at z) }
+
+  pub meets-cause : (n : ℕ) → LinkMeets t fs n → causeAt t fs n (linkAt t n) ≡ none
+  unfolding causeAt
+  meets-cause n m = go (linkAt t n) refl
+    where
+      go : (o : Option Link) → linkAt t n ≡ o → causeAt t fs n o ≡ none
+      go none e = refl
+      go (some k) e = code-cause n _ (m .meets k e)
+
+  pub findings-meet : (path : List Hop) → NoneApplies (linkFindings t fs path) → All (λ h. LinkMeets t fs (h .link)) path
+  unfolding linkFindings
+  findings-meet path a = all-imp path (λ h. cause-meets (h .link)) (all-map (λ x. x ≡ none) _ path a)
+
+  pub meet-findings : (path : List Hop) → All (λ h. LinkMeets t fs (h .link)) path → NoneApplies (linkFindings t fs path)
+  unfolding linkFindings
+  meet-findings path a = map-all (λ x. x ≡ none) _ path (all-imp path (λ h. meets-cause (h .link)) a)
+
+  -- Its codes are 21 to 23.
+  pub findings-coded : (P : ℕ → Type 0) → ((n : ℕ) → 1 ≤ n → n ≤ 23 → P n) → (path : List Hop) → All (Coded P) (linkFindings t fs path)
+  unfolding linkFindings causeAt
+  findings-coded P h path = map-all (Coded P) _ path (member-all _ path (λ hop m. go (hop .link) (linkAt t (hop .link))))
+    where
+      go : (n : ℕ) (o : Option Link) → Coded P (causeAt t fs n o)
+      go n none = tt
+      go n (some k) = cause-coded P n _ (λ low. h _ low (code-at-most (k .speed) (k .levels) _))

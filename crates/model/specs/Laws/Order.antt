@@ -1,0 +1,90 @@
+-- What is read from a line: a registration's numbers are in their ranges, a release's number is, and anything else is 10 or 11.
+-- Along the reading, test by test. Assumes nothing.
+use Prim.Native.Nat.{ℕ, zero, suc, _+_, _*_}
+use mathlib.Core.Path.{_≡_, refl, ap, sym, _∙_}
+use mathlib.Core.Bool.{Bool, true, false, cond}
+use mathlib.Core.Logic.{_⊎_, inl, inr}
+use mathlib.Core.List.{List, [], _∷_}
+use mathlib.Core.Option.{Option, none, some, Option·none-ne-some, Option·some-injective}
+use lib.ListN.{length, drop}
+use lib.Dec.{eqb}
+use borrow.Author.Tests.{eqb-true}
+use Rattle.model.specs.Columns.{Line, ended, unended, lines, fieldAt, andThen}
+use Rattle.model.specs.Orders.{Hop, Order, register, release, rejected, Head, headFields, hopField, hopFields, pathFields, numberInRange, hopsInRange, headInRange, flowOf, withPath, registration, registrationOf, releaseOf, releaseLine, orderOfKind, readOrder}
+use Rattle.model.specs.Reference.{Call, kindNumber, lineOfKind, onlyLine, callOrder}
+use Rattle.model.specs.Consistent.{headOf, flowInRange}
+use Rattle.model.specs.Laws.Test.{both-and}
+
+-- What a line of this kind can say.
+abbrev pub Readable : (kind : ℕ) → Order → Type 0
+Readable kind (register f) = (kind ≡ 1) × (flowInRange f ≡ true)
+Readable kind (release n) = (kind ≡ 2) × (numberInRange n ≡ true)
+Readable kind (rejected code) = (code ≡ 10) ⊎ (code ≡ 11)
+
+either : (kind : ℕ) (b : Bool) (x y : Order) → (b ≡ true → Readable kind x) → Readable kind y → Readable kind (cond b x y)
+either kind true x y h k = h refl
+either kind false x y h k = k
+
+-- What was read before going on.
+pub and-then : {A B : Type 0} (o : Option A) (f : A → Option B) {b : B} → andThen o f ≡ some b → (a : A) × (o ≡ some a) × (f a ≡ some b)
+and-then none f e = absurd (Option·none-ne-some _ e)
+and-then (some a) f e = (a, refl, e)
+
+hops-counted : (n : ℕ) (bytes : List ℕ) (path : List Hop) → hopFields n bytes ≡ some path → length path ≡ n
+unfolding hopFields
+hops-counted zero bytes path e = ap length (sym (Option·some-injective _ _ e))
+hops-counted (suc n) bytes path e =
+    let (hop, p₁, e₁) = and-then (hopField bytes) _ e in
+    let (hops, p₂, e₂) = and-then (hopFields n (drop 6 bytes)) _ e₁ in
+    ap length (sym (Option·some-injective _ _ e₂)) ∙ ap suc (hops-counted n (drop 6 bytes) hops p₂)
+
+path-counted : (hops : ℕ) (line : List ℕ) (path : List Hop) → pathFields hops line ≡ some path → length path ≡ hops
+unfolding pathFields
+path-counted hops line path = go (eqb (length line) (41 + 6 * hops))
+  where
+    go : (b : Bool) → cond b (hopFields hops (drop 41 line)) none ≡ some path → length path ≡ hops
+    go true e = hops-counted hops (drop 41 line) path e
+    go false e = absurd (Option·none-ne-some _ e)
+
+module _ (kind : ℕ) (line : List ℕ) where
+  with-path : (h : Head) (o : Option (List Hop)) → kind ≡ 1 → hopsInRange (h .hops) ≡ true → pathFields (h .hops) line ≡ o
+      → Readable kind (withPath h o)
+  unfolding withPath flowInRange headOf flowOf headInRange
+  with-path h none one r e = inl refl
+  with-path h (some path) one r e =
+      either kind (headInRange h) _ _ (λ q. (one, both-and q (rw (path-counted (h .hops) line path e) r))) (inr refl)
+
+  registration-readable : (o : Option Head) → kind ≡ 1 → Readable kind (registrationOf line o)
+  unfolding registrationOf
+  registration-readable none one = inl refl
+  registration-readable (some h) one =
+      either kind (hopsInRange (h .hops)) _ _ (λ r. with-path h (pathFields (h .hops) line) one r refl) (inr refl)
+
+  release-readable : (o : Option ℕ) → kind ≡ 2 → Readable kind (releaseOf o)
+  unfolding releaseOf
+  release-readable none two = inl refl
+  release-readable (some n) two = either kind (numberInRange n) _ _ (λ r. (two, r)) (inr refl)
+
+  kind-readable : Readable kind (orderOfKind line (some kind))
+  unfolding orderOfKind registration releaseLine
+  kind-readable =
+      either kind (eqb kind 1) _ _ (λ one. registration-readable (headFields line) (eqb-true _ _ one))
+      (either kind (eqb kind 2) _ _ (λ two. either kind (eqb (length line) 8) _ _ (λ e. release-readable (fieldAt 3 8 line) (eqb-true _ _ two)) (inl refl)) (inr refl))
+
+  own-kind : (o : Option ℕ) → fieldAt 1 2 line ≡ o → Readable kind (lineOfKind kind line o)
+  unfolding lineOfKind readOrder
+  own-kind none e = inl refl
+  own-kind (some n) e =
+      either kind (eqb n kind) _ _ (λ q. rw (e, eqb-true n kind q) kind-readable) (inr refl)
+
+only-line : (kind : ℕ) (l : List Line) → Readable kind (onlyLine kind l)
+unfolding onlyLine
+only-line kind [] = inl refl
+only-line kind (unended ∷ []) = inl refl
+only-line kind (ended line ∷ []) = own-kind kind line (fieldAt 1 2 line) refl
+only-line kind (first ∷ second ∷ more) = inl refl
+
+-- A call gives an order of its own kind.
+pub call-readable : (c : Call) → Readable (kindNumber (c .kind)) (callOrder c)
+unfolding callOrder
+call-readable c = only-line (kindNumber (c .kind)) (lines (c .bytes))

@@ -1,0 +1,118 @@
+-- Every state reached from any table text by any list of calls is consistent. A refusal leaves the state; an admission's causes are the rules for
+-- one flow more; a release leaves a part. Assumes nothing.
+use Prim.Native.Nat.{ℕ, zero, suc}
+use mathlib.Core.Path.{_≡_, refl, _∙_}
+use mathlib.Core.Bool.{true, _&&_}
+use mathlib.Core.List.{List, [], _∷_}
+use mathlib.Core.Option.{Option, none, some}
+use native.Mathlib.Omega.{arith}
+use lib.ListN.{length, replicate, length-set, length-replicate}
+use lib.Dec.{eqb}
+use borrow.Author.Tests.{eqb-true, eq-eqb}
+use Rattle.model.specs.Total.{total}
+use Rattle.model.specs.Orders.{Flow, Order, register, release, rejected}
+use Rattle.model.specs.Reference.{State, Cause, Call, heldFlows, heldHops, withNumber, slotCount, isNone, holds, firstIndex, firstCause, findings, refuse, fill, perform, decide, apply, callOrder, kindNumber, step, opened, final}
+use Rattle.model.specs.Laws.Finding.{none-applies}
+use Rattle.model.specs.Laws.LinkMeets.{findings-meet}
+use Rattle.model.specs.Laws.Slot.{not-all-held, fill-part, clear-part}
+use Rattle.model.specs.Laws.Order.{Readable, call-readable}
+use Rattle.model.specs.Laws.Table.{table-consistent}
+use Rattle.model.specs.Laws.Test.{and-both, both-and}
+use Rattle.model.specs.Consistent.{tableConsistent, flowInRange, consistent}
+use Rattle.model.specs.Laws.Consistent.{FlowRules, FlowsRules, flows-rules, rules-flows, flows-part, flows-more}
+use Rattle.model.specs.Laws.Reference.{RegisterRules, register-rules, number-new, slot-free, hops-free}
+
+-- What a consistent state meets.
+pub record StateRules (s : State) : Type 0 where
+  pub table : tableConsistent (s .table) ≡ true
+  pub size : length (s .slots) ≡ slotCount
+  pub flows : FlowsRules (s .table) (heldFlows (s .slots))
+
+pub state-rules : (s : State) → consistent s ≡ true → StateRules s
+unfolding consistent
+state-rules s e =
+    let (e₁, flows) = and-both (tableConsistent (s .table) && eqb (length (s .slots)) slotCount) _ e in
+    let (table, size) = and-both (tableConsistent (s .table)) (eqb (length (s .slots)) slotCount) e₁ in
+    record { table = table; size = eqb-true _ _ size; flows = flows-rules (s .table) (heldFlows (s .slots)) flows }
+
+pub rules-state : (s : State) → StateRules s → consistent s ≡ true
+unfolding consistent
+rules-state s r =
+    both-and (both-and (r .table) (eq-eqb _ _ (r .size))) (rules-flows (s .table) (heldFlows (s .slots)) (r .flows))
+
+none-held : (n : ℕ) → heldFlows (replicate n none) ≡ []
+unfolding heldFlows
+none-held zero = refl
+none-held (suc n) = none-held n
+
+no-flows : (s : State) → heldFlows (s .slots) ≡ [] → FlowsRules (s .table) (heldFlows (s .slots))
+unfolding heldHops total
+no-flows s e = rw e (record { flows = tt; slots = omega arith; hops = omega arith })
+
+pub opened-rules : (text : List ℕ) → StateRules (opened text)
+unfolding opened
+opened-rules text =
+    record {
+      table = table-consistent text;
+      size = length-replicate slotCount none;
+      flows = no-flows (opened text) (none-held slotCount);
+    }
+
+register-keeps : (s : State) (f : Flow) → flowInRange f ≡ true → RegisterRules s f → StateRules s → StateRules (perform s (register f) .next)
+unfolding perform fill withNumber total
+register-keeps s f range m r =
+    record {
+      table = r .table;
+      size = length-set (s .slots) (firstIndex isNone (s .slots)) (some f) ∙ r .size;
+      flows = flows-part (s .table) (fill-part f (s .slots) (slot-free (s .slots) f (m .room))) more;
+    }
+  where
+    new : FlowRules (s .table) (f ∷ heldFlows (s .slots)) f
+    new =
+        record {
+          range = range;
+          number = rw (eq-eqb (f .number) (f .number) refl) (omega (arith, number-new (heldFlows (s .slots)) f (m .number)));
+          line = m .line;
+          deadline = m .deadline;
+          links = findings-meet (s .table) (f ∷ heldFlows (s .slots)) (f .path) (m .links);
+        }
+
+    more : FlowsRules (s .table) (f ∷ heldFlows (s .slots))
+    more =
+        flows-more
+        (s .table)
+        f
+        (heldFlows (s .slots))
+        (r .flows)
+        (omega (arith, not-all-held (s .slots) (slot-free (s .slots) f (m .room)), r .size))
+        (hops-free (s .slots) f (m .room))
+        (number-new (heldFlows (s .slots)) f (m .number))
+        new
+
+clear-keeps : (s : State) (i : ℕ) → StateRules s → StateRules (fill s i none .next)
+unfolding fill
+clear-keeps s i r =
+    record {
+      table = r .table;
+      size = length-set (s .slots) i none ∙ r .size;
+      flows = flows-part (s .table) (clear-part (s .slots) i) (r .flows);
+    }
+
+pub apply-keeps : (s : State) (o : Order) (kind : ℕ) → Readable kind o → StateRules s → StateRules (apply s o .next)
+unfolding apply decide perform refuse findings
+apply-keeps s o kind p r = go o p (firstCause (findings s o)) refl
+  where
+    go : (o : Order) → Readable kind o → (x : Option Cause) → firstCause (findings s o) ≡ x → StateRules (decide s o x .next)
+    go o p (some c) e = r
+    go (register f) p none e = register-keeps s f (p .1) (register-rules s f (none-applies _ e)) r
+    go (release n) p none e = clear-keeps s (firstIndex (holds n) (s .slots)) r
+    go (rejected code) p none e = r
+
+pub final-keeps : (s : State) (calls : List Call) → StateRules s → StateRules (final s calls)
+unfolding final step
+final-keeps s [] r = r
+final-keeps s (c ∷ calls) r = final-keeps (step s c .next) calls (apply-keeps s (callOrder c) (kindNumber (c .kind)) (call-readable c) r)
+
+-- Any text, any calls.
+pub reached : (text : List ℕ) (calls : List Call) → StateRules (final (opened text) calls)
+reached text calls = final-keeps (opened text) calls (opened-rules text)

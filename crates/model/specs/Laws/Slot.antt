@@ -1,0 +1,104 @@
+-- Slots: the first one that a test finds, and the held flows when a slot is filled or emptied. By induction on the slots. Assumes nothing.
+use Prim.Native.Nat.{ℕ, zero, suc, _+_, _≤_, _<_}
+use mathlib.Core.Path.{_≡_, refl}
+use mathlib.Core.Bool.{Bool, true, false, cond, not, _&&_, true≢false, false≢true}
+use mathlib.Core.List.{List, [], _∷_}
+use mathlib.Core.Option.{none, some}
+use native.Mathlib.Nat.{not-suc-le-zero}
+use native.Mathlib.Omega.{arith}
+use lib.ListN.{length, getD, set}
+use lib.Dec.{eqb}
+use Rattle.model.specs.Total.{total}
+use Rattle.model.specs.Part.{Part, empty, skip, keep, swap, both}
+use Rattle.model.specs.Laws.Total.{part-refl}
+use Rattle.model.specs.Orders.{Flow}
+use Rattle.model.specs.Reference.{Slot, heldFlows, withNumber, isNone, isHeld, every, firstIndex, holds}
+
+module _ {A : Type 0} (test : A → Bool) where
+  -- The test finds one.
+  pub index-below : (l : List A) → every (λ x. not (test x)) l ≡ false → firstIndex test l < length l
+  unfolding every firstIndex
+  index-below [] e = absurd (true≢false e)
+  index-below (x ∷ l) e = go (test x) (index-below l) e
+    where
+      go : (b : Bool) → (every (λ x. not (test x)) l ≡ false → firstIndex test l < length l)
+          → (not b && every (λ x. not (test x)) l) ≡ false
+          → cond b 0 (suc (firstIndex test l)) < suc (length l)
+      go true r e = omega arith
+      go false r e = omega (arith, r e)
+
+module _ {A : Type 0} (test : A → Bool) (d : A) where
+  -- It passes, and those before it don't.
+  pub index-found : (l : List A) → firstIndex test l < length l → test (getD l (firstIndex test l) d) ≡ true
+  unfolding firstIndex
+  index-found [] h = absurd (not-suc-le-zero h)
+  index-found (x ∷ l) h = go (test x) refl (index-found l) h
+    where
+      go : (b : Bool) → test x ≡ b → (firstIndex test l < length l → test (getD l (firstIndex test l) d) ≡ true)
+          → cond b 0 (suc (firstIndex test l)) < suc (length l)
+          → test (getD (x ∷ l) (cond b 0 (suc (firstIndex test l))) d) ≡ true
+      go true e r h = e
+      go false e r h = r (omega arith)
+
+  pub index-first : (l : List A) (j : ℕ) → j < firstIndex test l → test (getD l j d) ≡ false
+  unfolding firstIndex
+  index-first [] j h = absurd (not-suc-le-zero h)
+  index-first (x ∷ l) zero h = go (test x) refl h
+    where
+      go : (b : Bool) → test x ≡ b → 0 < cond b 0 (suc (firstIndex test l)) → test x ≡ false
+      go true e h = absurd (not-suc-le-zero h)
+      go false e h = e
+  index-first (x ∷ l) (suc j) h = go (test x) (index-first l j) h
+    where
+      go : (b : Bool) → (j < firstIndex test l → test (getD l j d) ≡ false) → suc j < cond b 0 (suc (firstIndex test l))
+          → test (getD l j d) ≡ false
+      go true r h = absurd (not-suc-le-zero h)
+      go false r h = r (omega arith)
+
+-- How many flows are held.
+pub held-length : (slots : List Slot) → length (heldFlows slots) ≤ length slots
+unfolding heldFlows
+held-length [] = omega arith
+held-length (none ∷ slots) = omega (arith, held-length slots)
+held-length (some f ∷ slots) = omega (arith, held-length slots)
+
+pub all-held : (slots : List Slot) → every isHeld slots ≡ true → length (heldFlows slots) ≡ length slots
+unfolding heldFlows every isHeld isNone
+all-held [] e = refl
+all-held (none ∷ slots) e = absurd (false≢true e)
+all-held (some f ∷ slots) e = omega (arith, all-held slots e)
+
+pub not-all-held : (slots : List Slot) → every isHeld slots ≡ false → length (heldFlows slots) < length slots
+unfolding heldFlows every isHeld isNone
+not-all-held [] e = absurd (true≢false e)
+not-all-held (none ∷ slots) e = omega (arith, held-length slots)
+not-all-held (some f ∷ slots) e = omega (arith, not-all-held slots e)
+
+-- A held number stands in a slot.
+pub number-found : (n : ℕ) (slots : List Slot) → 1 ≤ withNumber n (heldFlows slots) → every (λ s. not (holds n s)) slots ≡ false
+unfolding heldFlows every holds withNumber total
+number-found n [] h = absurd (not-suc-le-zero h)
+number-found n (none ∷ slots) h = number-found n slots h
+number-found n (some f ∷ slots) h = go (eqb (f .number) n) (number-found n slots) h
+  where
+    go : (b : Bool) → (1 ≤ withNumber n (heldFlows slots) → every (λ s. not (holds n s)) slots ≡ false)
+        → 1 ≤ cond b 1 0 + withNumber n (heldFlows slots)
+        → (not b && every (λ s. not (holds n s)) slots) ≡ false
+    go true r h = refl
+    go false r h = r (omega arith)
+
+-- The lowest free slot filled: one flow more. Any slot emptied: a part.
+pub fill-part : (f : Flow) (slots : List Slot) → every isHeld slots ≡ false
+    → Part (heldFlows (set slots (firstIndex isNone slots) (some f))) (f ∷ heldFlows slots)
+unfolding heldFlows every isHeld isNone firstIndex
+fill-part f [] e = absurd (true≢false e)
+fill-part f (none ∷ slots) e = part-refl (f ∷ heldFlows slots)
+fill-part f (some g ∷ slots) e = both (keep (fill-part f slots e)) swap
+
+pub clear-part : (slots : List Slot) (i : ℕ) → Part (heldFlows (set slots i none)) (heldFlows slots)
+unfolding heldFlows
+clear-part [] i = empty
+clear-part (none ∷ slots) zero = part-refl (heldFlows slots)
+clear-part (some f ∷ slots) zero = skip (part-refl (heldFlows slots))
+clear-part (none ∷ slots) (suc i) = clear-part slots i
+clear-part (some f ∷ slots) (suc i) = keep (clear-part slots i)

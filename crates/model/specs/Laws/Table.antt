@@ -1,0 +1,154 @@
+-- A table that is accepted passes 2 to 4, whatever the text: an invariant of the links read so far, line by line. Assumes nothing.
+use Prim.Native.Nat.{ℕ, suc, _+_, _≤_}
+use mathlib.Core.Path.{_≡_, refl}
+use mathlib.Core.Bool.{Bool, true, false, cond, not, _&&_, _||_}
+use mathlib.Core.List.{List, [], _∷_, _++_, reverse}
+use mathlib.Core.Option.{Option, none, some}
+use native.Mathlib.Omega.{arith}
+use lib.ListN.{length, length-append, length-reverse}
+use lib.Dec.{leb, eqb}
+use borrow.Author.Tests.{eqb-true, leb-true, le-leb}
+use Rattle.model.specs.Columns.{Line, ended, unended, lines, between}
+use Rattle.model.specs.QueueTable.{Link, Row, row, rowInRange, continues, begins, rowInTurn, sameLink, rowAgrees, rowCause, queueOf, newLink, addLevel, addRow, Step, links, fault, rowStep, lineStep, refused, afterStep, readLines, readTable}
+use Rattle.model.specs.Schedulable.{All}
+use Rattle.model.specs.Reference.{every, tableOf}
+use Rattle.model.specs.Consistent.{rowOf, linkConsistent, tableConsistent}
+use Rattle.model.specs.Laws.Test.{and-both, both-and, or-left, or-right, every-all, all-every}
+use Rattle.model.specs.Laws.All.{all-append, all-imp, reverse-all}
+
+-- What a consistent link meets, rule by rule.
+pub record LinkRules (l : Link) : Type 0 where
+  pub ranges : All (λ q. rowInRange (rowOf l q) ≡ true) (l .levels)
+  pub levels : between 1 8 (length (l .levels)) ≡ true
+  pub nodes : not (eqb (l .from) (l .to)) ≡ true
+
+pub link-rules : (l : Link) → linkConsistent l ≡ true → LinkRules l
+unfolding linkConsistent
+link-rules l e =
+    let (e₁, nodes) = and-both (every (λ q. rowInRange (rowOf l q)) (l .levels) && between 1 8 (length (l .levels))) _ e in
+    let (ranges, levels) = and-both (every (λ q. rowInRange (rowOf l q)) (l .levels)) _ e₁ in
+    record { ranges = every-all _ (l .levels) ranges; levels = levels; nodes = nodes }
+
+rules-link : (l : Link) → LinkRules l → linkConsistent l ≡ true
+unfolding linkConsistent
+rules-link l r = both-and (both-and (all-every _ (l .levels) (r .ranges)) (r .levels)) (r .nodes)
+
+-- No cause against a line.
+pub record RowRules (ls : List Link) (r : Row) : Type 0 where
+  pub range : rowInRange r ≡ true
+  pub turn : rowInTurn ls r ≡ true
+  pub agrees : rowAgrees ls r ≡ true
+
+no-cause : (a b c : Bool) → _≡_ {A = ℕ} (cond a (cond b (cond c 0 4) 3) 2) 0 → (a ≡ true) × (b ≡ true) × (c ≡ true)
+no-cause true true true z = (refl, refl, refl)
+no-cause true true false z = absurd (omega arith)
+no-cause true false c z = absurd (omega arith)
+no-cause false b c z = absurd (omega arith)
+
+row-rules : (ls : List Link) (r : Row) → rowCause ls r ≡ 0 → RowRules ls r
+unfolding rowCause
+row-rules ls r z =
+    let (a, b, c) = no-cause (rowInRange r) (rowInTurn ls r) (rowAgrees ls r) z in
+    record { range = a; turn = b; agrees = c }
+
+-- The links read so far.
+pub record LinksRules (ls : List Link) : Type 0 where
+  pub each : All LinkRules ls
+  pub count : length ls ≤ 64
+
+new-link : (ls : List Link) (r : Row) → RowRules ls r → LinkRules (newLink r)
+unfolding newLink rowOf queueOf rowInRange rowAgrees between
+new-link ls r m = record { ranges = (m .range, tt); levels = refl; nodes = and-both (not (eqb (r .from) (r .to))) _ (m .agrees) .0 }
+
+-- A level more of the newest link.
+one-more : (l : Link) (r : Row) → LinkRules l → rowInRange r ≡ true → eqb (r .level) (suc (length (l .levels))) ≡ true → r .level ≤ 8
+    → (r .from ≡ l .from)
+    → (r .to ≡ l .to)
+    → (r .speed ≡ l .speed)
+    → LinkRules (addLevel l (queueOf r))
+unfolding addLevel rowOf queueOf rowInRange between
+one-more l r m range level high from to speed =
+    let more : length (l .levels ++ (queueOf r ∷ [])) ≡ length (l .levels) + 1 = length-append (l .levels) (queueOf r ∷ []) in
+    let last : r .level ≡ suc (length (l .levels)) = eqb-true _ _ level in
+    record {
+      ranges = all-append _ (l .levels) (queueOf r ∷ []) (m .ranges) (rw (← from, ← to, ← speed) range, tt);
+      levels =
+          both-and
+          (le-leb 1 (length (l .levels ++ (queueOf r ∷ []))) (omega arith))
+          (le-leb (length (l .levels ++ (queueOf r ∷ []))) 8 (omega arith));
+      nodes = m .nodes;
+    }
+
+add-row : (ls : List Link) (r : Row) → LinksRules ls → RowRules ls r → LinksRules (addRow ls r)
+unfolding addRow rowInTurn begins continues rowAgrees sameLink
+add-row [] r m n = record { each = (new-link [] r n, tt); count = omega arith }
+add-row (l ∷ ls) r m n = go (begins (l ∷ ls) r) refl
+  where
+    turn : ((continues (l ∷ ls) r || begins (l ∷ ls) r) ≡ true) × (r .link ≤ 64) × (r .level ≤ 8)
+    turn =
+        let (e, level) = and-both ((continues (l ∷ ls) r || begins (l ∷ ls) r) && leb (r .link) 64) _ (n .turn) in
+        let (e′, link) = and-both (continues (l ∷ ls) r || begins (l ∷ ls) r) _ e in
+        (e′, leb-true _ _ link, leb-true _ _ level)
+
+    begun : begins (l ∷ ls) r ≡ true → r .link ≡ suc (length (l ∷ ls))
+    begun e = eqb-true _ _ (and-both (eqb (r .link) (suc (length (l ∷ ls)))) _ e .0)
+
+    goes-on : begins (l ∷ ls) r ≡ false → eqb (r .level) (suc (length (l .levels))) ≡ true
+    goes-on e = and-both (eqb (r .link) (length (l ∷ ls))) _ (or-left _ _ (turn .0) e) .1
+
+    same : begins (l ∷ ls) r ≡ false → (r .from ≡ l .from) × (r .to ≡ l .to) × (r .speed ≡ l .speed)
+    same e =
+        let agrees = and-both (not (eqb (r .from) (r .to))) _ (n .agrees) .1 in
+        let (two, speed) = and-both (eqb (r .from) (l .from) && eqb (r .to) (l .to)) _ (or-right _ _ agrees e) in
+        let (from, to) = and-both (eqb (r .from) (l .from)) _ two in
+        (eqb-true _ _ from, eqb-true _ _ to, eqb-true _ _ speed)
+
+    go : (b : Bool) → begins (l ∷ ls) r ≡ b → LinksRules (cond b (newLink r ∷ l ∷ ls) (addLevel l (queueOf r) ∷ ls))
+    go true e = record { each = (new-link (l ∷ ls) r n, m .each); count = omega (arith, begun e, turn .1) }
+    go false e =
+        record {
+          each = (one-more l r (m .each .0) (n .range) (goes-on e) (turn .2) (same e .0) (same e .1) (same e .2), m .each .1);
+          count = m .count;
+        }
+
+-- What a reading step leaves behind.
+abbrev Sound : Step → Type 0
+Sound (links ls) = LinksRules ls
+Sound (fault code) = Unit {0}
+
+row-sound : (ls : List Link) (o : Option Row) → LinksRules ls → Sound (rowStep ls o)
+unfolding rowStep
+row-sound ls none m = tt
+row-sound ls (some r) m = go (eqb (rowCause ls r) 0) refl
+  where
+    go : (b : Bool) → eqb (rowCause ls r) 0 ≡ b → Sound (cond b (links (addRow ls r)) (fault (rowCause ls r)))
+    go true e = add-row ls r m (row-rules ls r (eqb-true _ _ e))
+    go false e = tt
+
+line-sound : (ls : List Link) (l : Line) → LinksRules ls → Sound (lineStep ls l)
+unfolding lineStep
+line-sound ls unended m = tt
+line-sound ls (ended line) m = row-sound ls (row line) m
+
+lines-consistent : (n : ℕ) (ls : List Link) (more : List Line) → LinksRules ls → tableConsistent (tableOf (readLines n ls more)) ≡ true
+unfolding readLines tableOf tableConsistent every
+lines-consistent n ls [] m =
+    both-and
+    (all-every linkConsistent (reverse ls) (all-imp (reverse ls) rules-link (reverse-all LinkRules ls (m .each))))
+    (le-leb (length (reverse ls)) 64 (rw (length-reverse ls) (m .count)))
+lines-consistent n ls (l ∷ more) m = go (lineStep ls l) (line-sound ls l m) (λ ls′. lines-consistent (suc n) ls′ more)
+  where
+    go : (step : Step) → Sound step → ((ls′ : List Link) → LinksRules ls′ → tableConsistent (tableOf (readLines (suc n) ls′ more)) ≡ true)
+        → tableConsistent (tableOf (afterStep step (λ ls′. readLines (suc n) ls′ more) (λ code. refused code n)))
+        ≡ true
+    go (links ls′) s r = r ls′ s
+    go (fault code) s r = refl
+
+-- Of any text: the table it says, and none if it was refused.
+pub table-consistent : (text : List ℕ) → tableConsistent (tableOf (readTable text)) ≡ true
+unfolding readTable tableOf tableConsistent every
+table-consistent text = go (leb (length text) 18944)
+  where
+    go : (b : Bool) → tableConsistent (tableOf (cond b (readLines 1 [] (lines text)) (refused 5 0))) ≡ true
+    go true = lines-consistent 1 [] (lines text) (record { each = tt; count = omega arith })
+    go false = refl

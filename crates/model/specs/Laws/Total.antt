@@ -1,0 +1,92 @@
+-- Laws of sums and largest values over any element type and measure: of two lists joined, of a part, of lists compared element by element.
+-- Each is an induction on the list or on how the part was taken. Assumes nothing.
+use Prim.Native.Nat.{ℕ, _+_, _≤_, max, zero-le}
+use mathlib.Core.Path.{_≡_, refl, sym}
+use mathlib.Core.List.{List, [], _∷_, _++_, reverse, reverseAux}
+use native.Mathlib.Nat.{le-trans, zero-add}
+use lib.ListN.{length}
+use native.Mathlib.Omega.{arith}
+use Rattle.model.specs.Total.{total, largest}
+use Rattle.model.specs.Part.{Part, empty, skip, keep, swap, both}
+use Rattle.model.specs.Schedulable.{All}
+
+-- Two lists compared element by element.
+pub data Pairs {A : Type 0} (R : A → A → Type 0) : List A → List A → Type 0 where
+  none : Pairs R [] []
+  pair : {x y : A} {l m : List A} → R x y → Pairs R l m → Pairs R (x ∷ l) (y ∷ m)
+
+module _ {A : Type 0} where
+  pub part-refl : (l : List A) → Part l l
+  part-refl [] = empty
+  part-refl (x ∷ l) = keep (part-refl l)
+
+  pub length-part : {l m : List A} → Part l m → length l ≤ length m
+  length-part empty = zero-le
+  length-part (skip p) = omega (arith, length-part p)
+  length-part (keep p) = omega (arith, length-part p)
+  length-part swap = omega arith
+  length-part (both p q) = le-trans (length-part p) (length-part q)
+
+  pub all-part : (P : A → Type 0) {l m : List A} → Part l m → All P m → All P l
+  all-part P empty a = tt
+  all-part P (skip p) a = all-part P p (a .1)
+  all-part P (keep p) a = (a .0, all-part P p (a .1))
+  all-part P swap a = (a .1 .0, (a .0, a .1 .1))
+  all-part P (both p q) a = all-part P p (all-part P q a)
+
+  pub total-append : (f : A → ℕ) (l m : List A) → total f (l ++ m) ≡ total f l + total f m
+  unfolding total
+  total-append f [] m = sym (zero-add (total f m))
+  total-append f (x ∷ l) m = omega (arith, total-append f l m)
+
+  total-reverseAux : (f : A → ℕ) (l m : List A) → total f (reverseAux l m) ≡ total f l + total f m
+  unfolding total
+  total-reverseAux f [] m = sym (zero-add (total f m))
+  total-reverseAux f (x ∷ l) m = omega (arith, total-reverseAux f l (x ∷ m))
+
+  pub total-reverse : (f : A → ℕ) (l : List A) → total f (reverse l) ≡ total f l
+  unfolding total
+  total-reverse f l = omega (arith, total-reverseAux f l [])
+
+  pub largest-append : (f : A → ℕ) (l m : List A) → largest f (l ++ m) ≡ max (largest f l) (largest f m)
+  unfolding largest
+  largest-append f [] m = omega arith
+  largest-append f (x ∷ l) m = omega (arith, largest-append f l m)
+
+  pub total-part : (f : A → ℕ) {l m : List A} → Part l m → total f l ≤ total f m
+  unfolding total
+  total-part f empty = zero-le
+  total-part f (skip p) = omega (arith, total-part f p)
+  total-part f (keep p) = omega (arith, total-part f p)
+  total-part f swap = omega arith
+  total-part f (both p q) = le-trans (total-part f p) (total-part f q)
+
+  pub largest-part : (f : A → ℕ) {l m : List A} → Part l m → largest f l ≤ largest f m
+  unfolding largest
+  largest-part f empty = zero-le
+  largest-part f (skip p) = omega (arith, largest-part f p)
+  largest-part f (keep p) = omega (arith, largest-part f p)
+  largest-part f swap = omega arith
+  largest-part f (both p q) = le-trans (largest-part f p) (largest-part f q)
+
+  -- Where each measure is 0.
+  pub total-zero : (f : A → ℕ) (l : List A) → All (λ x. f x ≡ 0) l → total f l ≡ 0
+  unfolding total
+  total-zero f [] z = refl
+  total-zero f (x ∷ l) z = omega (arith, z .0, total-zero f l (z .1))
+
+  pub largest-zero : (f : A → ℕ) (l : List A) → All (λ x. f x ≡ 0) l → largest f l ≡ 0
+  unfolding largest
+  largest-zero f [] z = refl
+  largest-zero f (x ∷ l) z = omega (arith, z .0, largest-zero f l (z .1))
+
+  module _ (R : A → A → Type 0) (f : A → ℕ) (mono : (x y : A) → R x y → f x ≤ f y) where
+    pub total-mono : {l m : List A} → Pairs R l m → total f l ≤ total f m
+    unfolding total
+    total-mono none = zero-le
+    total-mono (pair {x = x} {y = y} r p) = omega (arith, mono x y r, total-mono p)
+
+    pub largest-mono : {l m : List A} → Pairs R l m → largest f l ≤ largest f m
+    unfolding largest
+    largest-mono none = zero-le
+    largest-mono (pair {x = x} {y = y} r p) = omega (arith, mono x y r, largest-mono p)

@@ -1,0 +1,204 @@
+-- Document 01, "The run that the mission's third line speaks of": frames, links, a bit slot, an interval, an instant, runs and conforming sources.
+-- Instants are whole µs. A flow is named by its index in the list of flows, a hop by its index in the path, both from 0.
+pub mod Sums
+pub mod OneLink
+pub mod EachFrame
+pub mod Workload
+pub mod LevelArrivals
+pub mod BusyPeriod
+pub mod InQueue
+pub mod ArrivalCurve
+pub mod BoundSums
+pub mod LevelBounds
+pub mod Jitter
+pub mod Conservation
+pub mod HopCurve
+pub mod QueueCurve
+pub mod Checked
+pub mod Carried
+pub mod NotLate
+pub mod Exists
+use Prim.Native.Nat.{ℕ, zero, suc, _+_, _-_, _*_, _≤_}
+use mathlib.Core.Path.{_≡_}
+use mathlib.Core.Bool.{Bool, false, cond}
+use mathlib.Core.List.{List, [], _∷_, _++_, map, List·Permᴰ}
+use mathlib.Core.Option.{Option, none, some}
+use lib.ListN.{getElem?}
+use lib.Dec.{eqb}
+use Rattle.model.specs.Total.{total}
+use Rattle.model.specs.Columns.{andThen}
+use Rattle.model.specs.QueueTable.{Queue, Link, Table}
+use Rattle.model.specs.Orders.{Hop, Flow}
+use Rattle.model.specs.Aggregates.{nth, linkAt, sameHop}
+use Rattle.model.specs.Schedulable.{All}
+
+-- A frame: its flow, the hop it is at, its bytes, the instant it reached this queue, and the instant its source sent it (which nothing here reads).
+pub record Frame : Type 0 where
+  pub flow : ℕ
+  pub hop : ℕ
+  pub length : ℕ
+  pub since : ℕ
+  pub born : ℕ
+
+-- What is under way on a link: nothing, or a frame of a level, with the number of bits that follow its next one.
+pub data Wire : Type 0 where
+  idle : Wire
+  sending : (level : ℕ) → Frame → (more : ℕ) → Wire
+
+-- A link in the run: what is under way, the frames that wait at each level, level 1 first, and those that have left since the last instant.
+pub record LinkState : Type 0 where
+  pub wire : Wire
+  pub levels : List (List Frame)
+  pub left : List Frame
+
+-- A frame that is taken, its level, and the levels without it.
+pub record Pick : Type 0 where
+  pub level : ℕ
+  pub frame : Frame
+  pub rest : List (List Frame)
+
+-- The same frame, with an empty level before the others.
+unfoldable pub pastEmpty : Option Pick → Option Pick
+pastEmpty none = none
+pastEmpty (some p) = some (record { level = p .level; frame = p .frame; rest = [] ∷ p .rest })
+
+-- The first frame of the lowest-numbered level that has one; the levels are those from number `n` on.
+unfoldable pub pick : (n : ℕ) → List (List Frame) → Option Pick
+pick n [] = none
+pick n ([] ∷ qs) = pastEmpty (pick (suc n) qs)
+pick n ((f ∷ q) ∷ qs) = some (record { level = n; frame = f; rest = q ∷ qs })
+
+-- The bits of a frame: bytes on the wire have 8.
+unfoldable pub bits : Frame → ℕ
+bits f = 8 * f .length
+
+-- The frame that was picked is under way; none of its bits is sent yet.
+unfoldable pub start : Option Pick → LinkState → LinkState
+start none l = l
+start (some p) l =
+    record { wire = sending (p .level) (p .frame) (bits (p .frame) - 1); levels = p .rest; left = l .left }
+
+-- A free link takes a frame, if one waits.
+unfoldable pub take : LinkState → LinkState
+take l = elim (l .wire) [ idle ↦ start (pick 1 (l .levels)) l | sending n f more ↦ l ]
+
+-- One bit of what is under way is sent. With its last bit the frame has left, and the link is free.
+unfoldable pub send : LinkState → LinkState
+send l =
+    elim (l .wire) [
+      | idle ↦ l
+      | sending n f zero ↦ record { wire = idle; levels = l .levels; left = l .left ++ (f ∷ []) }
+      | sending n f (suc more) ↦ record { wire = sending n f more; levels = l .levels; left = l .left }
+    ]
+
+-- The time of one bit: a free link takes a frame, then one bit is sent.
+unfoldable pub slot : LinkState → LinkState
+slot l = send (take l)
+
+-- So many bit slots. From one instant to the next a link has as many as its speed, in bits per µs.
+unfoldable pub interval : ℕ → LinkState → LinkState
+interval zero l = l
+interval (suc n) l = slot (interval n l)
+
+-- The queue that a frame is on its way to or stands in: none once its path has ended.
+unfoldable pub hopOf : List Flow → Frame → Option Hop
+hopOf fs f = andThen (getElem? fs (f .flow)) λ fl. getElem? (fl .path) (f .hop)
+
+-- A frame that has left a queue reaches the next hop of its path at instant `x`.
+unfoldable pub next : (x : ℕ) → Frame → Frame
+next x f = record { flow = f .flow; hop = suc (f .hop); length = f .length; since = x; born = f .born }
+
+-- The frames that have left the links, which are those from number `n` on.
+unfoldable pub departed : (ℕ → LinkState) → (n : ℕ) → Table → List Frame
+departed links n [] = []
+departed links n (k ∷ t) = links n .left ++ departed links (suc n) t
+
+-- What moves at instant `x`: the frames that have left a link, then those that the sources add.
+unfoldable pub moving : Table → (ℕ → LinkState) → (x : ℕ) → List Frame → List Frame
+moving t links x sent = map (next x) (departed links 1 t) ++ sent
+
+-- Whether a frame's queue is `q`.
+abbrev pub isAt : Hop → Option Hop → Bool
+isAt q none = false
+isAt q (some h) = sameHop q h
+
+-- Those of the frames that reach queue `q`.
+unfoldable pub reaching : List Flow → (q : Hop) → List Frame → List Frame
+reaching fs q [] = []
+reaching fs q (f ∷ l) = cond (isAt q (hopOf fs f)) (f ∷ reaching fs q l) (reaching fs q l)
+
+-- Each level, from number `n` on, gets its new frames behind those that wait.
+unfoldable pub append : (ℕ → List Frame) → (n : ℕ) → List (List Frame) → List (List Frame)
+append new n [] = []
+append new n (q ∷ qs) = (q ++ new n) ∷ append new (suc n) qs
+
+-- The arrivals of an instant at a link: each level gets its own, and what has left goes on.
+unfoldable pub enter : (ℕ → List Frame) → LinkState → LinkState
+enter new l = record { wire = l .wire; levels = append new 1 (l .levels); left = [] }
+
+-- No frame at any level; a link has as many levels as the table gives it.
+unfoldable pub emptyLevels : List Queue → List (List Frame)
+emptyLevels [] = []
+emptyLevels (q ∷ qs) = [] ∷ emptyLevels qs
+
+-- A link without a frame. A number that is no link's stands for one without levels, of speed 0.
+unfoldable pub emptyLink : Option Link → LinkState
+emptyLink none = record { wire = idle; levels = []; left = [] }
+emptyLink (some k) = record { wire = idle; levels = emptyLevels (k .levels); left = [] }
+
+-- A link's speed, in bits per µs.
+unfoldable pub speedOf : Option Link → ℕ
+speedOf none = 0
+speedOf (some k) = k .speed
+
+-- What a source may add at instant `x`: a frame of a flow, at its first hop, of 84 bytes up to the flow's largest.
+pub record Sends (fs : List Flow) (x : ℕ) (f : Frame) : Type 0 where
+  pub flow : Flow
+  pub known : getElem? fs (f .flow) ≡ some flow
+  pub first : f .hop ≡ 0
+  pub least : 84 ≤ f .length
+  pub most : f .length ≤ flow .frame
+  pub since : f .since ≡ x
+  pub born : f .born ≡ x
+
+-- A run. It has no end: each link, by its number, before and after the arrivals of each instant.
+pub record Run (t : Table) (fs : List Flow) : Type 0 where
+  -- What the sources add at an instant.
+  pub sent : ℕ → List Frame
+  pub sends : (x : ℕ) → All (Sends fs x) (sent x)
+  pub before : (x link : ℕ) → LinkState
+  pub after : (x link : ℕ) → LinkState
+  -- What reaches a queue at an instant, in the order in which it is appended: any order.
+  pub arrivals : (x link level : ℕ) → List Frame
+  pub anyOrder : (x : ℕ) (q : Hop) → List·Permᴰ (arrivals x (q .link) (q .level)) (reaching fs q (moving t (before x) x (sent x)))
+  pub starts : (n : ℕ) → before 0 n ≡ emptyLink (linkAt t n)
+  pub enters : (x n : ℕ) → after x n ≡ enter (arrivals x n) (before x n)
+  pub serves : (x n : ℕ) → before (suc x) n ≡ interval (speedOf (linkAt t n)) (after x n)
+
+-- The sum of a function over `count` instants from `first` on.
+unfoldable pub window : (ℕ → ℕ) → (first count : ℕ) → ℕ
+window f first zero = 0
+window f first (suc n) = window f first n + f (first + n)
+
+-- The bytes of one flow.
+unfoldable pub bytesOf : (flow : ℕ) → List Frame → ℕ
+bytesOf j = total λ f. cond (eqb (f .flow) j) (f .length) 0
+
+-- The source of each flow conforms: over instants s to s + t inclusive, 8000 × bytes is at most 8000 × b + r × t.
+pub record Conforming (fs : List Flow) (sent : ℕ → List Frame) : Type 0 where
+  pub bound : (j : ℕ) (f : Flow) → getElem? fs j ≡ some f →
+      (s t : ℕ) → 8000 * window (λ x. bytesOf j (sent x)) s (suc t) ≤ 8000 * f .burst + f .rate * t
+
+-- The frame under way, if it is of level `n`.
+unfoldable pub onWire : (n : ℕ) → Wire → List Frame
+onWire n idle = []
+onWire n (sending level f more) = cond (eqb n level) (f ∷ []) []
+
+-- What waits at a level; nothing where there is no such level.
+abbrev pub orEmpty : Option (List Frame) → List Frame
+orEmpty none = []
+orEmpty (some q) = q
+
+-- The frames in the queue of level `n`, waiting or under way: a frame under way counts whole in its queue.
+unfoldable pub inQueue : (n : ℕ) → LinkState → List Frame
+inQueue n l = onWire n (l .wire) ++ orEmpty (nth (l .levels) n)
