@@ -1,3 +1,4 @@
 pub mod ViewLaws
 pub mod StoreLaws
 pub mod TurnLaws
+pub mod LookupLaws

@@ -1,14 +1,15 @@
 -- What the columns and answers of this crate say in the terms of the model.
-use Prim.Native.Nat.{ℕ, zero, suc, _+_, _-_, _*_, _≤_, _<_}
+use Prim.Native.Nat.{ℕ, zero, suc, _+_, _-_, _*_, _/_, _%_, _≤_, _<_}
 use mathlib.Core.Path.{_≡_}
-use mathlib.Core.Bool.{cond}
+use mathlib.Core.Bool.{Bool, cond, _&&_}
 use mathlib.Core.List.{List, [], _∷_, _++_}
 use mathlib.Core.Option.{Option, none, some}
 use lib.ListN.{length, getD, drop}
 use lib.Seq.{sets}
-use lib.Dec.{eqb}
+use lib.Dec.{ltb, eqb}
 use Rattle.model.specs.Columns.{ended, lines}
 use Rattle.model.specs.QueueTable as model
+use Rattle.model.specs.Orders.{Hop}
 use Rattle.queue_table.specs.declared.Row.{Row}
 use Rattle.queue_table.specs.declared.RowRead.{RowRead}
 use Rattle.queue_table.specs.declared.RowRead.the-variants.{Numbers, Malformed}
@@ -70,6 +71,14 @@ linksOf n links queues = downFrom n (linkAt links queues)
 -- The first n links, link 1 first.
 unfoldable pub tableOf : (n : ℕ) (links queues : List ℕ) → model.Table
 tableOf n links queues = upTo n (linkAt links queues)
+
+-- A hop entry names a queue by one number: eight to a link, link and level counted from 0.
+unfoldable pub hopAt : (entry : ℕ) → Hop
+hopAt entry = record { link = entry / 8 + 1; level = entry % 8 + 1 }
+
+-- A queue of the first n links, by its entry.
+unfoldable pub isQueue : (n : ℕ) (links : List ℕ) (entry : ℕ) → Bool
+isQueue n links entry = ltb (entry / 8) n && ltb (entry % 8) (levelsAt links (entry / 8))
 
 -- Two columns of the right size that hold n links of at most 8 levels.
 pub record Columns (n : ℕ) (links queues : List ℕ) : Type 0 where
