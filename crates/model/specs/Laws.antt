@@ -4,6 +4,7 @@ pub mod Columns
 pub mod Total
 pub mod Test
 pub mod LinkCheck
+pub mod LinkSteps
 pub mod Aggregates
 pub mod All
 pub mod Finding

@@ -4,6 +4,7 @@ pub mod Columns
 pub mod QueueTable
 pub mod Orders
 pub mod LinkCheck
+pub mod WithFlow
 pub mod HandSums
 pub mod Aggregates
 pub mod Schedulable

@@ -1,10 +1,11 @@
 -- Laws of sums and largest values over any element type and measure: of two lists joined, of a part, of lists compared element by element.
 -- Each is an induction on the list or on how the part was taken. Assumes nothing.
-use Prim.Native.Nat.{ℕ, _+_, _≤_, max, zero-le}
-use mathlib.Core.Path.{_≡_, refl, sym}
+use Prim.Native.Nat.{ℕ, zero, suc, _+_, _≤_, max, zero-le}
+use mathlib.Core.Path.{_≡_, refl, sym, ap}
 use mathlib.Core.List.{List, [], _∷_, _++_, reverse, reverseAux}
 use native.Mathlib.Nat.{le-trans, zero-add}
-use lib.ListN.{length}
+use lib.ListN.{length, drop}
+use lib.Seq.{drop-nil}
 use native.Mathlib.Omega.{arith}
 use Rattle.model.specs.Total.{total, largest}
 use Rattle.model.specs.Part.{Part, empty, skip, keep, swap, both}
@@ -39,6 +40,10 @@ module _ {A : Type 0} where
   total-append f [] m = sym (zero-add (total f m))
   total-append f (x ∷ l) m = omega (arith, total-append f l m)
 
+  pub total-next : (f : A → ℕ) {l : List A} {x : A} {rest : List A} → l ≡ x ∷ rest → total f l ≡ f x + total f rest
+  unfolding total
+  total-next f e = ap (total f) e
+
   total-reverseAux : (f : A → ℕ) (l m : List A) → total f (reverseAux l m) ≡ total f l + total f m
   unfolding total
   total-reverseAux f [] m = sym (zero-add (total f m))
@@ -52,6 +57,16 @@ module _ {A : Type 0} where
   unfolding largest
   largest-append f [] m = omega arith
   largest-append f (x ∷ l) m = omega (arith, largest-append f l m)
+
+  pub largest-next : (f : A → ℕ) {l : List A} {x : A} {rest : List A} → l ≡ x ∷ rest → largest f l ≡ max (f x) (largest f rest)
+  unfolding largest
+  largest-next f e = ap (largest f) e
+
+  pub largest-drop : (f : A → ℕ) (i : ℕ) (l : List A) → largest f (drop i l) ≤ largest f l
+  unfolding largest
+  largest-drop f i [] = rw (drop-nil i) (omega arith)
+  largest-drop f zero (x ∷ l) = omega arith
+  largest-drop f (suc i) (x ∷ l) = omega (arith, largest-drop f i l)
 
   pub total-part : (f : A → ℕ) {l m : List A} → Part l m → total f l ≤ total f m
   unfolding total

@@ -1,0 +1,13 @@
+-- `link_check::Aggregate::with_flow` meets its contract: the code is the definition.
+-- Assumes nothing.
+use borrow.Author.Needs.{needs}
+use Rattle.model.specs.WithFlow.{withFlow}
+use Rattle.link_check.proofs.Aggregate.with_flow.Statement.{statement}
+use Rattle.link_check.proofs.Aggregate.with_flow.Tie as tie
+
+returns : tie.Need-returns
+unfolding withFlow
+returns c = rw (c .larger .ensures)
+
+pub with-flow-spec : {M : Type 1} → statement M
+with-flow-spec = tie.close (tie.spec (λ c. search needs) (λ c. search needs) (λ c κs. search needs) returns)

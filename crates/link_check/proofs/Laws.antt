@@ -1,0 +1,62 @@
+-- The lists that the arrays stand for, one element at a time: what is left at `i` is the element there and what is left at `i + 1`.
+-- Assumes nothing.
+use Prim.Native.Nat.{ℕ, zero, suc, _+_, _-_, max, _≤_, _<_}
+use mathlib.Core.Path.{_≡_, refl, sym, ap, ap₂, _∙_}
+use mathlib.Core.List.{List, [], _∷_, map}
+use native.Mathlib.Omega.{arith}
+use native.Mathlib.Numerals.{add-one}
+use lib.ListN.{length, getD, set, drop, length-map, List·getD-map, drop-of-length-le}
+use lib.Seq.{drop-cons, drop-set-lt, getD-set-same, lt-length-set}
+use Rattle.units.specs.declared.Bytes.{Bytes}
+use Rattle.units.specs.declared.Micros.{Micros}
+use Rattle.model.specs.Total.{largest}
+use Rattle.model.specs.Laws.Total.{largest-next}
+use Rattle.model.specs.Laws.LinkSteps.{framesBelow}
+use Rattle.link_check.specs.declared.Aggregate.{Aggregate}
+use Rattle.link_check.specs.Levels.{aggregateOf, aggregatesOf, bytesOf, queuesOf}
+
+module _ {A : Type 0} {B : Type 0} (f : A → B) where
+  pub length-mapped : (l : List A) {n : ℕ} → length (map f l) ≡ n → length l ≡ n
+  length-mapped l e = sym (length-map l f) ∙ e
+
+  pub mapped-next : (l : List A) (i : ℕ) (d : A) → i < length l → drop i (map f l) ≡ f (getD l i d) ∷ drop (i + 1) (map f l)
+  mapped-next l i d h = rw add-one (rw (← List·getD-map f l i d) (drop-cons (map f l) i (f d) (simp length-map h)))
+
+  pub mapped-end : (l : List A) (i : ℕ) → length l ≤ i → drop i (map f l) ≡ []
+  mapped-end l i h = drop-of-length-le (map f l) {i = i} (simp length-map h)
+
+-- What is read past the end of the levels.
+abbrev pub blank : Aggregate
+blank = record { rate = record { 0 = 0 }; burst = record { 0 = 0 }; frame = record { 0 = 0 } }
+
+pub level-next : (l : List Aggregate) (i : ℕ) → i < length l → drop i (aggregatesOf l) ≡ aggregateOf (getD l i blank) ∷ drop (i + 1) (aggregatesOf l)
+level-next l i h = mapped-next aggregateOf l i blank h
+
+pub queue-next : (ts : List Micros) (bs : List Bytes) (i : ℕ) → i < length ts → i < length bs
+    → drop i (queuesOf ts bs)
+    ≡ record { threshold = getD ts i (record { 0 = 0 }) .0; buffer = getD bs i (record { 0 = 0 }) .0 } ∷ drop (i + 1) (queuesOf ts bs)
+unfolding queuesOf
+queue-next [] bs i h h′ = absurd (omega arith)
+queue-next (t ∷ ts) [] i h h′ = absurd (omega arith)
+queue-next (t ∷ ts) (b ∷ bs) zero h h′ = refl
+queue-next (t ∷ ts) (b ∷ bs) (suc i) h h′ = rw (add-one (suc i)) (rw (add-one i) at (queue-next ts bs i (omega arith) (omega arith)))
+
+-- The step of the loop that goes from the last level up: `top` is the largest frame of the levels from `i` on.
+module _ (levels : List Aggregate) (top : Bytes) (i : ℕ) (pos : 0 < i) (within : i ≤ length levels) (so-far : top .0 ≡ largest (λ a. a .frame) (drop i (aggregatesOf levels))) where
+  previous : drop (i - 1) (aggregatesOf levels) ≡ aggregateOf (getD levels (i - 1) blank) ∷ drop i (aggregatesOf levels)
+  previous =
+      let e : i - 1 + 1 ≡ i = omega arith in
+      rw e at (level-next levels (i - 1) (omega arith))
+
+  pub top-previous : max (getD levels (i - 1) blank .frame .0) (top .0) ≡ largest (λ a. a .frame) (drop (i - 1) (aggregatesOf levels))
+  top-previous = rw so-far (sym (largest-next (λ a. a .frame) previous))
+
+  pub below-previous : (below : List Bytes) → i ≤ length below → bytesOf (drop i below) ≡ framesBelow (drop i (aggregatesOf levels))
+      → bytesOf (drop (i - 1) (set below (i - 1) top)) ≡ framesBelow (drop (i - 1) (aggregatesOf levels))
+  unfolding framesBelow
+  below-previous below long rest =
+      let next : suc (i - 1) ≡ i = omega arith in
+      let stored : drop (i - 1) (set below (i - 1) top) ≡ top ∷ drop (suc (i - 1)) below
+      = drop-cons (set below (i - 1) top) (i - 1) top (lt-length-set below (i - 1) top (omega arith))
+      ∙ ap₂ (λ (b : Bytes) (l : List Bytes). b ∷ l) (getD-set-same below (i - 1) top top (omega arith)) (drop-set-lt (suc (i - 1)) below (i - 1) top (omega arith)) in
+      ap bytesOf (rw next at stored) ∙ ap₂ (λ (n : ℕ) (l : List ℕ). n ∷ l) so-far rest ∙ sym (ap framesBelow previous)

@@ -1,0 +1,124 @@
+-- `link_check::check_levels` meets its contract. The invariant: the levels before `i` pass, and `above` holds their sums.
+-- Assumes nothing.
+use borrow.Author.Needs.{needs}
+use Prim.Native.Nat.{ℕ, _+_, _*_, _-_, _^_, _≤_, _<_}
+use mathlib.Core.Path.{_≡_, sym, ap, _∙_}
+use mathlib.Core.List.{List, [], _∷_}
+use native.Mathlib.Omega.{arith}
+use native.Mathlib.Numerals.{add-one}
+use lib.ListN.{length, getD, drop, length-map, List·getD-map}
+use Rattle.model.specs.Total.{largest}
+use Rattle.model.specs.Formula as model
+use Rattle.model.specs.QueueTable.{Queue}
+use Rattle.model.specs.WithFlow.{noFlow}
+use Rattle.model.specs.Laws.LinkSteps.{levelFinding, framesBelow-at, Passed, passed-none, passed-all, passed-room, passed-next, passed-found}
+use types.Run.{OneOf, miss}
+use denote.Enum.Declared.{tagOf}
+use Rattle.link_check.specs.declared.Finding.{Finding}
+use Rattle.link_check.specs.declared.Finding.the-variants.{Fits, OverRate, OverDelay, OverBacklog}
+use Rattle.link_check.proofs.Finding.{the-type}
+use Rattle.link_check.specs.Levels.{aggregateOf, aggregatesOf, queuesOf, findingOf}
+use Rattle.link_check.proofs.Laws.{length-mapped, mapped-end, blank, level-next, queue-next}
+use Rattle.link_check.proofs.check_levels.Statement.{statement}
+use Rattle.link_check.proofs.check_levels.Tie as tie
+
+abbrev Inv-loop : tie.InvT-loop
+Inv-loop speed thresholds buffers levels below above₀ i₀ above i = (i ≤ 8) × Passed speed (queuesOf thresholds buffers) (aggregatesOf levels) i (aggregateOf above)
+
+abbrev μ-loop : tie.MeasureT-loop
+μ-loop speed thresholds buffers levels below above₀ i₀ above i = 8 - i
+
+long : (c : tie.Start Inv-loop μ-loop) → (length (c .args .t2) ≡ 8) × (length (c .args .t3) ≡ 8) × (length (c .args .t4) ≡ 8)
+long c = (search (needs, length-mapped), search (needs, length-mapped), search (needs, length-mapped))
+
+-- Every case but `Fits`, which has tag 0, is a fault.
+faulty : (f : Finding) → OneOf (1 ∷ 2 ∷ 3 ∷ []) (tagOf the-type f) → findingOf f .code ≡ 0 → ⊥
+faulty Fits k e = miss (1 ∷ 2 ∷ 3 ∷ []) 0 tt k
+faulty OverRate k e = omega arith
+faulty (OverDelay n) k e = omega arith
+faulty (OverBacklog n) k e = omega arith
+
+-- The queue and the level at `i`, and the largest frame below.
+module _ (c : tie.In-loop Inv-loop μ-loop) where
+  abbrev start : tie.Start Inv-loop μ-loop
+  start = c .before .before .before
+
+  abbrev queues : List Queue
+  queues = queuesOf (start .args .t2) (start .args .t3)
+
+  abbrev levels : List model.Aggregate
+  levels = aggregatesOf (start .args .t4)
+
+  abbrev i : ℕ
+  i = c .before .loop .i
+
+  abbrev above : model.Aggregate
+  above = aggregateOf (c .before .loop .above)
+
+  abbrev queue : Queue
+  queue = record { threshold = getD (start .args .t2) i (record { 0 = 0 }) .0; buffer = getD (start .args .t3) i (record { 0 = 0 }) .0 }
+
+  abbrev own : model.Aggregate
+  own = aggregateOf (getD (start .args .t4) i blank)
+
+  abbrev below : ℕ
+  below = getD (c .before .before .frames-below .result) i (record { 0 = 0 }) .0
+
+  queue-at : drop i queues ≡ queue ∷ drop (i + 1) queues
+  queue-at = queue-next (start .args .t2) (start .args .t3) i (omega (arith, long start)) (omega (arith, long start))
+
+  own-at : drop i levels ≡ own ∷ drop (i + 1) levels
+  own-at = level-next (start .args .t4) i (omega (arith, long start))
+
+  below-at : below ≡ largest (λ a. a .frame) (drop (i + 1) levels)
+  below-at =
+      rw (add-one i)
+      (sym (List·getD-map (λ b. b .0) (c .before .before .frames-below .result) i (record { 0 = 0 }))
+      ∙ ap (λ (l : List ℕ). getD l i 0) (c .before .before .frames-below .ensures)
+      ∙ framesBelow-at levels i (simp length-map (omega (arith, long start))))
+
+  room : (above .rate + own .rate < 1000 * start .args .speed) × (above .burst + below + own .frame + own .burst ≤ 2 ^ 40)
+  room = omega (arith, passed-room (c .before .loop .inv .1) queue-at own-at, below-at, start .pre)
+
+-- What the call tells of the level.
+found : (c : tie.After-check-level Inv-loop μ-loop) → let at = c .before .before .before .before .before in
+    levelFinding (start at .args .speed) (i at + 1) (queue at) (above at) (own at) (largest (λ a. a .frame) (drop (i at + 1) (levels at)))
+    ≡ findingOf (c .check-level .result)
+found c = rw (below-at (c .before .before .before .before .before)) at (sym (c .check-level .ensures))
+
+loop-holds : tie.Need-loop-holds Inv-loop μ-loop
+unfolding noFlow
+loop-holds c = (omega arith, passed-none (c .before .args .speed) (queuesOf (c .before .args .t2) (c .before .args .t3)) (aggregatesOf (c .before .args .t4)))
+
+check-level-requires : tie.Need-check-level-requires Inv-loop μ-loop
+check-level-requires c κs = omega (arith, room (c .before .before .before .before), c .before .before .before .before .before .before .before .pre)
+
+returns : tie.Need-returns Inv-loop μ-loop
+returns c =
+    let at = c .before .before .before .before .before .before in
+    let result = c .before .check-level .result in
+    sym (passed-found (at .before .loop .inv .1) (queue-at at) (own-at at) (findingOf result) (found (c .before)) (faulty result (c .match .keys2)))
+
+with-flow-requires : tie.Need-with-flow-requires Inv-loop μ-loop
+with-flow-requires c κs =
+    let at = c .before .before .before .before .before .before .before in
+    omega (arith, room at, start at .pre)
+
+loop-again : tie.Need-loop-again Inv-loop μ-loop
+loop-again c =
+    let at = c .before .before .before .before .before .before .before .before in
+    let fits = ap findingOf (c .before .enum-told .given .1) in
+    (omega arith, rw (c .with-flow .ensures) (passed-next (at .before .loop .inv .1) (queue-at at) (own-at at) (found (c .before .before .before) ∙ fits)))
+
+returns-2 : tie.Need-returns-2 Inv-loop μ-loop
+returns-2 c =
+    let start = c .before .before .before in
+    let at = c .before .loop in
+    sym (passed-all (at .inv .1) (mapped-end aggregateOf (start .args .t4) (at .i) (omega (arith, long start))))
+
+pub check-levels-spec : {M : Type 1} → statement M
+check-levels-spec =
+    tie.close
+    (tie.spec Inv-loop μ-loop (λ c κs. search needs) loop-holds (λ c. search needs) (λ c. search needs) (λ c. search needs) (λ c. search needs)
+    (λ c. search needs) (λ c. search needs) (λ c. search needs) (λ c. search needs) (λ c. search needs) (λ c. search needs) check-level-requires
+    (λ c. search needs) returns with-flow-requires (λ c. search needs) (λ c. search needs) loop-again returns-2)
