@@ -2,10 +2,12 @@
 ghost use mathlib.Core.Path.{_≡_};
 ghost use Prim.Native.Nat.{_≤_};
 ghost use lib.ListN.{length, drop};
-ghost use Rattle.model.specs.Columns.{between};
+ghost use Rattle.model.specs.Columns.{fieldAt, lines};
 ghost use Rattle.model.specs.Orders.{readOrder, releaseLine, registration, headFields, headInRange, hopField, pathFields};
+ghost use Rattle.model.specs.Reference.{lineOfKind, onlyLine};
 ghost use Rattle.orders.specs.Reading.{orderOf, fieldsOf, headOf, hopOf, pathOf};
 use columns::Field;
+use columns::NextLine;
 use units::Bytes;
 use units::Micros;
 use units::Rate;
@@ -229,4 +231,33 @@ pub fn read_order(line: &[u8]) -> OrderLine
         return read_release(line);
     }
     bare(Order::OutOfRange)
+}
+
+// The order of a line that has to be of this kind.
+fn read_own_kind(kind: u32, line: &[u8]) -> OrderLine
+    ensures { λ r. ⌜ orderOf r ≡ lineOfKind kind (now (line .entry)) (fieldAt 1 2 (now (line .entry))) ⌝ }
+{
+    let Field::Number(found) = columns::read_at(line, 1, 2) else {
+        return bare(Order::Malformed);
+    };
+    if found != kind {
+        return bare(Order::OutOfRange);
+    }
+    read_order(line)
+}
+
+// The order of a direct call: exactly one line with its LF, of the call's own kind; another kind is 11, its rest unread.
+pub fn read_call(kind: u32, bytes: &[u8]) -> OrderLine
+    ensures { λ r. ⌜ orderOf r ≡ onlyLine kind (lines (now (bytes .entry))) ⌝ }
+{
+    if bytes.len() == 0 {
+        return bare(Order::Malformed);
+    }
+    let NextLine::Ended(end) = columns::next_line(bytes, 0) else {
+        return bare(Order::Malformed);
+    };
+    if end + 1 < bytes.len() {
+        return bare(Order::Malformed);
+    }
+    read_own_kind(kind, &bytes[..end])
 }

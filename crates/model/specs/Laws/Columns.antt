@@ -2,7 +2,7 @@
 -- Assumes nothing.
 use Prim.Native.Nat.{ℕ, zero, suc, _+_, _-_, _*_, _/_, _%_, _≤_, _<_}
 use mathlib.Core.Path.{_≡_, refl, sym, ap, ap₂, _∙_}
-use mathlib.Core.Bool.{true, cond, _&&_, and-eq-true-iff}
+use mathlib.Core.Bool.{Bool, true, false, cond, _&&_, and-eq-true-iff}
 use mathlib.Core.List.{List, [], _∷_, _++_, append-assoc}
 use mathlib.Core.Option.{Option, none, some}
 use native.Mathlib.Omega.{arith}
@@ -10,7 +10,7 @@ use native.Mathlib.Numerals.{add-one}
 use lib.ListN.{length, getD, take, drop, set, drop-of-length-le, length-take, length-drop}
 use lib.Seq.{drop-cons, take-suc, getD-drop, drop-set-lt, getD-set-same, lt-length-set}
 use lib.Dec.{leb, eqb}
-use borrow.Author.Tests.{leb-true, le-leb, lt-leb, eq-eqb, ne-eqb}
+use borrow.Author.Tests.{leb-true, eqb-true, eqb-false, le-leb, lt-leb, eq-eqb, ne-eqb}
 use Rattle.model.specs.Columns.{isDigit, digits, number, field, padded, justified, between, Line, ended, unended, prepend, lines}
 
 of-other : (b : ℕ) (l : List ℕ) → (b ≡ 48 → ⊥) → number b l ≡ digits 0 (b ∷ l)
@@ -113,6 +113,22 @@ line-unended s at i low high =
 pub lines-nothing : (s : List ℕ) (at : ℕ) → length s ≤ at → lines (drop at s) ≡ []
 unfolding lines
 lines-nothing s at h = ap lines (drop-of-length-le s h)
+
+-- Where bytes are left there is a line.
+prepended : (b : ℕ) (ls : List Line) → (l : Line) × (more : List Line) × (prepend b ls ≡ l ∷ more)
+unfolding prepend
+prepended b [] = (unended, [], refl)
+prepended b (ended bs ∷ ls) = (ended (b ∷ bs), ls, refl)
+prepended b (unended ∷ ls) = (unended, ls, refl)
+
+pub lines-left : (s : List ℕ) (at : ℕ) → at < length s → (l : Line) × (more : List Line) × (lines (drop at s) ≡ l ∷ more)
+lines-left s at h = go (eqb (getD s at 0) 10) refl
+  where
+    go : (t : Bool) → eqb (getD s at 0) 10 ≡ t → (l : Line) × (more : List Line) × (lines (drop at s) ≡ l ∷ more)
+    go true e = (ended [], lines (drop (at + 1) s), lines-ended s at h (eqb-true (getD s at 0) 10 e))
+    go false e =
+        let (l, more, q) = prepended (getD s at 0) (lines (drop (at + 1) s)) in
+        (l, more, lines-more s at h (eqb-false (getD s at 0) 10 e) ∙ q)
 
 -- A byte stored at `k` joins what stands before it.
 drop-set : (xs : List ℕ) (l : List ℕ) (k d : ℕ) → k < length l → xs ++ drop k (set l k d) ≡ (xs ++ (d ∷ [])) ++ drop (suc k) l
