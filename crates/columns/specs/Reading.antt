@@ -15,8 +15,8 @@ abbrev pub valueOf : Field → Option ℕ
 valueOf (Number n) = some n
 valueOf Malformed = none
 
--- `at` is the first place of a field that is no blank: those before it don't count.
-pub record FirstNonBlank (s : List ℕ) (at : ℕ) : Type 0 where
+-- Blanks up to `at` don't count, and none stands there.
+pub record AfterBlanks (s : List ℕ) (at : ℕ) : Type 0 where
   pub within : at ≤ length s
   pub rest : field s ≡ field (drop at s)
   pub other : at < length s → getD s at 0 ≡ 32 → ⊥

@@ -6,7 +6,7 @@ ghost use Prim.Native.Nat.{_+_, _%_, _≤_, _<_};
 ghost use lib.Dec.{eqb};
 ghost use lib.ListN.{length, drop};
 ghost use Rattle.model.specs.Columns.{field, fieldAt, digits, justified, writtenAt, between};
-ghost use Rattle.columns.specs.Reading.{valueOf, FirstNonBlank, FirstLine};
+ghost use Rattle.columns.specs.Reading.{valueOf, AfterBlanks, FirstLine};
 
 const BLANK: u8 = 32;
 
@@ -34,7 +34,7 @@ fn byte(x: u8) -> u32
 
 // The position of the first byte that is no blank, or the field's width.
 fn skip_blanks(s: &[u8]) -> usize
-    ensures { λ r. ⌜ FirstNonBlank (now (s .entry)) r ⌝ }
+    ensures { λ r. ⌜ AfterBlanks (now (s .entry)) r ⌝ }
 {
     let mut i = 0;
     while i < s.len() {

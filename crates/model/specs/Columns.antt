@@ -34,7 +34,7 @@ unfoldable pub padded : (width n : ℕ) → List ℕ
 padded zero n = []
 padded (suc w) n = padded w (n / 10) ++ (cond (eqb n 0) 32 (48 + n % 10) ∷ [])
 
--- The same with at least one digit.
+-- The same with at least one digit. Of a number with more digits than columns the last ones are written.
 unfoldable pub justified : (width n : ℕ) → List ℕ
 justified zero n = []
 justified (suc w) n = padded w (n / 10) ++ ((48 + n % 10) ∷ [])

@@ -1,7 +1,7 @@
 -- The hops read so far, before what the rest of the line says: one hop more, a malformed one, and the end.
 -- Assumes nothing.
 use Prim.Native.Nat.{ℕ, zero, suc, _+_, _-_, _*_, _<_}
-use mathlib.Core.Path.{_≡_, refl, sym, ap, _∙_}
+use mathlib.Core.Path.{_≡_, refl, sym, ap, _∙_, subst⁻¹}
 use mathlib.Core.List.{List, [], _∷_, _++_, append-nil}
 use mathlib.Core.Option.{Option, none, some}
 use native.Mathlib.Omega.{arith}
@@ -13,7 +13,7 @@ use Rattle.model.specs.Columns.{andThen}
 use Rattle.model.specs.Orders.{Hop, hopField, hopFields}
 use Rattle.orders.specs.declared.Order.{Order}
 use Rattle.orders.specs.declared.OrderLine.{OrderLine}
-use Rattle.orders.specs.Reading.{zipHops, orderOf, orderWith}
+use Rattle.orders.specs.Reading.{zipHops, orderOf, orderWith, hopsFit}
 
 -- The hops `before`, and then those that are read, if they can be.
 abbrev joined : List Hop → Option (List Hop) → Option (List Hop)
@@ -91,6 +91,10 @@ pub path-end : (line links levels : List ℕ) (n i : ℕ) → i ≡ n → read-s
 path-end line links levels n i e =
     let none-left : n - n ≡ 0 = omega arith in
     rw (e, none-left) (joined-all (take n (zipHops links levels)) (drop (41 + 6 * n) line))
+
+-- An order without hops has none to fit.
+pub bare-fits : (o bare : Order) → o ≡ bare → hopsFit bare → hopsFit o
+bare-fits o bare e h = subst⁻¹ hopsFit e h
 
 -- What a line says goes by its order alone, beside its arrays.
 pub with-order : (l : OrderLine) (o : Order) → l .order ≡ o → orderOf l ≡ orderWith o (l .links) (l .levels)

@@ -1,5 +1,5 @@
 -- What the answers of this crate say in the terms of the model.
-use Prim.Native.Nat.{ℕ}
+use Prim.Native.Nat.{ℕ, _≤_}
 use mathlib.Core.Bool.{Bool, true, false}
 use mathlib.Core.List.{List, [], _∷_}
 use mathlib.Core.Option.{Option, none, some}
@@ -26,7 +26,7 @@ abbrev pub fieldsOf : Flow → model.Head
 fieldsOf f =
     record { number = f .number; rate = f .rate .0; burst = f .burst .0; frame = f .frame .0; deadline = f .deadline .0; hops = f .hops }
 
--- A registration has the first hops of the arrays beside it, as many as its flow says; 10 and 11 have none.
+-- A registration has the first hops of the arrays beside it, as many as its flow says; the other entries are free, and so are all of another order.
 abbrev pub orderWith : Order → List ℕ → List ℕ → model.Order
 orderWith (Register f) links levels = model.register (model.flowOf (fieldsOf f) (take (f .hops) (zipHops links levels)))
 orderWith (Release n) links levels = model.release n
@@ -35,6 +35,13 @@ orderWith OutOfRange links levels = model.rejected 11
 
 abbrev pub orderOf : OrderLine → model.Order
 orderOf l = orderWith (l .order) (l .links) (l .levels)
+
+-- A registration's hops are in the arrays.
+abbrev pub hopsFit : Order → Type 0
+hopsFit (Register f) = f .hops ≤ 12
+hopsFit (Release n) = Unit {0}
+hopsFit Malformed = Unit {0}
+hopsFit OutOfRange = Unit {0}
 
 abbrev pub headOf : Head → Option model.Head
 headOf (head.Fields f) = some (fieldsOf f)

@@ -5,7 +5,7 @@ ghost use lib.ListN.{length, drop};
 ghost use Rattle.model.specs.Columns.{fieldAt, lines};
 ghost use Rattle.model.specs.Orders.{readOrder, releaseLine, registration, headFields, headInRange, hopField, pathFields};
 ghost use Rattle.model.specs.Reference.{lineOfKind, onlyLine};
-ghost use Rattle.orders.specs.Reading.{orderOf, fieldsOf, headOf, hopOf, pathOf};
+ghost use Rattle.orders.specs.Reading.{orderOf, hopsFit, fieldsOf, headOf, hopOf, pathOf};
 use columns::Field;
 use columns::NextLine;
 use units::Bytes;
@@ -35,7 +35,7 @@ pub enum Order {
     OutOfRange,
 }
 
-// An order, and the links and levels of its path where it is a registration.
+// An order, and the links and levels of its path where it is a registration: the first `hops` of them. The rest is free.
 pub struct OrderLine {
     pub order: Order,
     pub links: [u32; 12],
@@ -71,6 +71,7 @@ fn bare(order: Order) -> OrderLine
 
 fn read_release(line: &[u8]) -> OrderLine
     ensures { λ r. ⌜ orderOf r ≡ releaseLine (now (line .entry)) ⌝ }
+    ensures { λ r. ⌜ hopsFit (r .order) ⌝ }
 {
     if line.len() != 8 {
         return bare(Order::Malformed);
@@ -192,6 +193,7 @@ fn read_path(line: &[u8], hops: u32) -> Path
 
 fn read_registration(line: &[u8]) -> OrderLine
     ensures { λ r. ⌜ orderOf r ≡ registration (now (line .entry)) ⌝ }
+    ensures { λ r. ⌜ hopsFit (r .order) ⌝ }
 {
     let Head::Fields(flow) = read_head(line) else {
         return bare(Order::Malformed);
@@ -220,6 +222,7 @@ fn read_registration(line: &[u8]) -> OrderLine
 // The order of a line, without its LF.
 pub fn read_order(line: &[u8]) -> OrderLine
     ensures { λ r. ⌜ orderOf r ≡ readOrder (now (line .entry)) ⌝ }
+    ensures { λ r. ⌜ hopsFit (r .order) ⌝ }
 {
     let Field::Number(kind) = columns::read_at(line, 1, 2) else {
         return bare(Order::Malformed);
@@ -236,6 +239,7 @@ pub fn read_order(line: &[u8]) -> OrderLine
 // The order of a line that has to be of this kind.
 fn read_own_kind(kind: u32, line: &[u8]) -> OrderLine
     ensures { λ r. ⌜ orderOf r ≡ lineOfKind kind (now (line .entry)) (fieldAt 1 2 (now (line .entry))) ⌝ }
+    ensures { λ r. ⌜ hopsFit (r .order) ⌝ }
 {
     let Field::Number(found) = columns::read_at(line, 1, 2) else {
         return bare(Order::Malformed);
@@ -249,6 +253,7 @@ fn read_own_kind(kind: u32, line: &[u8]) -> OrderLine
 // The order of a direct call: exactly one line with its LF, of the call's own kind; another kind is 11, its rest unread.
 pub fn read_call(kind: u32, bytes: &[u8]) -> OrderLine
     ensures { λ r. ⌜ orderOf r ≡ onlyLine kind (lines (now (bytes .entry))) ⌝ }
+    ensures { λ r. ⌜ hopsFit (r .order) ⌝ }
 {
     if bytes.len() == 0 {
         return bare(Order::Malformed);

@@ -133,7 +133,7 @@ abbrev pub linksIn : Verdict → ℕ
 linksIn (Accepted n) = n
 linksIn (Refused code line) = 0
 
--- The columns hold what the text says, no link where it is refused.
+-- The columns hold what the text says, no link where it is refused. Places of the columns past the links and their levels are free.
 pub record TableFilled (text : List ℕ) (v : Verdict) (links queues : List ℕ) : Type 0 where
   pub same : textOf v links queues ≡ model.readTable text
   pub kept : Columns (linksIn v) links queues

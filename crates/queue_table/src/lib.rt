@@ -50,7 +50,7 @@ pub enum Verdict {
     Refused(u32, u32),
 }
 
-// A table by value. A refused text leaves it empty.
+// A table by value. A refused text has no links; what stands past the links and their levels is free.
 pub struct QueueTable {
     pub verdict: Verdict,
     pub links: [u32; 256],

@@ -14,7 +14,7 @@ use Rattle.model.specs.Columns.{Line, ended, unended}
 use Rattle.model.specs.Laws.Columns.{lines-nothing, lines-left}
 use Rattle.model.specs.Orders.{rejected}
 use Rattle.model.specs.Reference.{onlyLine}
-use Rattle.orders.proofs.PathLaws.{with-order}
+use Rattle.orders.proofs.PathLaws.{with-order, bare-fits}
 use Rattle.orders.proofs.read_call.Statement.{statement}
 use Rattle.orders.proofs.read_call.Tie as tie
 
@@ -35,14 +35,14 @@ returns : tie.Need-returns
 unfolding onlyLine
 returns c =
     let args = c .before .before .before .args in
-    with-order _ _ (c .bare .ensures) ∙ sym (ap (onlyLine (args .kind)) (lines-nothing (args .bytes .now) 0 (omega (arith, c .before .if1 .taken))))
+    (with-order _ _ (c .bare .ensures) ∙ sym (ap (onlyLine (args .kind)) (lines-nothing (args .bytes .now) 0 (omega (arith, c .before .if1 .taken)))), bare-fits _ _ (c .bare .ensures) tt)
 
 returns-2 : tie.Need-returns-2
 unfolding onlyLine
 returns-2 c =
     let args = c .before .before .before .before .before .before .args in
     let line = subst (λ (r : NextLine). FirstLine (args .bytes .now) 0 r) (c .before .enum-told .given .1) (c .before .before .before .next-line .ensures) in
-    with-order _ _ (c .bare2 .ensures) ∙ sym (ap (onlyLine (args .kind)) (line .same))
+    (with-order _ _ (c .bare2 .ensures) ∙ sym (ap (onlyLine (args .kind)) (line .same)), bare-fits _ _ (c .bare2 .ensures) tt)
 
 add-if2 : tie.Need-add-if2
 add-if2 c = omega (arith, ended-at (c .before) .within .1, c .before .before .before .before .before .before .good)
@@ -52,7 +52,7 @@ returns-3 c =
     let args = c .before .before .before .before .before .before .before .before .args in
     let end = c .before .before .before .end .given .0 .0 in
     let (second, more, e) = lines-left (args .bytes .now) (end + 1) (c .before .if2 .taken) in
-    with-order _ _ (c .bare3 .ensures) ∙ sym (several (args .kind) (ended-at (c .before .before .before) .same) e)
+    (with-order _ _ (c .bare3 .ensures) ∙ sym (several (args .kind) (ended-at (c .before .before .before) .same) e), bare-fits _ _ (c .bare3 .ensures) tt)
 
 slice-aggregate-read-own-kind : tie.Need-slice-aggregate-read-own-kind
 slice-aggregate-read-own-kind c = sym (length-take-le (c .before .before .before .end .given .0 .0) (c .before .before .before .before .before .before .before .before .args .bytes .now) (le-of-lt (ended-at (c .before .before .before) .within .1)))
@@ -64,7 +64,7 @@ returns-4 c =
     let end = c .before .before .before .before .end .given .0 .0 in
     let line = ended-at (c .before .before .before .before) in
     let alone = rw (lines-nothing (args .bytes .now) (end + 1) (c .before .before .if2 .left), sub-zero end) at (line .same) in
-    c .read-own-kind .ensures ∙ sym (ap (onlyLine (args .kind)) alone)
+    (c .read-own-kind .ensures .0 ∙ sym (ap (onlyLine (args .kind)) alone), c .read-own-kind .ensures .1)
 
 pub read-call-spec : {M : Type 1} → statement M
 read-call-spec =

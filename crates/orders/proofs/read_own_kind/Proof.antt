@@ -7,7 +7,7 @@ use borrow.Author.Tests.{eq-eqb, ne-eqb}
 use Rattle.columns.specs.Reading.{valueOf}
 use Rattle.model.specs.Columns.{fieldAt}
 use Rattle.model.specs.Reference.{lineOfKind}
-use Rattle.orders.proofs.PathLaws.{with-order}
+use Rattle.orders.proofs.PathLaws.{with-order, bare-fits}
 use Rattle.orders.proofs.read_own_kind.Statement.{statement}
 use Rattle.orders.proofs.read_own_kind.Tie as tie
 
@@ -18,15 +18,17 @@ returns : tie.Need-returns
 unfolding lineOfKind
 returns c =
     let ends = sym (c .before .before .before .read-at .ensures) ∙ ap valueOf (c .before .enum-told .given .1) in
-    with-order _ _ (c .bare .ensures) ∙ sym (simp ends)
+    (with-order _ _ (c .bare .ensures) ∙ sym (simp ends), bare-fits _ _ (c .bare .ensures) tt)
 
 returns-2 : tie.Need-returns-2
 unfolding lineOfKind
-returns-2 c = with-order _ _ (c .bare2 .ensures) ∙ sym (simp (found (c .before .before .before), ne-eqb _ _ (c .before .if1 .taken)))
+returns-2 c =
+    (with-order _ _ (c .bare2 .ensures) ∙ sym (simp (found (c .before .before .before), ne-eqb _ _ (c .before .if1 .taken))), bare-fits _ _ (c .bare2 .ensures) tt)
 
 returns-3 : tie.Need-returns-3
 unfolding lineOfKind
-returns-3 c = c .read-order .ensures ∙ sym (simp (found (c .before .before .before), eq-eqb _ _ (c .before .if1 .left)))
+returns-3 c =
+    (c .read-order .ensures .0 ∙ sym (simp (found (c .before .before .before), eq-eqb _ _ (c .before .if1 .left))), c .read-order .ensures .1)
 
 pub read-own-kind-spec : {M : Type 1} → statement M
 read-own-kind-spec =

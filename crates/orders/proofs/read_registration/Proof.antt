@@ -11,7 +11,7 @@ use Rattle.model.specs.Laws.Columns.{between-true}
 use Rattle.model.specs.Orders.{headFields, headInRange, hopsInRange, pathFields, registration, registrationOf, withPath}
 use Rattle.orders.specs.Reading.{fieldsOf, headOf, pathWhen, zipHops}
 use borrow.Author.Needs.{needs}
-use Rattle.orders.proofs.PathLaws.{with-order}
+use Rattle.orders.proofs.PathLaws.{with-order, bare-fits}
 use Rattle.orders.proofs.read_registration.Statement.{statement}
 use Rattle.orders.proofs.read_registration.Tie as tie
 
@@ -25,6 +25,10 @@ counted c = ap (between 1 12) (sym (c .before .wide .ensures)) ∙ sym (c .withi
 few : (c : tie.Else1) → hopsInRange (c .before .before .before .before .flow .given .0 .0 .hops) ≡ true
 few c = counted (c .before) ∙ not-false _ (c .if1 .left)
 
+fits : (c : tie.Else1) → between 1 12 (c .before .before .before .before .flow .given .0 .0 .hops) ≡ true
+unfolding hopsInRange
+fits c = few c
+
 -- What `read_path` says, once its flag is known.
 path : (c : tie.After-read-path) (whole : Bool) → c .read-path .result .whole ≡ whole
     → pathFields (c .before .before .before .before .before .flow .given .0 .0 .hops) (c .before .before .before .before .before .before .before .before .before .args .line .now)
@@ -37,13 +41,12 @@ returns : tie.Need-returns
 unfolding registration registrationOf
 returns c =
     let ends = sym (c .before .before .before .read-head .ensures) ∙ ap headOf (c .before .enum-told .given .1) in
-    with-order _ _ (c .bare .ensures) ∙ sym (simp ends)
+    (with-order _ _ (c .bare .ensures) ∙ sym (simp ends), bare-fits _ _ (c .bare .ensures) tt)
 
 returns-2 : tie.Need-returns-2
 unfolding registration registrationOf
 returns-2 c =
-    with-order _ _ (c .bare2 .ensures)
-    ∙ sym (simp (head (c .before .before .before .before .before), counted (c .before .before) ∙ not-true _ (c .before .if1 .taken)))
+    (with-order _ _ (c .bare2 .ensures) ∙ sym (simp (head (c .before .before .before .before .before), counted (c .before .before) ∙ not-true _ (c .before .if1 .taken))), bare-fits _ _ (c .bare2 .ensures) tt)
 
 read-path-requires : tie.Need-read-path-requires
 unfolding hopsInRange
@@ -52,23 +55,17 @@ read-path-requires c κs = between-true 1 12 _ (few c) .1
 returns-3 : tie.Need-returns-3
 unfolding registration registrationOf withPath
 returns-3 c =
-    with-order _ _ (c .bare3 .ensures)
-    ∙ sym (simp (head (c .before .before .before .before .before .before .before), few (c .before .before .before), path (c .before .before) false (not-true _ (c .before .if2 .taken))))
+    (with-order _ _ (c .bare3 .ensures) ∙ sym (simp (head (c .before .before .before .before .before .before .before), few (c .before .before .before), path (c .before .before) false (not-true _ (c .before .if2 .taken)))), bare-fits _ _ (c .bare3 .ensures) tt)
 
 returns-4 : tie.Need-returns-4
 unfolding registration registrationOf withPath
 returns-4 c =
-    with-order _ _ (c .bare4 .ensures)
-    ∙ sym
-    (simp
-    (head (c .before .before .before .before .before .before .before .before .before), few (c .before .before .before .before .before), path (c .before .before .before .before) true (not-false _ (c .before .before .before .if2 .left)), sym (c .before .before .in-range .ensures) ∙ not-true _ (c .before .if3 .taken)))
+    (with-order _ _ (c .bare4 .ensures) ∙ sym (simp (head (c .before .before .before .before .before .before .before .before .before), few (c .before .before .before .before .before), path (c .before .before .before .before) true (not-false _ (c .before .before .before .if2 .left)), sym (c .before .before .in-range .ensures) ∙ not-true _ (c .before .if3 .taken))), bare-fits _ _ (c .bare4 .ensures) tt)
 
 returns-5 : tie.Need-returns-5
 unfolding registration registrationOf withPath
 returns-5 c =
-    sym
-    (simp
-    (head (c .before .before .before .before .before .before .before .before .before .before), few (c .before .before .before .before .before .before), path (c .before .before .before .before .before) true (not-false _ (c .before .before .before .before .if2 .left)), sym (c .before .before .before .in-range .ensures) ∙ not-false _ (c .before .before .if3 .left)))
+    (sym (simp (head (c .before .before .before .before .before .before .before .before .before .before), few (c .before .before .before .before .before .before), path (c .before .before .before .before .before) true (not-false _ (c .before .before .before .before .if2 .left)), sym (c .before .before .before .in-range .ensures) ∙ not-false _ (c .before .before .if3 .left))), between-true 1 12 _ (fits (c .before .before .before .before .before .before)) .1)
 
 pub read-registration-spec : {M : Type 1} → statement M
 read-registration-spec =
