@@ -6,10 +6,11 @@ use mathlib.Core.List.{List, [], _∷_, map}
 use native.Mathlib.Omega.{arith}
 use native.Mathlib.Numerals.{add-one}
 use lib.ListN.{length, getD, set, drop, length-map, List·getD-map, drop-of-length-le}
-use lib.Seq.{drop-cons, drop-set-lt, getD-set-same, lt-length-set}
+use lib.Seq.{drop-cons}
 use Rattle.units.specs.declared.Bytes.{Bytes}
 use Rattle.units.specs.declared.Micros.{Micros}
 use Rattle.model.specs.Total.{largest}
+use Rattle.model.specs.Laws.List.{drop-set}
 use Rattle.model.specs.Laws.Total.{largest-next}
 use Rattle.model.specs.Laws.LinkSteps.{framesBelow}
 use Rattle.link_check.specs.declared.Aggregate.{Aggregate}
@@ -42,7 +43,8 @@ queue-next (t ∷ ts) (b ∷ bs) zero h h′ = refl
 queue-next (t ∷ ts) (b ∷ bs) (suc i) h h′ = rw (add-one (suc i)) (rw (add-one i) at (queue-next ts bs i (omega arith) (omega arith)))
 
 -- The step of the loop that goes from the last level up: `top` is the largest frame of the levels from `i` on.
-module _ (levels : List Aggregate) (top : Bytes) (i : ℕ) (pos : 0 < i) (within : i ≤ length levels) (so-far : top .0 ≡ largest (λ a. a .frame) (drop i (aggregatesOf levels))) where
+module _ (levels : List Aggregate) (top : Bytes) (i : ℕ) (pos : 0 < i) (within : i ≤ length levels)
+    (so-far : top .0 ≡ largest (λ a. a .frame) (drop i (aggregatesOf levels))) where
   previous : drop (i - 1) (aggregatesOf levels) ≡ aggregateOf (getD levels (i - 1) blank) ∷ drop i (aggregatesOf levels)
   previous =
       let e : i - 1 + 1 ≡ i = omega arith in
@@ -56,7 +58,4 @@ module _ (levels : List Aggregate) (top : Bytes) (i : ℕ) (pos : 0 < i) (within
   unfolding framesBelow
   below-previous below long rest =
       let next : suc (i - 1) ≡ i = omega arith in
-      let stored : drop (i - 1) (set below (i - 1) top) ≡ top ∷ drop (suc (i - 1)) below
-      = drop-cons (set below (i - 1) top) (i - 1) top (lt-length-set below (i - 1) top (omega arith))
-      ∙ ap₂ (λ (b : Bytes) (l : List Bytes). b ∷ l) (getD-set-same below (i - 1) top top (omega arith)) (drop-set-lt (suc (i - 1)) below (i - 1) top (omega arith)) in
-      ap bytesOf (rw next at stored) ∙ ap₂ (λ (n : ℕ) (l : List ℕ). n ∷ l) so-far rest ∙ sym (ap framesBelow previous)
+      ap bytesOf (rw next at (drop-set below (i - 1) top (omega arith))) ∙ ap₂ (λ (n : ℕ) (l : List ℕ). n ∷ l) so-far rest ∙ sym (ap framesBelow previous)

@@ -1,12 +1,13 @@
 -- Laws of the definitions, one file for each subject.
-pub mod Formula
-pub mod Columns
+pub mod List
+pub mod All
 pub mod Total
 pub mod Test
+pub mod Formula
+pub mod Columns
 pub mod LinkCheck
 pub mod LinkSteps
 pub mod Aggregates
-pub mod All
 pub mod Finding
 pub mod LinkMeets
 pub mod Consistent
@@ -18,4 +19,5 @@ pub mod Room
 pub mod Reached
 pub mod Schedulable
 pub mod Carries
+pub mod Levels
 pub mod Admissible

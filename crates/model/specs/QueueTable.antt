@@ -1,6 +1,6 @@
 -- Document 01, "Columns", table lines, and "Who can cause which refusal", 1 to 5: what a table text says, for every text.
 use Prim.Native.Nat.{ℕ, suc}
-use mathlib.Core.Bool.{Bool, true, false, cond, _&&_, _||_, not}
+use mathlib.Core.Bool.{Bool, false, cond, _&&_, _||_, not}
 use mathlib.Core.List.{List, [], _∷_, _++_, reverse}
 use mathlib.Core.Option.{Option, none, some}
 use lib.ListN.{length}

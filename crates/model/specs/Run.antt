@@ -1,6 +1,6 @@
 -- Document 01, "The run that the mission's third line speaks of": frames, links, a bit slot, an interval, an instant, runs and conforming sources.
 -- Instants are whole µs. A flow is named by its index in the list of flows, a hop by its index in the path, both from 0.
-pub mod Sums
+pub mod Windows
 pub mod OneLink
 pub mod EachFrame
 pub mod Workload
@@ -15,7 +15,6 @@ pub mod Conservation
 pub mod HopCurve
 pub mod QueueCurve
 pub mod Checked
-pub mod Carried
 pub mod NotLate
 pub mod Exists
 use Prim.Native.Nat.{ℕ, zero, suc, _+_, _-_, _*_, _≤_}

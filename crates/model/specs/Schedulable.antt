@@ -1,4 +1,4 @@
--- What the rules 2, 11, 14 and 21 to 23 say of a table and the flows held on it, as far as the run asks.
+-- What the rules 2, 14 and 21 to 23 say of a table and the flows held on it, as far as the run asks.
 use Prim.Native.Nat.{ℕ, _≤_}
 use mathlib.Core.Path.{_≡_}
 use mathlib.Core.List.{List, [], _∷_}
@@ -23,11 +23,9 @@ pub record Named (t : Table) (h : Hop) : Type 0 where
   pub found : queueAt t h ≡ some queue
 
 pub record FlowMeets (t : Table) (fs : List Flow) (f : Flow) : Type 0 where
-  pub frame : 84 ≤ f .frame
   pub queues : All (Named t) (f .path)
   pub links : All (λ h. LinkMeets t fs (h .link)) (f .path)
 
 pub record Schedulable (t : Table) (fs : List Flow) : Type 0 where
-  pub speeds : (n : ℕ) (k : Link) → linkAt t n ≡ some k → 1 ≤ k .speed
   pub thresholds : (h : Hop) (q : Queue) → queueAt t h ≡ some q → 1 ≤ q .threshold
   pub flows : All (FlowMeets t fs) fs

@@ -15,7 +15,7 @@ use Rattle.model.specs.LinkCheck.{isEmpty, levelCode, orElse, levelsFind
 use Rattle.model.specs.Aggregates.{nth, linkAt, queueAt, thresholdOf, entries, allEntries, sameHop, addsAt, aggregateAt, levelAggregates}
 use Rattle.model.specs.Schedulable.{All, FlowMeets, Schedulable}
 use Rattle.model.specs.Run.{Frame, sending, pastEmpty, pick, bits, start, take, send, slot, interval, hopOf, next, departed, moving, reaching, append, enter, emptyLevels, emptyLink, speedOf, Sends, Run, window, bytesOf, Conforming}
-use Rattle.model.specs.Run.Sums.{window-join, window-within}
+use Rattle.model.specs.Run.Windows.{window-join, window-within}
 use Rattle.model.specs.Run.Exists.{coming, states, runOf}
 use Rattle.model.specs.Punctual.{Punctual, punctual}
 
@@ -115,7 +115,6 @@ link-meets = refl
 flow-meets : (q : Queue) (n b : ℕ) → queueAt table (record { link = 1; level = n }) ≡ some q → FlowMeets table flows (flow n b)
 flow-meets q n b e =
     record {
-      frame = omega arith;
       queues = (record { queue = q; found = e }, tt);
       links = (record { meets = λ k u. subst Checks (only-link 1 k u) link-meets }, tt);
     }
@@ -124,7 +123,6 @@ pub schedulable : Schedulable table flows
 unfolding queueAt linkAt nth
 schedulable =
     record {
-      speeds = λ n k e. omega (arith, ap (λ z. z .speed) (only-link n k e));
       thresholds = λ h q e. threshold-positive (h .link) (h .level) q e;
       flows = (
         flow-meets upper 1 168 refl,

@@ -1,20 +1,14 @@
 -- A row that nothing is against, once stored, is the model's row more: older places are below the stored ones and stay as they were.
 -- Assumes nothing.
 use Prim.Native.Nat.{ℕ, zero, suc, _+_, _-_, _*_, _≤_, _<_}
-use mathlib.Core.Path.{_≡_, refl, sym, ap, _∙_}
-use mathlib.Core.Bool.{Bool, true, false, cond, not, _&&_, _||_, and-eq-true-iff}
+use mathlib.Core.Path.{_≡_, refl, ap, _∙_}
 use mathlib.Core.List.{List, [], _∷_, _++_}
-use mathlib.Core.Logic.{_⊎_, inl, inr, ⊎-elim}
 use native.Mathlib.Omega.{arith}
-use native.Mathlib.Nat.{add-zero, add-suc, suc-add}
-use native.Mathlib.Numerals.{add-one}
-use borrow.Author.Tests.{eqb-true, leb-true}
 use lib.ListN.{length, getD, set, length-set}
-use lib.Seq.{sets, length-sets, getD-set-same, getD-set-other, lt-length-set}
-use lib.Dec.{leb, eqb}
+use lib.Seq.{sets, getD-set-same, getD-set-other}
 use Rattle.model.specs.QueueTable as model
-use Rattle.queue_table.specs.View.{upTo, downFrom, queueAt, levelsAt, linkAt, linksOf, linkStored, queueStored, Columns, Placed}
-use Rattle.queue_table.proofs.ViewLaws.{up-same, down-same, begins-at, continues-none, continues-at, same-at, links-newest}
+use Rattle.queue_table.specs.View.{upTo, queueAt, levelsAt, linkAt, linksOf, linkStored, queueStored, Placed}
+use Rattle.queue_table.proofs.ViewLaws.{up-same, down-same}
 
 -- Numbers stored from `i` on: below that nothing changes, and each number stands in its place.
 sets-below : (l : List ℕ) (i : ℕ) (vs : List ℕ) (k : ℕ) → k < i → getD (sets l i vs) k 0 ≡ getD l k 0

@@ -2,30 +2,22 @@
 -- Assumes nothing.
 use Prim.Native.Nat.{ℕ, zero, suc, _+_, _-_, _*_, _≤_, _<_}
 use mathlib.Core.Path.{_≡_, refl, sym, ap, ap₂, _∙_}
-use mathlib.Core.Bool.{Bool, true, false, cond, not, _&&_, _||_, and-eq-true-iff, true≢false}
+use mathlib.Core.Bool.{Bool, true, false, cond, not, _&&_, _||_, true≢false}
 use mathlib.Core.List.{List, [], _∷_, _++_}
 use mathlib.Core.Option.{none, some}
 use native.Mathlib.Omega.{arith}
 use native.Mathlib.Decide.{decLt}
-use borrow.Author.Tests.{eqb-true, leb-true, ne-eqb}
-use lib.ListN.{length, getD}
+use borrow.Author.Tests.{eqb-true, ne-eqb}
+use lib.ListN.{getD}
 use lib.Seq.{length-sets}
-use lib.Dec.{leb, eqb}
+use lib.Dec.{eqb}
 use Rattle.model.specs.Columns.{Line, ended, unended}
 use Rattle.model.specs.QueueTable as model
+use Rattle.model.specs.Laws.Test.{and-both, or-left, or-right}
+use Rattle.model.specs.Laws.Table.{RowRules, row-rules, row-turn}
 use Rattle.queue_table.specs.View.{upTo, queueAt, levelsAt, linkAt, linksOf, linkStored, queueStored, Columns, Placed}
-use Rattle.queue_table.proofs.ViewLaws.{begins-at, continues-none, continues-at, same-none, same-at, links-newest, or-false}
+use Rattle.queue_table.proofs.ViewLaws.{begins-at, continues-none, continues-at, same-at, links-newest}
 use Rattle.queue_table.proofs.StoreLaws.{older-links, older-levels, stored, stored-levels, link-stored}
-
--- None of 2, 3 and 4.
-passed : (a b c : Bool) → _≡_ {A = ℕ} (cond a (cond b (cond c 0 4) 3) 2) 0 → (a ≡ true) × (b ≡ true) × (c ≡ true)
-passed true true true e = (refl, refl, refl)
-passed true true false e = absurd (omega arith)
-passed true false c e = absurd (omega arith)
-passed false b c e = absurd (omega arith)
-
-both : (a b : Bool) → (a && b) ≡ true → (a ≡ true) × (b ≡ true)
-both a b e = and-eq-true-iff a b .0 e
 
 -- How a row may stand in turn after n links.
 pub record Begun (n : ℕ) (r : model.Row) : Type 0 where
@@ -41,36 +33,23 @@ pub record Continued (n : ℕ) (links : List ℕ) (r : model.Row) : Type 0 where
   pub speed : r .speed ≡ getD links (4 * (n - 1) + 2) 0
 
 module _ (n : ℕ) (links queues : List ℕ) (r : model.Row) (free : model.rowCause (linksOf n links queues) r ≡ 0) where
-  judged : (model.rowInRange r ≡ true) × (model.rowInTurn (linksOf n links queues) r ≡ true) × (model.rowAgrees (linksOf n links queues) r ≡ true)
-  unfolding model.rowCause
-  judged = passed (model.rowInRange r) (model.rowInTurn (linksOf n links queues) r) (model.rowAgrees (linksOf n links queues) r) free
+  judged : RowRules (linksOf n links queues) r
+  judged = row-rules (linksOf n links queues) r free
 
-  limits : (r .link ≤ 64) × (r .level ≤ 8)
-  unfolding model.rowInTurn
-  limits =
-      let outer = both ((model.continues (linksOf n links queues) r || model.begins (linksOf n links queues) r) && leb (r .link) 64) (leb (r .level) 8) (judged .1) in
-      let inner = both (model.continues (linksOf n links queues) r || model.begins (linksOf n links queues) r) (leb (r .link) 64) (outer .0) in
-      (leb-true (r .link) 64 (inner .1), leb-true (r .level) 8 (outer .1))
+  in-turn : ((model.continues (linksOf n links queues) r || model.begins (linksOf n links queues) r) ≡ true) × (r .link ≤ 64) × (r .level ≤ 8)
+  in-turn = row-turn (linksOf n links queues) r judged
 
   begun : model.begins (linksOf n links queues) r ≡ true → Begun n r
   begun e =
-      let two = both (eqb (r .link) (n + 1)) (eqb (r .level) 1) (sym (begins-at links queues n r) ∙ e) in
+      let two = and-both (eqb (r .link) (n + 1)) (eqb (r .level) 1) (sym (begins-at links queues n r) ∙ e) in
       record { link = eqb-true (r .link) (n + 1) (two .0); level = eqb-true (r .level) 1 (two .1) }
 
   continues : model.begins (linksOf n links queues) r ≡ false → model.continues (linksOf n links queues) r ≡ true
-  unfolding model.rowInTurn
-  continues e =
-      let ls = linksOf n links queues in
-      let outer = both ((model.continues ls r || model.begins ls r) && leb (r .link) 64) (leb (r .level) 8) (judged .1) in
-      let inner = both (model.continues ls r || model.begins ls r) (leb (r .link) 64) (outer .0) in
-      sym (or-false (model.continues ls r)) ∙ ap (λ (b : Bool). model.continues ls r || b) (sym e) ∙ inner .0
+  continues e = or-left _ _ (in-turn .0) e
 
   same : model.begins (linksOf n links queues) r ≡ false → model.sameLink (linksOf n links queues) r ≡ true
   unfolding model.rowAgrees
-  same e =
-      let ls = linksOf n links queues in
-      let two = both (not (eqb (r .from) (r .to))) (model.begins ls r || model.sameLink ls r) (judged .2) in
-      ap (λ (b : Bool). b || model.sameLink ls r) (sym e) ∙ two .1
+  same e = or-right _ _ (and-both (not (eqb (r .from) (r .to))) _ (judged .agrees) .1) e
 
   continued : model.begins (linksOf n links queues) r ≡ false → Continued n links r
   continued e = go n refl
@@ -79,10 +58,10 @@ module _ (n : ℕ) (links queues : List ℕ) (r : model.Row) (free : model.rowCa
       go zero at = absurd (true≢false (sym (continues e) ∙ continues-none links queues n r at))
       go (suc m) at =
           let more : 0 < n = omega arith in
-          let turn = both (eqb (r .link) n) (eqb (r .level) (levelsAt links (n - 1) + 1)) (sym (continues-at links queues n r more) ∙ continues e) in
+          let turn = and-both (eqb (r .link) n) (eqb (r .level) (levelsAt links (n - 1) + 1)) (sym (continues-at links queues n r more) ∙ continues e) in
           let three = sym (same-at links queues n r more) ∙ same e in
-          let ends = both (eqb (r .from) (getD links (4 * (n - 1)) 0) && eqb (r .to) (getD links (4 * (n - 1) + 1) 0)) (eqb (r .speed) (getD links (4 * (n - 1) + 2) 0)) three in
-          let nodes = both (eqb (r .from) (getD links (4 * (n - 1)) 0)) (eqb (r .to) (getD links (4 * (n - 1) + 1) 0)) (ends .0) in
+          let ends = and-both (eqb (r .from) (getD links (4 * (n - 1)) 0) && eqb (r .to) (getD links (4 * (n - 1) + 1) 0)) (eqb (r .speed) (getD links (4 * (n - 1) + 2) 0)) three in
+          let nodes = and-both (eqb (r .from) (getD links (4 * (n - 1)) 0)) (eqb (r .to) (getD links (4 * (n - 1) + 1) 0)) (ends .0) in
           record {
             more = more;
             link = eqb-true (r .link) n (turn .0);
@@ -113,14 +92,14 @@ module _ (n : ℕ) (links queues : List ℕ) (r : model.Row) (columns : Columns 
   pub placed : Placed r links queues
   placed =
       let lows = low (model.begins (linksOf n links queues) r) refl in
-      let highs = limits n links queues r free in
+      let highs = in-turn n links queues r free in
       record {
         links-long = columns .links-long;
         queues-long = columns .queues-long;
         link-low = lows .0;
-        link-high = highs .0;
+        link-high = highs .1;
         level-low = lows .1;
-        level-high = highs .1;
+        level-high = highs .2;
       }
 
   -- The stored row's link, before the older ones.

@@ -17,7 +17,6 @@ use Rattle.queue_table.specs.declared.Step.{Step}
 use Rattle.queue_table.specs.declared.Advance.{Advance}
 use Rattle.queue_table.specs.declared.Verdict.{Verdict}
 use Rattle.queue_table.specs.declared.Verdict.the-variants.{Accepted, Refused}
-use Rattle.queue_table.specs.declared.QueueTable.{QueueTable}
 
 abbrev pub numbersOf : Row → model.Row
 numbersOf r =

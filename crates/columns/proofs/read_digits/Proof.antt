@@ -1,12 +1,12 @@
 -- `columns::read_digits` meets its contract. The invariant: the digits passed make `n`, which has at most `i` digits, and the rest goes on from there.
 -- Assumes nothing.
 use borrow.Author.Needs.{needs}
-use Prim.Native.Nat.{ℕ, _+_, _*_, _-_, _^_, _≤_, _<_}
+use Prim.Native.Nat.{_-_, _^_, _≤_, _<_}
 use mathlib.Core.Path.{_≡_, refl, sym, _∙_, ap}
 use native.Mathlib.Nat.{pow-le-pow-right, pow-suc}
 use native.Mathlib.Omega.{arith}
 use native.Mathlib.Numerals.{add-one}
-use lib.ListN.{length, getD, drop, drop-of-length-le}
+use lib.ListN.{length, drop, drop-of-length-le}
 use lib.Dec.{lit≤}
 use Rattle.model.specs.Columns.{digits}
 use Rattle.model.specs.Laws.Columns.{digits-more, digits-low, digits-high}

@@ -20,7 +20,11 @@ check-levels-requires : tie.Need-check-levels-requires
 unfolding withinRate
 check-levels-requires c κs =
     let args = c .before .before .before .args in
-    omega (arith, c .before .before .before .pre, ltb-true (total (λ a. a .rate) (aggregatesOf (args .levels))) (1000 * args .speed) (sym (rule (c .before)) ∙ c .if1 .taken))
+    omega (
+      arith,
+      c .before .before .before .pre,
+      ltb-true (total (λ a. a .rate) (aggregatesOf (args .levels))) (1000 * args .speed) (sym (rule (c .before)) ∙ c .if1 .taken),
+    )
 
 returns : tie.Need-returns
 unfolding linkFinding rateCode orElse

@@ -24,7 +24,8 @@ long c = search (needs, length-mapped)
 -- One level more.
 more : (c : tie.In-loop Inv-loop μ-loop)
     → total (λ a. a .rate) (drop (c .before .loop .i) (aggregatesOf (c .before .before .args .t1)))
-    ≡ getD (c .before .before .args .t1) (c .before .loop .i) blank .rate .0 + total (λ a. a .rate) (drop (c .before .loop .i + 1) (aggregatesOf (c .before .before .args .t1)))
+    ≡ getD (c .before .before .args .t1) (c .before .loop .i) blank .rate .0
+    + total (λ a. a .rate) (drop (c .before .loop .i + 1) (aggregatesOf (c .before .before .args .t1)))
 more c = total-next (λ a. a .rate) (level-next (c .before .before .args .t1) (c .before .loop .i) (omega (arith, long (c .before .before))))
 
 loop-holds : tie.Need-loop-holds Inv-loop μ-loop
@@ -38,7 +39,9 @@ loop-again c = (omega arith, omega (arith, more (c .before .before .before)))
 
 returns : tie.Need-returns Inv-loop μ-loop
 unfolding total
-returns c = omega (arith, ap (total (λ a. a .rate)) (mapped-end aggregateOf (c .before .before .args .t1) (c .before .loop .i) (omega (arith, long (c .before .before)))))
+returns c =
+    let start = c .before .before in
+    omega (arith, ap (total (λ a. a .rate)) (mapped-end aggregateOf (start .args .t1) (c .before .loop .i) (omega (arith, long start))))
 
 pub rate-sum-spec : {M : Type 1} → statement M
 rate-sum-spec =

@@ -2,11 +2,11 @@
 -- The entries of all flows are the flows' own entries one after the other, so the laws of sums apply flow by flow. Assumes nothing.
 use Prim.Native.Nat.{ℕ, suc, _+_, _≤_, max}
 use mathlib.Core.Path.{_≡_, refl, ap, sym, _∙_}
-use mathlib.Core.Bool.{false}
+use mathlib.Core.Bool.{true, false}
 use mathlib.Core.List.{List, [], _∷_, _++_}
 use native.Mathlib.Omega.{arith}
 use lib.Dec.{eqb}
-use borrow.Author.Tests.{eqb-false, ne-eqb}
+use borrow.Author.Tests.{eqb-true, eqb-false, eq-eqb, ne-eqb}
 use Rattle.model.specs.Total.{total, largest}
 use Rattle.model.specs.Part.{Part}
 use Rattle.model.specs.Laws.Total.{Pairs, none, pair, total-append, largest-append, total-part, largest-part, total-zero, largest-zero}
@@ -16,8 +16,18 @@ use Rattle.model.specs.QueueTable.{Queue, Table}
 use Rattle.model.specs.Orders.{Hop, Flow}
 use Rattle.model.specs.Aggregates.{Entry, thresholdOf, queueAt, entries, allEntries, sameHop, addsAt, aggregateAt, levelAggregates}
 use Rattle.model.specs.Schedulable.{All}
-use Rattle.model.specs.Laws.Test.{or-neither}
+use Rattle.model.specs.Laws.Test.{and-both, both-and, or-neither}
 use Rattle.model.specs.Reference.{crosses}
+
+pub same-hop : (q h : Hop) → sameHop q h ≡ true → q ≡ h
+unfolding sameHop
+same-hop q h e =
+    let (link, level) = and-both (eqb (q .link) (h .link)) (eqb (q .level) (h .level)) e in
+    λ i. record { link = eqb-true (q .link) (h .link) link i; level = eqb-true (q .level) (h .level) level i }
+
+pub hop-same : (q h : Hop) → q ≡ h → sameHop q h ≡ true
+unfolding sameHop
+hop-same q h e = both-and (eq-eqb (q .link) (h .link) (ap (λ h. h .link) e)) (eq-eqb (q .level) (h .level) (ap (λ h. h .level) e))
 
 module _ (t : Table) where
   -- Flow by flow.

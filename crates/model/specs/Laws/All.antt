@@ -1,7 +1,16 @@
--- What holds of each element of lists joined, mapped or reversed, and of one of them. By induction on the list. Assumes nothing.
-use mathlib.Core.Path.{refl, subst, sym}
-use mathlib.Core.List.{List, [], _∷_, _++_, map, reverse, reverseAux, List·Memᴰ, List·Memᴰ·head, List·Memᴰ·tail}
+-- What holds of each element of lists joined, mapped, reversed or in another order, and of one of them, by membership or index.
+-- By induction on the list. Assumes nothing.
+use Prim.Native.Nat.{ℕ, zero, suc}
+use mathlib.Core.Path.{_≡_, refl, subst, sym}
+use mathlib.Core.List.{List, [], _∷_, _++_, map, reverse, reverseAux, List·Memᴰ, List·Memᴰ·head, List·Memᴰ·tail, List·Permᴰ, List·Permᴰ·nil, List·Permᴰ·cons, List·Permᴰ·swap, List·Permᴰ·trans}
+use mathlib.Core.Option.{some, Option·none-ne-some, Option·some-injective}
+use lib.ListN.{getElem?}
 use Rattle.model.specs.Schedulable.{All}
+
+pub member-at : {A : Type 0} (l : List A) (i : ℕ) {x : A} → getElem? l i ≡ some x → List·Memᴰ x l
+member-at [] i e = absurd (Option·none-ne-some _ e)
+member-at (y ∷ l) zero e = List·Memᴰ·head (sym (Option·some-injective _ _ e))
+member-at (y ∷ l) (suc i) e = List·Memᴰ·tail (member-at l i e)
 
 module _ {A : Type 0} (P : A → Type 0) where
   pub all-append : (l m : List A) → All P l → All P m → All P (l ++ m)
@@ -23,9 +32,18 @@ module _ {A : Type 0} (P : A → Type 0) where
   all-member a (List·Memᴰ·head e) = subst P (sym e) (a .0)
   all-member a (List·Memᴰ·tail m) = all-member (a .1) m
 
+  pub all-at : (l : List A) (i : ℕ) (x : A) → All P l → getElem? l i ≡ some x → P x
+  all-at l i x a e = all-member a (member-at l i e)
+
   pub member-all : (l : List A) → ((x : A) → List·Memᴰ x l → P x) → All P l
   member-all [] h = tt
   member-all (x ∷ l) h = (h x (List·Memᴰ·head refl), member-all l (λ y m. h y (List·Memᴰ·tail m)))
+
+  pub all-perm : {l m : List A} → List·Permᴰ l m → All P m → All P l
+  all-perm List·Permᴰ·nil a = tt
+  all-perm (List·Permᴰ·cons e p) a = (subst P (sym e) (a .0), all-perm p (a .1))
+  all-perm (List·Permᴰ·swap e₁ e₂) a = (subst P (sym e₁) (a .1 .0), (subst P (sym e₂) (a .0), a .1 .1))
+  all-perm (List·Permᴰ·trans p q) a = all-perm p (all-perm q a)
 
   pub map-all : {B : Type 0} (f : B → A) (l : List B) → All (λ b. P (f b)) l → All P (map f l)
   map-all f [] a = tt

@@ -1,13 +1,11 @@
 -- A queue's largest frame isn't 0 exactly when a flow has a hop there: flow by flow, hop by hop. Assumes nothing.
 use Prim.Native.Nat.{ℕ, zero, suc, _+_, _≤_, max}
-use mathlib.Core.Path.{_≡_, refl, ap, sym, subst}
-use mathlib.Core.Bool.{Bool, true, false, cond, _&&_}
+use mathlib.Core.Path.{_≡_, refl, sym, subst}
+use mathlib.Core.Bool.{Bool, true, false, cond}
 use mathlib.Core.Logic.{_⊎_, inl, inr, ⊎-elim}
 use mathlib.Core.List.{List, [], _∷_, List·Memᴰ, List·Memᴰ·head, List·Memᴰ·tail}
 use native.Mathlib.Nat.{not-suc-le-zero, le-trans, le-of-eq, le-max-left}
 use native.Mathlib.Omega.{arith}
-use lib.Dec.{eqb}
-use borrow.Author.Tests.{eqb-true, eq-eqb}
 use Rattle.model.specs.Total.{largest}
 use Rattle.model.specs.Laws.Total.{largest-append}
 use Rattle.model.specs.Formula.{Aggregate}
@@ -16,7 +14,7 @@ use Rattle.model.specs.Orders.{Hop, Flow}
 use Rattle.model.specs.Aggregates.{Entry, thresholdOf, queueAt, entries, allEntries, sameHop, addsAt, aggregateAt}
 use Rattle.model.specs.Schedulable.{All}
 use Rattle.model.specs.Laws.All.{all-member}
-use Rattle.model.specs.Laws.Test.{and-both}
+use Rattle.model.specs.Laws.Aggregates.{same-hop, hop-same}
 use Rattle.model.specs.Admissible.{Carries}
 
 one-positive : (a b : ℕ) → 1 ≤ max a b → (1 ≤ a) ⊎ (1 ≤ b)
@@ -24,18 +22,16 @@ one-positive zero b h = inr (omega arith)
 one-positive (suc a) b h = inl (omega arith)
 
 module _ (t : Table) (q : Hop) where
-  frameAt : Entry → ℕ
+  abbrev frameAt : Entry → ℕ
   frameAt = addsAt q (λ a. a .frame)
 
   -- A hop that adds something is at the queue.
   here : (h : Hop) (a : Aggregate) → 1 ≤ frameAt (record { hop = h; adds = a }) → q ≡ h
-  unfolding frameAt addsAt sameHop
-  here h a = go (eqb (q .link) (h .link) && eqb (q .level) (h .level)) refl
+  unfolding addsAt
+  here h a = go (sameHop q h) refl
     where
-      go : (b : Bool) → (eqb (q .link) (h .link) && eqb (q .level) (h .level)) ≡ b → 1 ≤ cond b (a .frame) 0 → q ≡ h
-      go true e p =
-          let (link, level) = and-both (eqb (q .link) (h .link)) (eqb (q .level) (h .level)) e in
-          λ i. record { link = eqb-true (q .link) (h .link) link i; level = eqb-true (q .level) (h .level) level i }
+      go : (b : Bool) → sameHop q h ≡ b → 1 ≤ cond b (a .frame) 0 → q ≡ h
+      go true e p = same-hop q h e
       go false e p = absurd (not-suc-le-zero p)
 
   on-path : (f : Flow) (sum : ℕ) (path : List Hop) → 1 ≤ largest frameAt (entries t f sum path) → List·Memᴰ q path
@@ -57,21 +53,20 @@ module _ (t : Table) (q : Hop) where
       (one-positive _ _ (subst (λ n. 1 ≤ n) (largest-append frameAt (entries t f 0 (f .path)) (allEntries t fs)) p))
 
   pub frame-carries : (fs : List Flow) → 1 ≤ aggregateAt t fs q .frame → Carries fs q
-  unfolding aggregateAt frameAt
+  unfolding aggregateAt
   frame-carries fs p = some-flow fs p
 
   -- A hop at the queue adds its flow's largest frame.
   there : (h : Hop) (a : Aggregate) → q ≡ h → frameAt (record { hop = h; adds = a }) ≡ a .frame
-  unfolding frameAt addsAt sameHop
-  there h a e =
-      rw (eq-eqb (q .link) (h .link) (ap (λ h. h .link) e), eq-eqb (q .level) (h .level) (ap (λ h. h .level) e))
+  unfolding addsAt
+  there h a e = rw (hop-same q h e)
 
   path-frame : (f : Flow) (sum : ℕ) {path : List Hop} → List·Memᴰ q path → f .frame ≤ largest frameAt (entries t f sum path)
   unfolding largest entries
   path-frame f sum (List·Memᴰ·head {x = h} e) = le-trans (le-of-eq (sym (there h _ e))) (le-max-left _ _)
   path-frame f sum (List·Memᴰ·tail {x = h} m) = omega (arith, path-frame f (sum + thresholdOf (queueAt t h)) m)
 
-  flow-frame : (f : Flow) {fs : List Flow} → List·Memᴰ f fs → List·Memᴰ q (f .path) → f .frame ≤ largest frameAt (allEntries t fs)
+  pub flow-frame : (f : Flow) {fs : List Flow} → List·Memᴰ f fs → List·Memᴰ q (f .path) → f .frame ≤ largest frameAt (allEntries t fs)
   unfolding largest allEntries
   flow-frame f (List·Memᴰ·head {x = g} {xs = fs} e) m =
       omega (
@@ -83,5 +78,5 @@ module _ (t : Table) (q : Hop) where
       omega (arith, flow-frame f k m, largest-append frameAt (entries t g 0 (g .path)) (allEntries t fs))
 
   pub carries-frame : (fs : List Flow) → All (λ f. 1 ≤ f .frame) fs → Carries fs q → 1 ≤ aggregateAt t fs q .frame
-  unfolding aggregateAt frameAt
+  unfolding aggregateAt
   carries-frame fs a c = le-trans (all-member (λ f. 1 ≤ f .frame) a (c .among)) (flow-frame (c .flow) (c .among) (c .hop))

@@ -1,16 +1,18 @@
 -- One step of the readers of fields and lines at a place of a list, for loops that go by an index. What is left of the list is `drop i s`.
 -- Assumes nothing.
 use Prim.Native.Nat.{ℕ, zero, suc, _+_, _-_, _*_, _/_, _%_, _≤_, _<_}
-use mathlib.Core.Path.{_≡_, refl, sym, ap, ap₂, _∙_}
-use mathlib.Core.Bool.{Bool, true, false, cond, _&&_, and-eq-true-iff}
+use mathlib.Core.Path.{_≡_, refl, sym, ap, _∙_}
+use mathlib.Core.Bool.{Bool, true, false, cond}
 use mathlib.Core.List.{List, [], _∷_, _++_, append-assoc}
-use mathlib.Core.Option.{Option, none, some}
+use mathlib.Core.Option.{none}
 use native.Mathlib.Omega.{arith}
 use native.Mathlib.Numerals.{add-one}
 use lib.ListN.{length, getD, take, drop, set, drop-of-length-le, length-take, length-drop}
-use lib.Seq.{drop-cons, take-suc, getD-drop, drop-set-lt, getD-set-same, lt-length-set}
+use lib.Seq.{drop-cons, take-suc, getD-drop}
 use lib.Dec.{leb, eqb}
 use borrow.Author.Tests.{leb-true, eqb-true, eqb-false, le-leb, lt-leb, eq-eqb, ne-eqb}
+use Rattle.model.specs.Laws.List.{drop-set}
+use Rattle.model.specs.Laws.Test.{and-both}
 use Rattle.model.specs.Columns.{isDigit, digits, number, field, padded, justified, between, Line, ended, unended, prepend, lines}
 
 of-other : (b : ℕ) (l : List ℕ) → (b ≡ 48 → ⊥) → number b l ≡ digits 0 (b ∷ l)
@@ -131,11 +133,8 @@ lines-left s at h = go (eqb (getD s at 0) 10) refl
         (l, more, lines-more s at h (eqb-false (getD s at 0) 10 e) ∙ q)
 
 -- A byte stored at `k` joins what stands before it.
-drop-set : (xs : List ℕ) (l : List ℕ) (k d : ℕ) → k < length l → xs ++ drop k (set l k d) ≡ (xs ++ (d ∷ [])) ++ drop (suc k) l
-drop-set xs l k d h =
-    ap (λ (t : List ℕ). xs ++ t)
-    (drop-cons (set l k d) k 0 (lt-length-set l k d h) ∙ ap₂ (λ (a : ℕ) (t : List ℕ). a ∷ t) (getD-set-same l k d 0 h) (drop-set-lt (suc k) l k d (omega arith)))
-    ∙ sym (append-assoc xs (d ∷ []) (drop (suc k) l))
+stored : (xs : List ℕ) (l : List ℕ) (k d : ℕ) → k < length l → xs ++ drop k (set l k d) ≡ (xs ++ (d ∷ [])) ++ drop (suc k) l
+stored xs l k d h = ap (λ (t : List ℕ). xs ++ t) (drop-set l k d h) ∙ sym (append-assoc xs (d ∷ []) (drop (suc k) l))
 
 -- The writer's step: the column before the filled ones gets the last digit of what is left.
 pub padded-step : (at rest : ℕ) (l : List ℕ) → 0 < at → at ≤ length l
@@ -144,7 +143,7 @@ unfolding padded
 padded-step zero rest l pos h = absurd (omega arith)
 padded-step (suc k) rest l pos h =
     let e : suc k - 1 ≡ k = omega arith in
-    rw e (drop-set (padded k (rest / 10)) l k (cond (eqb rest 0) 32 (48 + rest % 10)) h)
+    rw e (stored (padded k (rest / 10)) l k (cond (eqb rest 0) 32 (48 + rest % 10)) h)
 
 -- The writer's first step, which always writes a digit.
 pub justified-step : (width n : ℕ) (l : List ℕ) → 1 ≤ width → width ≤ length l
@@ -153,7 +152,7 @@ unfolding justified
 justified-step zero n l pos h = absurd (omega arith)
 justified-step (suc k) n l pos h =
     let e : suc k - 1 ≡ k = omega arith in
-    rw e (drop-set (padded k (n / 10)) l k (48 + n % 10) h)
+    rw e (stored (padded k (n / 10)) l k (48 + n % 10) h)
 
 pub padded-done : (at rest : ℕ) (l : List ℕ) → at ≤ 0 → padded at rest ++ drop at l ≡ l
 unfolding padded
@@ -163,5 +162,5 @@ padded-done (suc k) rest l h = absurd (omega arith)
 pub between-true : (low high n : ℕ) → between low high n ≡ true → (low ≤ n) × (n ≤ high)
 unfolding between
 between-true low high n e =
-    let both = and-eq-true-iff (leb low n) (leb n high) .0 e in
-    (leb-true low n (both .0), leb-true n high (both .1))
+    let (a, b) = and-both (leb low n) (leb n high) e in
+    (leb-true low n a, leb-true n high b)

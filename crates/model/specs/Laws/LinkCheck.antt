@@ -2,13 +2,14 @@
 -- By induction on the levels, for any number of them. Assumes nothing.
 use Prim.Native.Nat.{ℕ, suc, _+_, _*_, _≤_, _<_}
 use mathlib.Core.Path.{_≡_, refl}
-use mathlib.Core.Bool.{Bool, true, false, cond, true≢false}
+use mathlib.Core.Bool.{Bool, true, false, cond}
 use mathlib.Core.List.{List, [], _∷_}
 use native.Mathlib.Nat.{le-trans}
 use native.Mathlib.Omega.{arith}
 use lib.Dec.{leb, eqb}
 use borrow.Author.Tests.{eqb-true, eqb-false, leb-true, le-leb, ltb-true, lt-ltb, ne-eqb, eq-eqb}
 use Rattle.model.specs.Total.{total}
+use Rattle.model.specs.Laws.Test.{cond-at-most, cond-zero}
 use Rattle.model.specs.Laws.Total.{Pairs, none, pair}
 use Rattle.model.specs.Formula.{Aggregate, withinRate, delay, backlog}
 use Rattle.model.specs.Laws.Formula.{AtMost, rate-mono, delay-mono, backlog-mono}
@@ -28,10 +29,9 @@ LevelsMeet speed above (q ∷ qs) (a ∷ below) = LevelMeets speed q above a bel
 
 -- What a level's code says of its three tests: empty, delay, backlog.
 code-tests : (e d b : Bool) → _≡_ {A = ℕ} (cond e 0 (cond d (cond b 0 23) 22)) 0 → e ≡ false → (d ≡ true) × (b ≡ true)
-code-tests true d b z e = absurd (true≢false e)
-code-tests false true true z e = (refl, refl)
-code-tests false true false z e = absurd (omega arith)
-code-tests false false b z e = absurd (omega arith)
+code-tests e d b z full =
+    let (delay, z′) = cond-zero d (omega arith) (rw full at z) in
+    (delay, cond-zero b (omega arith) z′ .0)
 
 tests-code : (e d b : Bool) → (e ≡ false → (d ≡ true) × (b ≡ true)) → _≡_ {A = ℕ} (cond e 0 (cond d (cond b 0 23) 22)) 0
 tests-code true d b h = refl
@@ -71,10 +71,6 @@ zero-orElse : (a b : Finding) → a .code ≡ 0 → b .code ≡ 0 → orElse a b
 unfolding orElse
 zero-orElse a b ha hb = rw (eq-eqb _ _ ha) hb
 
-rate-test : (b : Bool) → _≡_ {A = ℕ} (cond b 0 21) 0 → b ≡ true
-rate-test true z = refl
-rate-test false z = absurd (omega arith)
-
 module _ (speed : ℕ) where
   pub levels-meet : (n : ℕ) (above : List Aggregate) (qs : List Queue) (own : List Aggregate)
       → levelsFinding speed n above qs own .code ≡ 0
@@ -99,7 +95,7 @@ module _ (speed : ℕ) where
       → (total (λ a. a .rate) levels < 1000 * speed) × LevelsMeet speed [] qs levels
   unfolding linkFinding rateCode withinRate
   link-meets qs levels e =
-      (ltb-true _ _ (rate-test _ (orElse-zero _ _ e .0)), levels-meet 1 [] qs levels (orElse-zero _ _ e .1))
+      (ltb-true _ _ (cond-zero _ (omega arith) (orElse-zero _ _ e .0) .0), levels-meet 1 [] qs levels (orElse-zero _ _ e .1))
 
   pub meets-link : (qs : List Queue) (levels : List Aggregate) → total (λ a. a .rate) levels < 1000 * speed → LevelsMeet speed [] qs levels
       → linkFinding speed qs levels .code ≡ 0
@@ -139,17 +135,13 @@ orElse-at-most a b ha hb = go (eqb (a .code) 0)
     go true = hb
     go false = ha
 
-tests-at-most : (e d b : Bool) → cond e 0 (cond d (cond b 0 23) 22) ≤ 23
-tests-at-most true d b = omega arith
-tests-at-most false true true = omega arith
-tests-at-most false true false = omega arith
-tests-at-most false false b = omega arith
-
 level-at-most : (speed : ℕ) (q : Queue) (above : List Aggregate) (own : Aggregate) (below : List Aggregate)
     → levelCode speed q above own below ≤ 23
 unfolding levelCode
 level-at-most speed q above own below =
-    tests-at-most (isEmpty own) (leb (delay speed above own below) (q .threshold)) (leb (backlog speed above own below) (q .buffer))
+    cond-at-most (isEmpty own) (omega arith)
+    (cond-at-most (leb (delay speed above own below) (q .threshold))
+    (cond-at-most (leb (backlog speed above own below) (q .buffer)) (omega arith) (omega arith)) (omega arith))
 
 levels-at-most : (speed n : ℕ) (above : List Aggregate) (qs : List Queue) (own : List Aggregate)
     → levelsFinding speed n above qs own .code ≤ 23
@@ -163,15 +155,11 @@ levels-at-most speed n above (q ∷ qs) (a ∷ below) =
     (level-at-most speed q above a below)
     (levels-at-most speed (suc n) (a ∷ above) qs below)
 
-rate-at-most : (b : Bool) → cond b 0 21 ≤ 23
-rate-at-most true = omega arith
-rate-at-most false = omega arith
-
 pub code-at-most : (speed : ℕ) (qs : List Queue) (levels : List Aggregate) → linkFinding speed qs levels .code ≤ 23
 unfolding linkFinding rateCode
 code-at-most speed qs levels =
     orElse-at-most
     (record { code = rateCode speed levels; level = 0 })
     (levelsFinding speed 1 [] qs levels)
-    (rate-at-most (withinRate speed (total (λ a. a .rate) levels)))
+    (cond-at-most (withinRate speed (total (λ a. a .rate) levels)) (omega arith) (omega arith))
     (levels-at-most speed 1 [] qs levels)

@@ -1,5 +1,5 @@
 -- A link that meets 21 to 23 still does with a part of the flows, and with a flow more that doesn't cross it. No finding along a path says that
--- each of its links meets them. By the monotone bounds of LinkCheckLaws. Assumes nothing.
+-- each of its links meets them. By the monotone bounds of Laws/LinkCheck. Assumes nothing.
 use Prim.Native.Nat.{ℕ, _≤_}
 use mathlib.Core.Path.{_≡_, refl}
 use mathlib.Core.Bool.{Bool, true, false, cond}

@@ -1,6 +1,6 @@
 -- A link walked level by level with running sums: a level's code depends on the levels above and below by their sums and largest frame
 -- alone, so a loop may carry those; and a link padded with empty levels, which change nothing. For any number of levels. Assumes nothing.
-use Prim.Native.Nat.{ℕ, zero, suc, _+_, max, _≤_, _<_}
+use Prim.Native.Nat.{ℕ, zero, suc, _+_, _≤_, _<_}
 use mathlib.Core.Path.{_≡_, refl, sym, ap, ap₂, _∙_}
 use mathlib.Core.Bool.{cond}
 use mathlib.Core.List.{List, [], _∷_, _++_}
@@ -90,7 +90,8 @@ module _ {speed : ℕ} {queues : List Queue} {levels : List Aggregate} {i : ℕ}
     passed-level =
         let low : Aggregate = record { rate = 0; burst = 0; frame = largest (λ a. a .frame) (drop (i + 1) levels) } in
         let code : levelCode speed q (p .above) own (drop (i + 1) levels) ≡ levelCode speed q (sum ∷ []) own (low ∷ [])
-        = levelCode-same speed q own (p .above) (sum ∷ []) (drop (i + 1) levels) (low ∷ []) (p .rate ∙ sym (add-zero _)) (p .burst ∙ sym (add-zero _)) (sym (max-zero _)) in
+        = levelCode-same speed q own (p .above) (sum ∷ []) (drop (i + 1) levels) (low ∷ [])
+        (p .rate ∙ sym (add-zero _)) (p .burst ∙ sym (add-zero _)) (sym (max-zero _)) in
         let rest = levelsFinding speed (suc (i + 1)) (own ∷ p .above) (drop (i + 1) queues) (drop (i + 1) levels) in
         p .same
         ∙ ap₂ (levelsFinding speed (i + 1) (p .above)) q-next own-next

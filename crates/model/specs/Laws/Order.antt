@@ -9,11 +9,11 @@ use mathlib.Core.Option.{Option, none, some, Option·none-ne-some, Option·some-
 use lib.ListN.{length, drop}
 use lib.Dec.{eqb}
 use borrow.Author.Tests.{eqb-true}
-use Rattle.model.specs.Columns.{Line, ended, unended, lines, fieldAt, andThen}
+use Rattle.model.specs.Columns.{Line, ended, unended, lines, fieldAt}
 use Rattle.model.specs.Orders.{Hop, Order, register, release, rejected, Head, headFields, hopField, hopFields, pathFields, numberInRange, hopsInRange, headInRange, flowOf, withPath, registration, registrationOf, releaseOf, releaseLine, orderOfKind, readOrder}
 use Rattle.model.specs.Reference.{Call, kindNumber, lineOfKind, onlyLine, callOrder}
 use Rattle.model.specs.Consistent.{headOf, flowInRange}
-use Rattle.model.specs.Laws.Test.{both-and}
+use Rattle.model.specs.Laws.Test.{both-and, and-then}
 
 -- What a line of this kind can say.
 abbrev pub Readable : (kind : ℕ) → Order → Type 0
@@ -24,11 +24,6 @@ Readable kind (rejected code) = (code ≡ 10) ⊎ (code ≡ 11)
 either : (kind : ℕ) (b : Bool) (x y : Order) → (b ≡ true → Readable kind x) → Readable kind y → Readable kind (cond b x y)
 either kind true x y h k = h refl
 either kind false x y h k = k
-
--- What was read before going on.
-pub and-then : {A B : Type 0} (o : Option A) (f : A → Option B) {b : B} → andThen o f ≡ some b → (a : A) × (o ≡ some a) × (f a ≡ some b)
-and-then none f e = absurd (Option·none-ne-some _ e)
-and-then (some a) f e = (a, refl, e)
 
 hops-counted : (n : ℕ) (bytes : List ℕ) (path : List Hop) → hopFields n bytes ≡ some path → length path ≡ n
 unfolding hopFields

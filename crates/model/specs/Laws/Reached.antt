@@ -64,15 +64,15 @@ register-keeps s f range m r =
     record {
       table = r .table;
       size = length-set (s .slots) (firstIndex isNone (s .slots)) (some f) ∙ r .size;
-      flows = flows-part (s .table) (fill-part f (s .slots) (slot-free (s .slots) f (m .room))) more;
+      flows = flows-part (s .table) (fill-part f (s .slots) (slot-free (s .slots) f (m .others .room))) more;
     }
   where
     new : FlowRules (s .table) (f ∷ heldFlows (s .slots)) f
     new =
         record {
           range = range;
-          number = rw (eq-eqb (f .number) (f .number) refl) (omega (arith, number-new (heldFlows (s .slots)) f (m .number)));
-          line = m .line;
+          number = rw (eq-eqb (f .number) (f .number) refl) (omega (arith, number-new (heldFlows (s .slots)) f (m .others .number)));
+          line = m .others .line;
           deadline = m .deadline;
           links = findings-meet (s .table) (f ∷ heldFlows (s .slots)) (f .path) (m .links);
         }
@@ -84,9 +84,9 @@ register-keeps s f range m r =
         f
         (heldFlows (s .slots))
         (r .flows)
-        (omega (arith, not-all-held (s .slots) (slot-free (s .slots) f (m .room)), r .size))
-        (hops-free (s .slots) f (m .room))
-        (number-new (heldFlows (s .slots)) f (m .number))
+        (omega (arith, not-all-held (s .slots) (slot-free (s .slots) f (m .others .room)), r .size))
+        (hops-free (s .slots) f (m .others .room))
+        (number-new (heldFlows (s .slots)) f (m .others .number))
         new
 
 clear-keeps : (s : State) (i : ℕ) → StateRules s → StateRules (fill s i none .next)

@@ -14,7 +14,7 @@ use Rattle.model.specs.Orders.{Flow, Order, register, release, rejected}
 use Rattle.model.specs.Schedulable.{All}
 use Rattle.model.specs.Reference.{Slot, State, Cause, heldFlows, heldHops, withNumber, hopEntries, isNone, isHeld, every, holds, firstIndex, firstCause, whole, numberFinding, lineFindings, deadlineFinding, roomFindings, linkFindings, registerFindings, findings, refuse, fill, perform, decide, apply}
 use Rattle.model.specs.Laws.All.{all-append, append-all}
-use Rattle.model.specs.Outcomes.{NoneApplies, Refused, Replaced, Admitted, Released}
+use Rattle.model.specs.Outcomes.{NoneApplies, NoneOthers, Refused, Replaced, Admitted, Released}
 use Rattle.model.specs.Laws.Finding.{first-listed, none-applies, applies-none, Coded, whole-coded, hop-coded, first-coded, whole-none, is-none}
 use Rattle.model.specs.Laws.LinkMeets.{findings-coded}
 use Rattle.model.specs.Laws.Slot.{index-below, index-found, index-first, number-found}
@@ -79,10 +79,8 @@ no-cause s o kind r z = go (firstCause (findings s o)) refl (first-coded (λ n. 
 
 -- No cause against a registration, group by group.
 pub record RegisterRules (s : State) (f : Flow) : Type 0 where
-  pub number : numberFinding (heldFlows (s .slots)) f ≡ none
-  pub line : NoneApplies (lineFindings (s .table) f)
+  pub others : NoneOthers s f
   pub deadline : deadlineFinding (s .table) f ≡ none
-  pub room : NoneApplies (roomFindings (s .slots) f)
   pub links : NoneApplies (linkFindings (s .table) (f ∷ heldFlows (s .slots)) (f .path))
 
 module _ (s : State) (f : Flow) where
@@ -94,13 +92,13 @@ module _ (s : State) (f : Flow) where
   register-rules a =
       let (before, links) = append-all (λ x. x ≡ none) (front ++ deadlineFinding (s .table) f ∷ roomFindings (s .slots) f) _ a in
       let (early, late) = append-all (λ x. x ≡ none) front _ before in
-      record { number = early .0; line = early .1; deadline = late .0; room = late .1; links = links }
+      record { others = record { number = early .0; line = early .1; room = late .1 }; deadline = late .0; links = links }
 
   pub rules-register : RegisterRules s f → NoneApplies (registerFindings s f)
   unfolding registerFindings front
   rules-register r =
       all-append (λ x. x ≡ none) (front ++ deadlineFinding (s .table) f ∷ roomFindings (s .slots) f) _
-      (all-append (λ x. x ≡ none) front _ (r .number, r .line) (r .deadline, r .room))
+      (all-append (λ x. x ≡ none) front _ (r .others .number, r .others .line) (r .deadline, r .others .room))
       (r .links)
 
 -- 12: no held flow has the number. 30: a slot is free. 31: the hop entries suffice.
@@ -131,7 +129,7 @@ replaced s i contents h =
 admitted : (s : State) (f : Flow) → RegisterRules s f → Admitted s f (perform s (register f))
 unfolding perform fill isHeld isNone
 admitted s f r =
-    let h : firstIndex isNone (s .slots) < length (s .slots) = index-below isNone (s .slots) (slot-free (s .slots) f (r .room)) in
+    let h : firstIndex isNone (s .slots) < length (s .slots) = index-below isNone (s .slots) (slot-free (s .slots) f (r .others .room)) in
     record {
       index = firstIndex isNone (s .slots);
       free = is-none _ (index-found isNone none (s .slots) h);

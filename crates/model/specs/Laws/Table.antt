@@ -13,7 +13,7 @@ use Rattle.model.specs.QueueTable.{Link, Row, row, rowInRange, continues
 use Rattle.model.specs.Schedulable.{All}
 use Rattle.model.specs.Reference.{every, tableOf}
 use Rattle.model.specs.Consistent.{rowOf, linkConsistent, tableConsistent}
-use Rattle.model.specs.Laws.Test.{and-both, both-and, or-left, or-right, every-all, all-every}
+use Rattle.model.specs.Laws.Test.{and-both, both-and, or-left, or-right, cond-zero, every-all, all-every}
 use Rattle.model.specs.Laws.All.{all-append, all-imp, reverse-all}
 
 -- What a consistent link meets, rule by rule.
@@ -39,17 +39,20 @@ pub record RowRules (ls : List Link) (r : Row) : Type 0 where
   pub turn : rowInTurn ls r ≡ true
   pub agrees : rowAgrees ls r ≡ true
 
-no-cause : (a b c : Bool) → _≡_ {A = ℕ} (cond a (cond b (cond c 0 4) 3) 2) 0 → (a ≡ true) × (b ≡ true) × (c ≡ true)
-no-cause true true true z = (refl, refl, refl)
-no-cause true true false z = absurd (omega arith)
-no-cause true false c z = absurd (omega arith)
-no-cause false b c z = absurd (omega arith)
-
-row-rules : (ls : List Link) (r : Row) → rowCause ls r ≡ 0 → RowRules ls r
+pub row-rules : (ls : List Link) (r : Row) → rowCause ls r ≡ 0 → RowRules ls r
 unfolding rowCause
 row-rules ls r z =
-    let (a, b, c) = no-cause (rowInRange r) (rowInTurn ls r) (rowAgrees ls r) z in
-    record { range = a; turn = b; agrees = c }
+    let (range, z₁) = cond-zero (rowInRange r) (omega arith) z in
+    let (turn, z₂) = cond-zero (rowInTurn ls r) (omega arith) z₁ in
+    record { range = range; turn = turn; agrees = cond-zero (rowAgrees ls r) (omega arith) z₂ .0 }
+
+-- 3: it goes on with a link or begins one, within the limits.
+pub row-turn : (ls : List Link) (r : Row) → RowRules ls r → ((continues ls r || begins ls r) ≡ true) × (r .link ≤ 64) × (r .level ≤ 8)
+unfolding rowInTurn
+row-turn ls r m =
+    let (e, level) = and-both ((continues ls r || begins ls r) && leb (r .link) 64) _ (m .turn) in
+    let (e′, link) = and-both (continues ls r || begins ls r) _ e in
+    (e′, leb-true _ _ link, leb-true _ _ level)
 
 -- The links read so far.
 pub record LinksRules (ls : List Link) : Type 0 where
@@ -80,15 +83,12 @@ one-more l r m range level high from to speed =
     }
 
 add-row : (ls : List Link) (r : Row) → LinksRules ls → RowRules ls r → LinksRules (addRow ls r)
-unfolding addRow rowInTurn begins continues rowAgrees sameLink
+unfolding addRow begins continues rowAgrees sameLink
 add-row [] r m n = record { each = (new-link [] r n, tt); count = omega arith }
 add-row (l ∷ ls) r m n = go (begins (l ∷ ls) r) refl
   where
     turn : ((continues (l ∷ ls) r || begins (l ∷ ls) r) ≡ true) × (r .link ≤ 64) × (r .level ≤ 8)
-    turn =
-        let (e, level) = and-both ((continues (l ∷ ls) r || begins (l ∷ ls) r) && leb (r .link) 64) _ (n .turn) in
-        let (e′, link) = and-both (continues (l ∷ ls) r || begins (l ∷ ls) r) _ e in
-        (e′, leb-true _ _ link, leb-true _ _ level)
+    turn = row-turn (l ∷ ls) r n
 
     begun : begins (l ∷ ls) r ≡ true → r .link ≡ suc (length (l ∷ ls))
     begun e = eqb-true _ _ (and-both (eqb (r .link) (suc (length (l ∷ ls)))) _ e .0)

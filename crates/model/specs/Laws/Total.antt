@@ -1,15 +1,17 @@
--- Laws of sums and largest values over any element type and measure: of two lists joined, of a part, of lists compared element by element.
--- Each is an induction on the list or on how the part was taken. Assumes nothing.
-use Prim.Native.Nat.{ℕ, zero, suc, _+_, _≤_, max, zero-le}
-use mathlib.Core.Path.{_≡_, refl, sym, ap}
-use mathlib.Core.List.{List, [], _∷_, _++_, reverse, reverseAux}
+-- Laws of sums and largest values over any element type and measure: of lists joined, mapped, in another order or with an element replaced,
+-- of a part, of one element, of lists or measures compared element by element. Each is an induction. Assumes nothing.
+use Prim.Native.Nat.{ℕ, zero, suc, _+_, _*_, _≤_, _<_, max, zero-le}
+use mathlib.Core.Path.{_≡_, refl, sym, ap, fun-ext, _∙_}
+use mathlib.Core.Bool.{Bool, true, false, cond}
+use mathlib.Core.List.{List, [], _∷_, _++_, map, reverse, reverseAux, List·Permᴰ, List·Permᴰ·nil, List·Permᴰ·cons, List·Permᴰ·swap, List·Permᴰ·trans}
 use native.Mathlib.Nat.{le-trans, zero-add}
-use lib.ListN.{length, drop}
+use lib.ListN.{length, getD, set, drop}
 use lib.Seq.{drop-nil}
 use native.Mathlib.Omega.{arith}
 use Rattle.model.specs.Total.{total, largest}
 use Rattle.model.specs.Part.{Part, empty, skip, keep, swap, both}
 use Rattle.model.specs.Schedulable.{All}
+use Rattle.model.specs.Laws.All.{member-all}
 
 -- Two lists compared element by element.
 pub data Pairs {A : Type 0} (R : A → A → Type 0) : List A → List A → Type 0 where
@@ -43,6 +45,26 @@ module _ {A : Type 0} where
   pub total-next : (f : A → ℕ) {l : List A} {x : A} {rest : List A} → l ≡ x ∷ rest → total f l ≡ f x + total f rest
   unfolding total
   total-next f e = ap (total f) e
+
+  pub total-add : (f g : A → ℕ) (l : List A) → total (λ x. f x + g x) l ≡ total f l + total g l
+  unfolding total
+  total-add f g [] = refl
+  total-add f g (x ∷ l) = omega (arith, total-add f g l)
+
+  pub total-ext : (f g : A → ℕ) (l : List A) → ((x : A) → f x ≡ g x) → total f l ≡ total g l
+  total-ext f g l h = ap (λ k. total k l) (fun-ext h)
+
+  pub total-map : {B : Type 0} (g : B → A) (f : A → ℕ) (l : List B) → total f (map g l) ≡ total (λ x. f (g x)) l
+  unfolding total
+  total-map g f [] = refl
+  total-map g f (x ∷ l) = omega (arith, total-map g f l)
+
+  pub total-perm : (f : A → ℕ) {l m : List A} → List·Permᴰ l m → total f l ≡ total f m
+  unfolding total
+  total-perm f List·Permᴰ·nil = refl
+  total-perm f (List·Permᴰ·cons e p) = omega (arith, ap f e, total-perm f p)
+  total-perm f (List·Permᴰ·swap e₁ e₂) = omega (arith, ap f e₁, ap f e₂)
+  total-perm f (List·Permᴰ·trans p q) = total-perm f p ∙ total-perm f q
 
   total-reverseAux : (f : A → ℕ) (l m : List A) → total f (reverseAux l m) ≡ total f l + total f m
   unfolding total
@@ -90,10 +112,53 @@ module _ {A : Type 0} where
   total-zero f [] z = refl
   total-zero f (x ∷ l) z = omega (arith, z .0, total-zero f l (z .1))
 
+  pub total-zeros : (l : List A) → total (λ x. 0) l ≡ 0
+  total-zeros l = total-zero (λ x. 0) l (member-all (λ x. _≡_ {A = ℕ} 0 0) l (λ x m. refl))
+
+  pub total-cond : (b : Bool) (f : A → ℕ) (l : List A) → total (λ x. cond b (f x) 0) l ≡ cond b (total f l) 0
+  total-cond true f l = refl
+  total-cond false f l = total-zeros l
+
   pub largest-zero : (f : A → ℕ) (l : List A) → All (λ x. f x ≡ 0) l → largest f l ≡ 0
   unfolding largest
   largest-zero f [] z = refl
   largest-zero f (x ∷ l) z = omega (arith, z .0, largest-zero f l (z .1))
+
+  -- Two measures compared where the elements have a property.
+  pub total-each : (P : A → Type 0) (f g : A → ℕ) (l : List A) → ((x : A) → P x → f x ≤ g x) → All P l → total f l ≤ total g l
+  unfolding total
+  total-each P f g [] h a = zero-le
+  total-each P f g (x ∷ l) h a = omega (arith, h x (a .0), total-each P f g l h (a .1))
+
+  -- A bound for each element.
+  pub total-le : (f : A → ℕ) (k : ℕ) (l : List A) → All (λ x. f x ≤ k) l → total f l ≤ length l * k
+  unfolding total
+  total-le f k [] a = zero-le
+  total-le f k (x ∷ l) a = omega (arith, a .0, total-le f k l (a .1))
+
+  pub largest-le : (f : A → ℕ) (k : ℕ) (l : List A) → All (λ x. f x ≤ k) l → largest f l ≤ k
+  unfolding largest
+  largest-le f k [] a = zero-le
+  largest-le f k (x ∷ l) a = omega (arith, a .0, largest-le f k l (a .1))
+
+  -- One element, by its index.
+  pub total-getD : (f : A → ℕ) (l : List A) (i : ℕ) (d : A) → i < length l → f (getD l i d) ≤ total f l
+  unfolding total
+  total-getD f [] i d h = absurd (omega arith)
+  total-getD f (x ∷ l) zero d h = omega arith
+  total-getD f (x ∷ l) (suc i) d h = omega (arith, total-getD f l i d (omega arith))
+
+  pub getD-largest : (f : A → ℕ) (l : List A) (i : ℕ) (d : A) → i < length l → f (getD l i d) ≤ largest f l
+  unfolding largest
+  getD-largest f [] i d h = absurd (omega arith)
+  getD-largest f (x ∷ l) zero d h = omega arith
+  getD-largest f (x ∷ l) (suc i) d h = omega (arith, getD-largest f l i d (omega arith))
+
+  pub total-set : (f : A → ℕ) (l : List A) (i : ℕ) (x d : A) → i < length l → total f (set l i x) + f (getD l i d) ≡ total f l + f x
+  unfolding total
+  total-set f [] i x d h = absurd (omega arith)
+  total-set f (y ∷ l) zero x d h = omega arith
+  total-set f (y ∷ l) (suc i) x d h = omega (arith, total-set f l i x d (omega arith))
 
   module _ (R : A → A → Type 0) (f : A → ℕ) (mono : (x y : A) → R x y → f x ≤ f y) where
     pub total-mono : {l m : List A} → Pairs R l m → total f l ≤ total f m

@@ -5,7 +5,7 @@ use mathlib.Core.Path.{_≡_, refl}
 use mathlib.Core.Bool.{Bool, true, false, cond}
 use native.Mathlib.Omega.{arith}
 use Rattle.model.specs.Run.{window}
-use Rattle.model.specs.Run.Sums.{window-mono, window-add, window-zero}
+use Rattle.model.specs.Run.Windows.{window-mono, window-add, window-zero}
 
 abbrev pub Curve : (h burst rate : ℕ) → (ℕ → ℕ) → Type 0
 Curve h burst rate arrivals = (s n : ℕ) → s + n ≤ h → 8000 * window arrivals s (suc n) ≤ 8000 * burst + rate * n

@@ -1,41 +1,23 @@
 -- The arithmetic of the formulas: burst at a hop, delay and backlog with their quotients multiplied out, and the sums that the two bounds rest on.
 -- A bound holds whatever the instants are, as the rate of the level is at most what the levels above leave. Assumes nothing.
 use Prim.Native.Nat.{ℕ, suc, _+_, _*_, _-_, _≤_, _<_}
-use mathlib.Core.Path.{_≡_, refl, sym, ap}
-use mathlib.Core.Bool.{Bool, true, false}
+use mathlib.Core.Path.{_≡_, sym, ap}
 use native.Mathlib.Omega.{arith}
-use native.Mathlib.Nat.{mul-le-mul-right, lt-div-mul-add, le-div-iff-mul-le}
-use lib.Dec.{leb}
-use borrow.Author.Tests.{leb-true, leb-false}
-use Rattle.model.specs.Formula.{ceilDiv, burstAtHop, residual, delayBound, backlogBound}
-
--- The quotient rounded up is the least number that is large enough.
-ceil-above : (a b : ℕ) → 0 < b → a ≤ ceilDiv a b * b
-unfolding ceilDiv
-ceil-above a b h = omega (arith, lt-div-mul-add {a = a + (b - 1)} {b = b} h)
-
-ceil-least : (k a b : ℕ) → 0 < b → k * b ≤ a → k ≤ ceilDiv a b
-unfolding ceilDiv
-ceil-least k a b h u = le-div-iff-mul-le {k = b} {x = k} {y = a + (b - 1)} h .1 (omega arith)
+use native.Mathlib.Nat.{mul-le-mul-right, le-of-mul-le-mul-right, le-refl}
+use Rattle.model.specs.Formula.{burstAtHop, residual, delayBound, backlogBound}
+use Rattle.model.specs.Laws.Formula.{le-ceilDiv}
 
 pub burst-covers : (rate burst sum : ℕ) → 8000 * burst + rate * sum ≤ 8000 * burstAtHop rate burst sum
 unfolding burstAtHop
-burst-covers r b s = omega (arith, ceil-above (r * s) 8000 (omega arith))
+burst-covers r b s = omega (arith, le-ceilDiv (r * s) 8000 _ (omega arith) (le-refl _))
 
 delay-covers : (y burst res threshold : ℕ) → 0 < res → delayBound y burst res ≤ threshold → 8000 * (y + burst) ≤ threshold * res
 unfolding delayBound
-delay-covers y b res t h u = omega (arith, ceil-above (8000 * (y + b)) res h, mul-le-mul-right res u)
+delay-covers y b res t h u = omega (arith, le-ceilDiv (8000 * (y + b)) res t h u)
 
 backlog-covers : (q rate burst y res : ℕ) → 0 < res → q * res ≤ burst * res + rate * y → q ≤ backlogBound rate burst y res
 unfolding backlogBound
-backlog-covers q r b y res h u = go (leb q b) refl
-  where
-    go : (t : Bool) → leb q b ≡ t → q ≤ b + ceilDiv (r * y) res
-    go true e = omega (arith, leb-true q b e)
-    go false e =
-        let d : q ≡ b + (q - b) = omega (arith, leb-false q b e) in
-        let k : q * res ≡ (b + (q - b)) * res = ap (λ i. i * res) d in
-        omega (arith, ceil-least (q - b) (r * y) res h (omega arith))
+backlog-covers q r b y res h u = le-of-mul-le-mul-right (omega (arith, le-ceilDiv (r * y) res _ h (le-refl _))) h
 
 residual-is : (speed above : ℕ) → above < 1000 * speed → residual speed above + above ≡ 1000 * speed
 unfolding residual

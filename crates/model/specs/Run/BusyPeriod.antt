@@ -13,7 +13,7 @@ use borrow.Author.Tests.{leb-true, leb-false, lt-leb}
 use Rattle.model.specs.QueueTable.{Link}
 use Rattle.model.specs.Schedulable.{All}
 use Rattle.model.specs.Run.{Frame, LinkState, interval, enter, emptyLink, window}
-use Rattle.model.specs.Run.Sums.{all-map}
+use Rattle.model.specs.Laws.All.{all-imp}
 use Rattle.model.specs.Run.OneLink.{Long, held, empty-held, Each, OnWire, Rising, append-waiting, enter-held, interval-held, held-le}
 use Rattle.model.specs.Run.EachFrame.{enter-each, each-up, enter-rising, interval-rising, empty-rising}
 use Rattle.model.specs.Run.Workload.{wireBits, whole, unsent, interval-unsent, WireFits, interval-fits, quiet-unsent}
@@ -58,13 +58,13 @@ Gone q a t l = (a < t) × (held (own (suc q) a) l ≡ 0)
 module _ {speed h : ℕ} {largest : ℕ → ℕ} {before after : ℕ → LinkState} {new : (x level : ℕ) → List Frame}
     (s : Served speed h largest before after new) where
   came : (x : ℕ) → x ≤ h → (n : ℕ) → All (λ f. f .since ≡ x) (new x n)
-  came x u n = all-map (λ f. Sound largest x n f × (f .since ≡ x)) (λ f. f .since ≡ x) (new x n) (λ f k. k .1) (s .news x u n)
+  came x u n = all-imp (new x n) (λ f k. k .1) (s .news x u n)
 
   pub after-each : (x : ℕ) → x ≤ h → Each (Sound largest x) (after x)
   after-each x u =
       rw (s .enters x)
       (enter-each (Sound largest x) (new x) (before x)
-      (λ n. all-map (λ f. Sound largest x n f × (f .since ≡ x)) (Sound largest x n) (new x n) (λ f k. k .0) (s .news x u n))
+      (λ n. all-imp (new x n) (λ f k. k .0) (s .news x u n))
       (s .frames x u .wire)
       (s .frames x u .levels))
 
@@ -147,9 +147,6 @@ module _ {speed h : ℕ} {largest : ℕ → ℕ} {before after : ℕ → LinkSta
           e : before (suc x) ≡ l
           e = s .serves x
 
-          at : (g : ℕ → ℕ) → g (b .first + b .count) ≡ g x
-          at g = ap g (b .ends)
-
           late : held (whole (suc q) a) l ≡ 0 → (t : Bool) → leb (suc x) a ≡ t →
               Busy new speed q a blocking (suc x) (before (suc x)) ⊎ Gone q a (suc x) (before (suc x))
           late z true t = inl (quiet (suc x) u (leb-true (suc x) a t) (rw e z))
@@ -166,8 +163,8 @@ module _ {speed h : ℕ} {largest : ℕ → ℕ} {before after : ℕ → LinkSta
                 count = suc (b .count);
                 ends = omega (arith, b .ends);
                 early = b .early;
-                load = rw e (omega (arith, w, b .load, after-load x (omega arith), at (λ y. above new q y + upTo new q a y)));
-                level = rw e (omega (arith, interval-held (own (suc q) a) speed (after x), after-level x (omega arith), b .level, at (upTo new q a)));
+                load = rw e (omega (arith, w, b .load, after-load x (omega arith), ap (λ y. above new q y + upTo new q a y) (b .ends)));
+                level = rw e (omega (arith, interval-held (own (suc q) a) speed (after x), after-level x (omega arith), b .level, ap (upTo new q a) (b .ends)));
               })
 
       pub busy : (x : ℕ) → x ≤ h → Busy new speed q a blocking x (before x) ⊎ Gone q a x (before x)

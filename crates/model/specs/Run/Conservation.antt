@@ -14,17 +14,16 @@ use Rattle.model.specs.QueueTable.{Link, Table}
 use Rattle.model.specs.Orders.{Hop, Flow}
 use Rattle.model.specs.Aggregates.{linkAt, sameHop}
 use Rattle.model.specs.Run.{Frame, LinkState, Sends, Run, hopOf, next, departed, moving, isAt, reaching, interval, enter, emptyLink, speedOf, window}
-use Rattle.model.specs.Run.Sums.{window-ext, window-mono, window-add, window-zero, window-front, window-at, window-longer, window-total, total-ext, total-append, total-map, total-le, total-zero, total-perm, cond-le, all-any}
+use Rattle.model.specs.Laws.All.{member-all}
+use Rattle.model.specs.Laws.Total.{total-ext, total-append, total-map, total-each, total-zeros, total-perm}
+use Rattle.model.specs.Laws.Test.{cond-le, cond-same}
+use Rattle.model.specs.Run.Windows.{window-ext, window-mono, window-add, window-zero, window-front, window-at, window-longer, window-total}
 use Rattle.model.specs.Run.OneLink.{held, all, empty-held, enter-held, interval-all}
 use Rattle.model.specs.Run.Jitter.{hop, moved}
 
 -- What is at hop `i` of flow `j`, by a weight of birth and length.
 unfoldable pub atHop : (ℕ → ℕ → ℕ) → (j i : ℕ) → Frame → ℕ
 atHop w j i f = cond (eqb (f .flow) j) (cond (eqb (f .hop) i) (w (f .born) (f .length)) 0) 0
-
-off : (b : Bool) → _≡_ {A = ℕ} (cond b 0 0) 0
-off true = refl
-off false = refl
 
 -- Each frame goes to one queue at most.
 once : (v : ℕ) (o : Option Hop) (levels : ℕ → ℕ) (links : ℕ) → window (λ n. window (λ k. cond (isAt (hop n k) o) v 0) 1 (levels n)) 1 links ≤ v
@@ -73,7 +72,7 @@ module _ (m : Frame → ℕ) (fs : List Flow) where
             window-ext (λ k. total m (reaching fs (hop n k) l)) (λ k. total (at n k) l) 1 (levels n) (λ k. reaching-total (hop n k) l)
             ∙ window-total (at n) l 1 (levels n)),
         window-total on l 1 links,
-        total-le (λ f. Unit {0}) (λ f. window (λ n. on n f) 1 links) m l (λ f u. once (m f) (hopOf fs f) levels links) (all-any (λ f. Unit {0}) l (λ f. tt)),
+        total-each (λ f. Unit {0}) (λ f. window (λ n. on n f) 1 links) m l (λ f u. once (m f) (hopOf fs f) levels links) (member-all (λ f. Unit {0}) l (λ f m. tt)),
       )
     where
       at : ℕ → ℕ → Frame → ℕ
@@ -170,12 +169,12 @@ module _ (t : Table) (fs : List Flow) (r : Run t fs) where
     not-first : (x : ℕ) (f : Frame) → atHop w j 0 (next x f) ≡ 0
     unfolding atHop next
     not-first x f =
-        ap (λ b. cond (eqb (f .flow) j) (cond b (w (f .born) (f .length)) 0) 0) (eqb·suc-zero (f .hop)) ∙ off (eqb (f .flow) j)
+        ap (λ b. cond (eqb (f .flow) j) (cond b (w (f .born) (f .length)) 0) 0) (eqb·suc-zero (f .hop)) ∙ cond-same (eqb (f .flow) j) 0
 
     sent-later : (i x : ℕ) (f : Frame) → Sends fs x f → atHop w j (suc i) f ≤ 0
     unfolding atHop
     sent-later i x f s =
-        rw (s .first) (omega (arith, ap (λ b. cond (eqb (f .flow) j) (cond b (w (f .born) (f .length)) 0) 0) (eqb·zero-suc i) ∙ off (eqb (f .flow) j)))
+        rw (s .first) (omega (arith, ap (λ b. cond (eqb (f .flow) j) (cond b (w (f .born) (f .length)) 0) 0) (eqb·zero-suc i) ∙ cond-same (eqb (f .flow) j) 0))
 
     sent-first : (f : Frame) → atHop w j 0 f ≤ cond (eqb (f .flow) j) (w (f .born) (f .length)) 0
     unfolding atHop
@@ -199,8 +198,8 @@ module _ (t : Table) (fs : List Flow) (r : Run t fs) where
           arith,
           parts (suc i) x,
           total-ext (λ f. atHop w j (suc i) (next x f)) (atHop w j i) (departed (r .before x) 1 t) (next-hop i x),
-          total-le (Sends fs x) (atHop w j (suc i)) (λ f. 0) (r .sent x) (sent-later i x) (r .sends x),
-          total-zero (r .sent x),
+          total-each (Sends fs x) (atHop w j (suc i)) (λ f. 0) (r .sent x) (sent-later i x) (r .sends x),
+          total-zeros (r .sent x),
         )
 
     reach-first : (x : ℕ) → reached (atHop w j 0) x ≤ source x
@@ -210,8 +209,8 @@ module _ (t : Table) (fs : List Flow) (r : Run t fs) where
           arith,
           parts 0 x,
           total-ext (λ f. atHop w j 0 (next x f)) (λ f. 0) (departed (r .before x) 1 t) (not-first x),
-          total-zero (departed (r .before x) 1 t),
-          total-le (Sends fs x) (atHop w j 0) (λ f. cond (eqb (f .flow) j) (w (f .born) (f .length)) 0) (r .sent x) (λ f s. sent-first f) (r .sends x),
+          total-zeros (departed (r .before x) 1 t),
+          total-each (Sends fs x) (atHop w j 0) (λ f. cond (eqb (f .flow) j) (w (f .born) (f .length)) 0) (r .sent x) (λ f s. sent-first f) (r .sends x),
         )
 
     pub conserved : (i x : ℕ) → window (reached (atHop w j i)) 0 x ≤ window source 0 x

@@ -8,7 +8,7 @@ use native.Mathlib.Omega.{arith}
 use Rattle.model.specs.QueueTable.{Queue, Link}
 use Rattle.model.specs.Schedulable.{All}
 use Rattle.model.specs.Run.{Frame, Wire, idle, sending, LinkState, Pick, pastEmpty, pick, start, take, send, interval, append, enter, emptyLevels, emptyLink}
-use Rattle.model.specs.Run.Sums.{all-append, all-map}
+use Rattle.model.specs.Laws.All.{all-append, all-imp, all-imp₂}
 use Rattle.model.specs.Run.OneLink.{EachLevel, OnWire, Each, Rising, link, interval-keeps}
 
 module _ (P : ℕ → Frame → Type 0) where
@@ -69,7 +69,7 @@ module _ (P : ℕ → Frame → Type 0) where
 module _ (P Q : ℕ → Frame → Type 0) (up : (n : ℕ) (f : Frame) → P n f → Q n f) where
   levels-up : (n : ℕ) (qs : List (List Frame)) → EachLevel P n qs → EachLevel Q n qs
   levels-up n [] h = tt
-  levels-up n (q ∷ qs) h = (all-map (P n) (Q n) q (up n) (h .0), levels-up (suc n) qs (h .1))
+  levels-up n (q ∷ qs) h = (all-imp q (up n) (h .0), levels-up (suc n) qs (h .1))
 
   wire-up : (w : Wire) → OnWire P w → OnWire Q w
   wire-up idle h = tt
@@ -80,17 +80,13 @@ module _ (P Q : ℕ → Frame → Type 0) (up : (n : ℕ) (f : Frame) → P n f 
       record {
         wire = wire-up (l .wire) (h .wire);
         levels = levels-up 1 (l .levels) (h .levels);
-        left = all-map (λ f. (n : ℕ) × P n f) (λ f. (n : ℕ) × Q n f) (l .left) (λ f k. (k .0, up (k .0) f (k .1))) (h .left);
+        left = all-imp (l .left) (λ f k. (k .0, up (k .0) f (k .1))) (h .left);
       }
 
 module _ (P Q R : ℕ → Frame → Type 0) (both : (n : ℕ) (f : Frame) → P n f → Q n f → R n f) where
-  queue-both : (n : ℕ) (q : List Frame) → All (P n) q → All (Q n) q → All (R n) q
-  queue-both n [] h k = tt
-  queue-both n (f ∷ q) h k = (both n f (h .0) (k .0), queue-both n q (h .1) (k .1))
-
   pub levels-both : (n : ℕ) (qs : List (List Frame)) → EachLevel P n qs → EachLevel Q n qs → EachLevel R n qs
   levels-both n [] h k = tt
-  levels-both n (q ∷ qs) h k = (queue-both n q (h .0) (k .0), levels-both (suc n) qs (h .1) (k .1))
+  levels-both n (q ∷ qs) h k = (all-imp₂ q (both n) (h .0) (k .0), levels-both (suc n) qs (h .1) (k .1))
 
   pub wire-both : (w : Wire) → OnWire P w → OnWire Q w → OnWire R w
   wire-both idle h k = tt
@@ -134,14 +130,14 @@ rising-append : (x : ℕ) (q new : List Frame) → Rising q → All (λ f. f .si
 rising-append x [] new h u e k = k
 rising-append x (f ∷ q) new h u e k = (
   all-append (λ g. f .since ≤ g .since) q new (h .0)
-      (all-map (λ g. g .since ≡ x) (λ g. f .since ≤ g .since) new (λ g e. omega (arith, u .0)) e),
+      (all-imp new (λ g e. omega (arith, u .0)) e),
   rising-append x q new (h .1) (u .1) e k,
 )
 
 rising-same : (x : ℕ) (q : List Frame) → All (λ f. f .since ≡ x) q → Rising q
 rising-same x [] e = tt
 rising-same x (f ∷ q) e =
-    (all-map (λ g. g .since ≡ x) (λ g. f .since ≤ g .since) q (λ g k. omega (arith, e .0)) (e .1), rising-same x q (e .1))
+    (all-imp q (λ g k. omega (arith, e .0)) (e .1), rising-same x q (e .1))
 
 pub enter-rising : (x : ℕ) (new : ℕ → List Frame) → ((n : ℕ) → All (λ f. f .since ≡ x) (new n)) → (n : ℕ) (qs : List (List Frame)) →
     EachLevel (λ n f. f .since ≤ x) n qs → All Rising qs → All Rising (append new n qs)

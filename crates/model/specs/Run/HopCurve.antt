@@ -16,7 +16,9 @@ use Rattle.model.specs.Orders.{Flow}
 use Rattle.model.specs.Schedulable.{Schedulable}
 use Rattle.model.specs.Run.{Frame, Sends, Run, Conforming, bytesOf, window}
 use Rattle.model.specs.Run.BoundSums.{burst-covers}
-use Rattle.model.specs.Run.Sums.{window-mono, window-zero, window-join, total-le, total-cond, cond-le}
+use Rattle.model.specs.Laws.Total.{total-each, total-cond}
+use Rattle.model.specs.Laws.Test.{cond-le}
+use Rattle.model.specs.Run.Windows.{window-mono, window-zero, window-join}
 use Rattle.model.specs.Run.ArrivalCurve.{Curve}
 use Rattle.model.specs.Run.Jitter.{moved, upstream, OnTime, NotLate, moves}
 use Rattle.model.specs.Run.Conservation.{atHop, reached, source, conserved}
@@ -51,7 +53,7 @@ module _ (t : Table) (fs : List Flow) (sch : Schedulable t fs) (r : Run t fs) (h
   reached-young : (s i x : ℕ) → s ≤ x → x ≤ h → reached t fs r (atHop anyBirth j i) x ≤ reached t fs r (atHop (bornFrom (s - upstream t (fl .path) i)) j i) x
   unfolding reached
   reached-young s i x u v =
-      total-le (λ f. OnTime t fs f × (f .since ≡ x)) (atHop anyBirth j i) (atHop (bornFrom (s - upstream t (fl .path) i)) j i)
+      total-each (λ f. OnTime t fs f × (f .since ≡ x)) (atHop anyBirth j i) (atHop (bornFrom (s - upstream t (fl .path) i)) j i)
       (moved r x)
       (λ f o. young s i f (o .0) (omega (arith, o .1)))
       (moves t fs sch r x (λ m k. ok m (omega arith)))
@@ -62,7 +64,7 @@ module _ (t : Table) (fs : List Flow) (sch : Schedulable t fs) (r : Run t fs) (h
   source-from c x =
       omega (
         arith,
-        total-le (Sends fs x) (λ f. cond (eqb (f .flow) j) (cond (leb c (f .born)) (f .length) 0) 0)
+        total-each (Sends fs x) (λ f. cond (eqb (f .flow) j) (cond (leb c (f .born)) (f .length) 0) 0)
             (λ f. cond (leb c x) (cond (eqb (f .flow) j) (f .length) 0) 0)
             (r .sent x)
             (λ f s. rw (s .born) (swap (eqb (f .flow) j) (leb c x) (f .length)))

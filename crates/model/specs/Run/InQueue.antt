@@ -12,8 +12,9 @@ use Rattle.model.specs.Total.{total}
 use Rattle.model.specs.Aggregates.{nth}
 use Rattle.model.specs.Schedulable.{All}
 use Rattle.model.specs.Run.{Frame, Wire, idle, sending, LinkState, onWire, orEmpty, inQueue}
-use Rattle.model.specs.Run.Sums.{total-append, total-cond, all-append, all-left, all-right}
-use Rattle.model.specs.Run.OneLink.{waiting, underWay, held, EachLevel, OnWire, Each}
+use Rattle.model.specs.Laws.All.{all-append, append-all}
+use Rattle.model.specs.Laws.Total.{total-append, total-cond}
+use Rattle.model.specs.Run.OneLink.{waiting, underWay, held, EachLevel, OnWire, Each, waiting-zero}
 
 module _ (m : Frame → ℕ) (p : ℕ) where
   abbrev atLevel : ℕ → Frame → ℕ
@@ -26,9 +27,7 @@ module _ (m : Frame → ℕ) (p : ℕ) where
   here n q e = total-cond (eqb n p) m q ∙ ap (λ b. cond b (total m q) 0) (eq-eqb n p e)
 
   past : (n : ℕ) (qs : List (List Frame)) → p < n → waiting atLevel n qs ≡ 0
-  unfolding waiting
-  past n [] h = refl
-  past n (q ∷ qs) h = omega (arith, not-here n q (λ e. omega (arith, e)), past (suc n) qs (omega arith))
+  past n qs h = waiting-zero atLevel n qs (λ k f u. ap (λ b. cond b (m f) 0) (ne-eqb k p (λ e. omega (arith, e))))
 
   level-waiting : (n i : ℕ) (qs : List (List Frame)) → n + i ≡ p → total m (orEmpty (getElem? qs i)) ≡ waiting atLevel n qs
   unfolding waiting total
@@ -99,11 +98,11 @@ module _ (P : ℕ → Frame → Type 0) where
   pub each-queue : (l : LinkState) → ((p : ℕ) → All (P p) (inQueue p l)) → OnWire P (l .wire) × EachLevel P 1 (l .levels)
   unfolding inQueue nth
   each-queue l h = (
-    each-wire (l .wire) (λ p. all-left (P p) (onWire p (l .wire)) (orEmpty (nth (l .levels) p)) (h p)),
+    each-wire (l .wire) (λ p. append-all (P p) (onWire p (l .wire)) (orEmpty (nth (l .levels) p)) (h p) .0),
     each-level 1 (l .levels)
         (λ i.
         subst (λ k. All (P k) (orEmpty (getElem? (l .levels) i))) (omega arith)
-        (all-right (P (suc i)) (onWire (suc i) (l .wire)) (orEmpty (getElem? (l .levels) i)) (h (suc i)))),
+        (append-all (P (suc i)) (onWire (suc i) (l .wire)) (orEmpty (getElem? (l .levels) i)) (h (suc i)) .1)),
   )
 
 -- Frames of which none came up to instant `a` weigh nothing up to `a`, and the other way round.

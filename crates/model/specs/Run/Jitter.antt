@@ -2,20 +2,19 @@
 -- Induction over instants, not over paths, so that cycles of links do no harm. Assumes nothing.
 use Prim.Native.Nat.{ℕ, zero, suc, _+_, _≤_, _<_}
 use mathlib.Core.Path.{_≡_, refl, sym, ap, _∙_}
-use mathlib.Core.Bool.{Bool, true, false, cond, _&&_, false≢true}
+use mathlib.Core.Bool.{Bool, true, false, cond, false≢true}
 use mathlib.Core.List.{List, [], _∷_, map}
 use mathlib.Core.Option.{Option, none, some, Option·none-ne-some}
 use native.Mathlib.Omega.{arith}
 use lib.ListN.{getElem?}
-use lib.Dec.{eqb}
-use borrow.Author.Tests.{eqb-true}
 use Rattle.model.specs.Columns.{andThen}
 use Rattle.model.specs.QueueTable.{Table}
 use Rattle.model.specs.Orders.{Hop, Flow}
-use Rattle.model.specs.Aggregates.{linkAt, queueAt, thresholdOf, sameHop}
+use Rattle.model.specs.Aggregates.{linkAt, queueAt, thresholdOf}
+use Rattle.model.specs.Laws.Aggregates.{same-hop}
 use Rattle.model.specs.Schedulable.{All, Named, FlowMeets, Schedulable}
 use Rattle.model.specs.Run.{Frame, LinkState, Sends, Run, hopOf, next, departed, moving, isAt, reaching, speedOf, inQueue}
-use Rattle.model.specs.Run.Sums.{all-map, all-append, all-of-map, all-at, all-perm}
+use Rattle.model.specs.Laws.All.{all-imp, all-append, map-all, all-at, all-perm}
 use Rattle.model.specs.Run.OneLink.{EachLevel, OnWire, Each}
 use Rattle.model.specs.Run.EachFrame.{interval-each, enter-each, empty-each, levels-both, wire-both}
 use Rattle.model.specs.Run.InQueue.{each-queue}
@@ -66,17 +65,6 @@ pub known-hop : (fs : List Flow) (f : Frame) (fl : Flow) → getElem? fs (f .flo
 unfolding hopOf
 known-hop fs f fl e = ap (λ o. andThen o (λ fl. getElem? (fl .path) (f .hop))) e
 
-same-hop : (q h : Hop) → sameHop q h ≡ true → q ≡ h
-unfolding sameHop
-same-hop q h e = go (eqb (q .link) (h .link)) refl e
-  where
-    go : (b : Bool) → eqb (q .link) (h .link) ≡ b → (b && eqb (q .level) (h .level)) ≡ true → q ≡ h
-    go true k e =
-        let p = eqb-true (q .link) (h .link) k in
-        let s = eqb-true (q .level) (h .level) e in
-        λ i. record { link = p i; level = s i }
-    go false k e = absurd (false≢true e)
-
 at-hop : (q : Hop) (o : Option Hop) → isAt q o ≡ true → o ≡ some q
 at-hop q none e = absurd (false≢true e)
 at-hop q (some h) e = ap some (sym (same-hop q h e))
@@ -126,13 +114,13 @@ module _ (t : Table) (fs : List Flow) (sch : Schedulable t fs) (r : Run t fs) wh
   unfolding moving next
   moved-on-time x each =
       all-append (λ f. OnTime t fs f × (f .since ≡ x)) (map (next x) (departed (r .before x) 1 t)) (r .sent x)
-      (all-of-map (next x) (λ f. OnTime t fs f × (f .since ≡ x)) (departed (r .before x) 1 t)
+      (map-all (λ f. OnTime t fs f × (f .since ≡ x)) (next x) (departed (r .before x) 1 t)
       (departed-all (λ f. OnTime t fs (next x f) × (next x f .since ≡ x)) (r .before x) left 1 t))
-      (all-map (Sends fs x) (λ f. OnTime t fs f × (f .since ≡ x)) (r .sent x) (λ f s. (added x f s, s .since)) (r .sends x))
+      (all-imp (r .sent x) (λ f s. (added x f s, s .since)) (r .sends x))
     where
       left : (n : ℕ) → All (λ f. OnTime t fs (next x f) × (next x f .since ≡ x)) (r .before x n .left)
       left n =
-          all-map (λ f. (k : ℕ) × Placed t fs x n k f) (λ f. OnTime t fs (next x f) × (next x f .since ≡ x)) (r .before x n .left)
+          all-imp (r .before x n .left)
           (λ f p. (leaves x n (p .0) f (p .1), refl)) (each n .left)
 
   -- What reaches a queue at instant `x`.
@@ -170,7 +158,7 @@ module _ (t : Table) (fs : List Flow) (sch : Schedulable t fs) (r : Run t fs) wh
 
       new : (level : ℕ) → All (Placed t fs (suc x) n level) (r .arrivals x n level)
       new level =
-          all-map (Arrived x n level) (Placed t fs (suc x) n level) (r .arrivals x n level)
+          all-imp (r .arrivals x n level)
           (λ f a.
           record {
             onTime = a .0;

@@ -9,7 +9,9 @@ use borrow.Author.Tests.{le-ltb, ne-eqb}
 use Rattle.model.specs.Total.{total}
 use Rattle.model.specs.Schedulable.{All}
 use Rattle.model.specs.Run.{Frame, window}
-use Rattle.model.specs.Run.Sums.{window-mono, window-add, window-within, window-at, total-le, total-add, total-cond, cond-le}
+use Rattle.model.specs.Laws.Total.{total-each, total-add, total-cond}
+use Rattle.model.specs.Laws.Test.{cond-le}
+use Rattle.model.specs.Run.Windows.{window-mono, window-add, window-within, window-at}
 use Rattle.model.specs.Run.Workload.{counts, whole}
 
 -- The frames of level `p` that came up to instant `a`.
@@ -51,7 +53,7 @@ module _ (q a x : ℕ) (new : ℕ → List Frame) (came : (n : ℕ) → All (λ 
   own-at =
       omega (
         arith,
-        total-le (λ f. f .since ≡ x) (own p a p) (λ f. cond (leb x a) (f .length) 0) (new p)
+        total-each (λ f. f .since ≡ x) (own p a p) (λ f. cond (leb x a) (f .length) 0) (new p)
             (λ f e. rw e (cond-le (eqb p p) (cond (leb x a) (f .length) 0)))
             (came p),
         total-cond (leb x a) (λ f. f .length) (new p),
@@ -98,6 +100,6 @@ module _ (q a x : ℕ) (new : ℕ → List Frame) (came : (n : ℕ) → All (λ 
       parts k l u =
           omega (
             arith,
-            total-le (λ f. f .since ≡ x) (whole p a k) (λ f. cond (ltb k p) (f .length) 0 + own p a k f) (new k) (λ f e. whole-own p a k f) (came k),
+            total-each (λ f. f .since ≡ x) (whole p a k) (λ f. cond (ltb k p) (f .length) 0 + own p a k f) (new k) (λ f e. whole-own p a k f) (came k),
             total-add (λ f. cond (ltb k p) (f .length) 0) (own p a k) (new k),
           )

@@ -13,7 +13,10 @@ use Rattle.model.specs.Formula.{residual, delayBound, backlogBound}
 use Rattle.model.specs.Schedulable.{All}
 use Rattle.model.specs.Run.{Frame, Wire, idle, sending, LinkState, window, inQueue}
 use Rattle.model.specs.Run.BoundSums.{delay-sum, backlog-sum}
-use Rattle.model.specs.Run.Sums.{window-mono, window-add, window-within, total-le, cond-le, all-any, all-map}
+use Rattle.model.specs.Laws.All.{member-all, all-imp}
+use Rattle.model.specs.Laws.Total.{total-each}
+use Rattle.model.specs.Laws.Test.{cond-le}
+use Rattle.model.specs.Run.Windows.{window-mono, window-add, window-within}
 use Rattle.model.specs.Run.OneLink.{Long, waiting, underWay, held, OnWire, waiting-le, held-le}
 use Rattle.model.specs.Run.EachFrame.{each-up}
 use Rattle.model.specs.Run.Workload.{wireBits, whole, unsent}
@@ -111,11 +114,11 @@ module _ {speed h : ℕ} {largest : ℕ → ℕ} {before after : ℕ → LinkSta
           long = queue-each Long (suc q) (before x) (each-up (Sound largest x) Long (λ n f k. k .long) (before x) (s .frames x u))
 
           go : (b : Bool) → leb threshold x ≡ b → All (λ f. x < f .since + threshold) (inQueue (suc q) (before x))
-          go false e = all-any (λ f. x < f .since + threshold) (inQueue (suc q) (before x)) (λ f. omega (arith, leb-false threshold x e))
+          go false e = member-all (λ f. x < f .since + threshold) (inQueue (suc q) (before x)) (λ f m. omega (arith, leb-false threshold x e))
           go true e =
               let a : ℕ = x - threshold in
               let d : a + threshold ≡ x = omega (arith, leb-true threshold x e) in
-              all-map (λ f. a < f .since) (λ f. x < f .since + threshold) (inQueue (suc q) (before x)) (λ f k. omega arith)
+              all-imp {P = λ f. a < f .since} (inQueue (suc q) (before x)) (λ f k. omega arith)
               (came-later a (inQueue (suc q) (before x)) long
               (queue-weight (λ f. cond (leb (f .since) a) (f .length) 0) q (before x) ∙ delay x a u (omega arith)))
 
@@ -147,15 +150,12 @@ module _ {speed h : ℕ} {largest : ℕ → ℕ} {before after : ℕ → LinkSta
             (window (upTo new q x) (b .first) (suc (b .count)))
             (unsent (suc q) x (after x))
             rates
-            (omega (arith, b .level, after-level s q x x u, at (upTo new q x)))
+            (omega (arith, b .level, after-level s q x x u, ap (upTo new q x) (b .ends)))
             (mostly x u)
             (above-curve q (b .first) (b .count) (omega (arith, b .ends)))
             (omega (arith, upTo-le q x (b .first) (suc (b .count)) (b .early), curve))
-            (omega (arith, b .load, after-load s q x x u, at (upTo new q x), at (above new q), window-add (above new q) (upTo new q x) (b .first) (b .count)))
+            (omega (arith, b .load, after-load s q x x u, ap (upTo new q x) (b .ends), ap (above new q) (b .ends), window-add (above new q) (upTo new q x) (b .first) (b .count)))
           where
-            at : (g : ℕ → ℕ) → g (b .first + b .count) ≡ g x
-            at g = ap g (b .ends)
-
             since : x - b .first ≡ b .count
             since = omega (arith, b .ends)
 
@@ -169,7 +169,7 @@ module _ {speed h : ℕ} {largest : ℕ → ℕ} {before after : ℕ → LinkSta
           arith,
           backlog x u,
           queue-weight (λ f. cond (leb (f .since) x) (f .length) 0) q (after x),
-          total-le (λ f. f .since ≤ x) (λ f. f .length) (λ f. cond (leb (f .since) x) (f .length) 0) (inQueue (suc q) (after x))
+          total-each (λ f. f .since ≤ x) (λ f. f .length) (λ f. cond (leb (f .since) x) (f .length) 0) (inQueue (suc q) (after x))
               (λ f k. rw (le-leb (f .since) x k) (omega arith))
               (queue-each (λ n f. f .since ≤ x) (suc q) (after x) (each-up (Sound largest x) (λ n f. f .since ≤ x) (λ n f k. k .came) (after x) (after-each s x u))),
         )

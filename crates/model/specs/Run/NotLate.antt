@@ -4,26 +4,46 @@ use Prim.Native.Nat.{ℕ, zero, suc, _+_, _≤_, _<_}
 use mathlib.Core.Path.{_≡_, refl, sym, ap, subst, _∙_}
 use mathlib.Core.Bool.{Bool, true, false, cond}
 use mathlib.Core.List.{List, [], _∷_}
-use mathlib.Core.Option.{some, Option·some-injective}
+use mathlib.Core.Option.{some, Option·none-ne-some, Option·some-injective}
 use native.Mathlib.Omega.{arith}
-use lib.ListN.{length}
+use lib.ListN.{length, getElem?}
 use lib.Dec.{eqb, leb}
 use borrow.Author.Tests.{eqb-true, eqb-false, leb-true, le-leb}
 use Rattle.model.specs.Total.{total}
 use Rattle.model.specs.QueueTable.{Queue, Link, Table}
 use Rattle.model.specs.Orders.{Hop, Flow}
-use Rattle.model.specs.Aggregates.{linkAt, queueAt, thresholdOf, aggregateAt}
+use Rattle.model.specs.Aggregates.{nth, linkAt, queueAt, thresholdOf, aggregateAt}
+use Rattle.model.specs.Laws.Test.{and-then}
+use Rattle.model.specs.Laws.Carries.{flow-frame}
 use Rattle.model.specs.Schedulable.{All, LinkMeets, Schedulable}
 use Rattle.model.specs.Run.{Frame, Run, Conforming, hopOf, speedOf, inQueue}
-use Rattle.model.specs.Run.Sums.{all-at, all-map, index-below}
+use Rattle.model.specs.Laws.List.{index-below}
+use Rattle.model.specs.Laws.All.{member-at, all-at, all-imp}
 use Rattle.model.specs.Run.EachFrame.{each-up}
 use Rattle.model.specs.Run.BusyPeriod.{Sound, Served}
 use Rattle.model.specs.Run.InQueue.{queue-each}
 use Rattle.model.specs.Run.LevelBounds.{not-late, fits}
-use Rattle.model.specs.Run.Jitter.{OnTime, Placed, NotLate, Arrived, hop, known-hop, meets, named, arrived, moves, placed, after-placed}
+use Rattle.model.specs.Run.Jitter.{OnTime, Placed, NotLate, hop, known-hop, meets, named, arrived, moves, placed, after-placed}
 use Rattle.model.specs.Run.QueueCurve.{queue-curve}
 use Rattle.model.specs.Run.Checked.{at, Passes, passes}
-use Rattle.model.specs.Run.Carried.{flow-frame, Found, found, no-level-0}
+
+-- A queue of the table, with its link.
+record Found (t : Table) (link i : ℕ) : Type 0 where
+  of : Link
+  isLink : linkAt t link ≡ some of
+  queue : Queue
+  isQueue : getElem? (of .levels) i ≡ some queue
+  isFound : queueAt t (hop link (suc i)) ≡ some queue
+
+found : (t : Table) (link i : ℕ) (q : Queue) → queueAt t (hop link (suc i)) ≡ some q → Found t link i
+unfolding queueAt nth
+found t link i q e =
+    let (l, isLink, isQueue) = and-then (linkAt t link) (λ l. nth (l .levels) (suc i)) e in
+    record { of = l; isLink = isLink; queue = q; isQueue = isQueue; isFound = e }
+
+no-level-0 : (t : Table) (link : ℕ) (q : Queue) → queueAt t (hop link 0) ≡ some q → ⊥
+unfolding queueAt nth
+no-level-0 t link q e = let (l, isLink, isQueue) = and-then (linkAt t link) (λ l. nth (l .levels) 0) e in Option·none-ne-some q isQueue
 
 module _ (t : Table) (fs : List Flow) (sch : Schedulable t fs) (r : Run t fs) (conforming : Conforming fs (r .sent)) where
   -- A frame that stands in a queue shows that the queue is one of the table and carries a flow.
@@ -40,12 +60,12 @@ module _ (t : Table) (fs : List Flow) (sch : Schedulable t fs) (r : Run t fs) (c
   frame-most : (f : Frame) (o : OnTime t fs f) (h : Hop) → hopOf fs f ≡ some h → f .length ≤ aggregateAt t fs h .frame
   unfolding aggregateAt
   frame-most f o h e =
-      omega (arith, o .short, flow-frame t fs (f .flow) (o .flow) h (f .hop) (o .known) (sym (known-hop fs f (o .flow) (o .known)) ∙ e))
+      omega (arith, o .short, flow-frame t h (o .flow) (member-at fs (f .flow) (o .known)) (member-at (o .flow .path) (f .hop) (sym (known-hop fs f (o .flow) (o .known)) ∙ e)))
 
   checked : (n i : ℕ) (f : Frame) (o : OnTime t fs f) → hopOf fs f ≡ some (hop n (suc i)) → (k : Found t n i) →
       Passes t fs n (k .of .speed) (k .queue) i (length (k .of .levels))
   checked n i f o e k =
-      passes t fs n (k .of .speed) (k .of .levels)
+      passes t fs n (k .of)
       (all-at (λ h. LinkMeets t fs (h .link)) (o .flow .path) (f .hop) (hop n (suc i)) (meets t fs sch r f o .links)
       (sym (known-hop fs f (o .flow) (o .known)) ∙ e) .meets (k .of) (k .isLink))
       i (k .queue) (k .isQueue)
@@ -89,7 +109,7 @@ module _ (t : Table) (fs : List Flow) (sch : Schedulable t fs) (r : Run t fs) (c
               (r .before y n)
               (placed t fs sch r y (before-ok y u) n);
           news = λ y u level.
-              all-map (Arrived t fs sch r y n level) (λ f. Sound (lim n (length (l .levels))) y level f × (f .since ≡ y)) (r .arrivals y n level)
+              all-imp (r .arrivals y n level)
               (λ f a. (record { long = omega (arith, a .0 .long); short = in-lim n l e level f (a .0) (a .2); came = omega (arith, a .1) }, a .1))
               (arrived t fs sch r y (moves t fs sch r y (before-ok y u)) n level);
         }
@@ -141,7 +161,7 @@ module _ (t : Table) (fs : List Flow) (sch : Schedulable t fs) (r : Run t fs) (c
         go zero (f ∷ q) e p = absurd (level-0 f n (p .0 .onTime) (p .0 .here))
         go (suc i) (f ∷ q) e p =
             let k = witness f (p .0 .onTime) n i (p .0 .here) in
-            all-map (λ g. x < g .since + k .queue .threshold) (λ g. x < g .since + thresholdOf (queueAt t (hop n (suc i)))) (f ∷ q)
+            all-imp {P = λ g. x < g .since + k .queue .threshold} (f ∷ q)
             (λ g u. omega (arith, threshold-is (hop n (suc i)) (k .queue) (k .isFound)))
             (rw e at (level-not-late n i f (p .0 .onTime) (p .0 .here)))
 
@@ -155,7 +175,7 @@ module _ (t : Table) (fs : List Flow) (sch : Schedulable t fs) (r : Run t fs) (c
 
   pub never-late : (x : ℕ) (h : Hop) (q : Queue) → queueAt t h ≡ some q → All (λ f. x < f .since + q .threshold) (inQueue (h .level) (r .before x (h .link)))
   never-late x h q e =
-      all-map (λ f. x < f .since + thresholdOf (queueAt t h)) (λ f. x < f .since + q .threshold) (inQueue (h .level) (r .before x (h .link)))
+      all-imp (inQueue (h .level) (r .before x (h .link)))
       (λ f u. omega (arith, threshold-is h q e))
       (now x (earlier x) (h .link) (h .level))
 

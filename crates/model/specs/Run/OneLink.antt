@@ -10,7 +10,9 @@ use Rattle.model.specs.Total.{total}
 use Rattle.model.specs.QueueTable.{Queue, Link}
 use Rattle.model.specs.Schedulable.{All}
 use Rattle.model.specs.Run.{Frame, Wire, idle, sending, LinkState, Pick, pastEmpty, pick, start, take, send, slot, interval, append, enter, emptyLevels, emptyLink, window}
-use Rattle.model.specs.Run.Sums.{total-append, total-le, window-front, all-any}
+use Rattle.model.specs.Laws.All.{member-all}
+use Rattle.model.specs.Laws.Total.{total-append, total-zero, total-each}
+use Rattle.model.specs.Run.Windows.{window-front}
 
 -- A weight reads a frame and the level it is at. What waits, at the levels from number `n` on:
 unfoldable pub waiting : (ℕ → Frame → ℕ) → (n : ℕ) → List (List Frame) → ℕ
@@ -113,6 +115,17 @@ module _ (m : ℕ → Frame → ℕ) where
   unfolding enter held
   enter-held new l = omega (arith, append-waiting new 1 (l .levels))
 
+  -- A weight that is 0 at these levels.
+  pub waiting-zero : (n : ℕ) (qs : List (List Frame)) → ((k : ℕ) (f : Frame) → n ≤ k → m k f ≡ 0) → waiting m n qs ≡ 0
+  unfolding waiting
+  waiting-zero n [] z = refl
+  waiting-zero n (q ∷ qs) z =
+      omega (
+        arith,
+        total-zero (m n) q (member-all (λ f. m n f ≡ 0) q (λ f k. z n f (omega arith))),
+        waiting-zero (suc n) qs (λ k f u. z k f (omega arith)),
+      )
+
   empty-waiting : (n : ℕ) (qs : List Queue) → waiting m n (emptyLevels qs) ≡ 0
   unfolding waiting emptyLevels total
   empty-waiting n [] = refl
@@ -128,7 +141,7 @@ module _ (m k : ℕ → Frame → ℕ) (le : (n : ℕ) (f : Frame) → m n f ≤
   unfolding waiting
   waiting-le n [] = omega arith
   waiting-le n (q ∷ qs) =
-      omega (arith, total-le (λ f. Unit {0}) (m n) (k n) q (λ f u. le n f) (all-any (λ f. Unit {0}) q (λ f. tt)), waiting-le (suc n) qs)
+      omega (arith, total-each (λ f. Unit {0}) (m n) (k n) q (λ f u. le n f) (member-all (λ f. Unit {0}) q (λ f m. tt)), waiting-le (suc n) qs)
 
   wire-le : (w : Wire) → underWay m w ≤ underWay k w
   unfolding underWay

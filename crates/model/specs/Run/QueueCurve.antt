@@ -15,7 +15,8 @@ use Rattle.model.specs.Orders.{Hop, Flow}
 use Rattle.model.specs.Aggregates.{queueAt, thresholdOf, Entry, entries, allEntries, sameHop, addsAt, aggregateAt}
 use Rattle.model.specs.Schedulable.{Schedulable}
 use Rattle.model.specs.Run.{Frame, Run, Conforming, hopOf, isAt}
-use Rattle.model.specs.Run.Sums.{window-ext, window-add, total-append, total-add, total-zero, total-cond, total-le, total-perm}
+use Rattle.model.specs.Laws.Total.{total-append, total-add, total-zeros, total-cond, total-each, total-perm}
+use Rattle.model.specs.Run.Windows.{window-ext, window-add}
 use Rattle.model.specs.Run.ArrivalCurve.{Curve, curve-zero, curve-le, curve-add, curve-cond}
 use Rattle.model.specs.Run.LevelArrivals.{bytes}
 use Rattle.model.specs.Run.Jitter.{moved, upstream, OnTime, NotLate, hop, known-hop, moves}
@@ -82,7 +83,7 @@ module _ (t : Table) (fs : List Flow) (sch : Schedulable t fs) (r : Run t fs) (c
   hops-curve : (j i s : ℕ) (fl : Flow) (path : List Hop) → ((k : ℕ) → HopCurve fl j (i + k) (s + upstream t path k)) →
       Curve h (sum (λ a. a .burst) (entries t fl s path)) (sum (λ a. a .rate) (entries t fl s path)) (λ x. total (hopsShare q j i path) (moved r x))
   unfolding hopsShare entries total addsAt reached upstream
-  hops-curve j i s fl [] c = curve-zero h 0 0 (λ x. total (λ f. 0) (moved r x)) (λ x. total-zero (moved r x))
+  hops-curve j i s fl [] c = curve-zero h 0 0 (λ x. total (λ f. 0) (moved r x)) (λ x. total-zeros (moved r x))
   hops-curve j i s fl (g ∷ path) c =
       curve-le h (head (burstAtHop (fl .rate) (fl .burst) s) + sum (λ a. a .burst) (entries t fl next path))
       (head (fl .rate) + sum (λ a. a .rate) (entries t fl next path))
@@ -113,7 +114,7 @@ module _ (t : Table) (fs : List Flow) (sch : Schedulable t fs) (r : Run t fs) (c
   flows-curve : (j : ℕ) (gs : List Flow) → ((k : ℕ) (fl : Flow) → getElem? gs k ≡ some fl → (i : ℕ) → HopCurve fl (j + k) i (upstream t (fl .path) i)) →
       Curve h (sum (λ a. a .burst) (allEntries t gs)) (sum (λ a. a .rate) (allEntries t gs)) (λ x. total (flowsShare q j gs) (moved r x))
   unfolding flowsShare allEntries total
-  flows-curve j [] c = curve-zero h 0 0 (λ x. total (λ f. 0) (moved r x)) (λ x. total-zero (moved r x))
+  flows-curve j [] c = curve-zero h 0 0 (λ x. total (λ f. 0) (moved r x)) (λ x. total-zeros (moved r x))
   flows-curve j (fl ∷ gs) c = λ s n u.
       omega (
         arith,
@@ -146,7 +147,7 @@ module _ (t : Table) (fs : List Flow) (sch : Schedulable t fs) (r : Run t fs) (c
             arith,
             total-perm (λ f. f .length) (r .anyOrder x q),
             reaching-total (λ f. f .length) fs q (moved r x),
-            total-le (λ f. OnTime t fs f × (f .since ≡ x)) (λ f. cond (isAt q (hopOf fs f)) (f .length) 0) (flowsShare q 0 fs) (moved r x)
+            total-each (λ f. OnTime t fs f × (f .since ≡ x)) (λ f. cond (isAt q (hopOf fs f)) (f .length) 0) (flowsShare q 0 fs) (moved r x)
                 (λ f o. frame-share q t fs f (o .0))
                 (moves t fs sch r x (λ m k. ok m (omega arith))),
           )

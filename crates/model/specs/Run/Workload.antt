@@ -3,7 +3,7 @@
 use Prim.Native.Nat.{ℕ, zero, suc, _+_, _*_, _≤_, _<_}
 use mathlib.Core.Path.{_≡_, refl, ap, _∙_}
 use mathlib.Core.Logic.{_⊎_, inl, inr}
-use mathlib.Core.Bool.{Bool, true, false, cond}
+use mathlib.Core.Bool.{Bool, true, false, cond, true≢false}
 use mathlib.Core.List.{List, [], _∷_}
 use mathlib.Core.Option.{Option, none, some}
 use native.Mathlib.Omega.{arith}
@@ -12,8 +12,10 @@ use borrow.Author.Tests.{ltb-false, leb-false, eqb-true, eqb-false, le-ltb, ne-e
 use Rattle.model.specs.Total.{total}
 use Rattle.model.specs.Schedulable.{All}
 use Rattle.model.specs.Run.{Frame, Wire, idle, sending, LinkState, Pick, pastEmpty, pick, bits, start, take, send, slot, interval}
-use Rattle.model.specs.Run.Sums.{all-any, all-map}
-use Rattle.model.specs.Run.OneLink.{waiting, underWay, held, EachLevel, OnWire, Each, Rising, Long, link, PickWeighs, pick-weighs, interval-keeps, slot-held}
+use Rattle.model.specs.Laws.All.{all-imp}
+use Rattle.model.specs.Laws.Total.{total-zero}
+use Rattle.model.specs.Laws.Test.{cond-same}
+use Rattle.model.specs.Run.OneLink.{waiting, underWay, held, EachLevel, OnWire, Each, Rising, Long, link, PickWeighs, pick-weighs, interval-keeps, slot-held, waiting-zero}
 use Rattle.model.specs.Run.EachFrame.{PickEach, pick-each, take-each, send-each, interval-each, interval-rising}
 
 -- The bits that are still to be sent of the frame under way.
@@ -48,7 +50,7 @@ counts-not p a n f h = go (ltb n p) refl h
     at u false e k = inl (let d = eqb-false n p e in omega (arith, ltb-false n p u, d))
 
     go : (b : Bool) → ltb n p ≡ b → cond b true (cond (eqb n p) (leb (f .since) a) false) ≡ false → (p < n) ⊎ ((n ≡ p) × (a < f .since))
-    go true u k = absurd (mathlib.Core.Bool.true≢false k)
+    go true u k = absurd (true≢false k)
     go false u k = at u (eqb n p) refl k
 
 counts-later : (p a n : ℕ) (f : Frame) → p ≤ n → a < f .since → counts p a n f ≡ false
@@ -56,23 +58,16 @@ unfolding counts
 counts-later p a n f h k =
     ap (λ b. cond b true (cond (eqb n p) (leb (f .since) a) false)) (le-ltb n p h)
     ∙ ap (λ b. cond (eqb n p) b false) (lt-leb (f .since) a k)
-    ∙ off (eqb n p)
-  where
-    off : (b : Bool) → cond b false false ≡ false
-    off true = refl
-    off false = refl
+    ∙ cond-same (eqb n p) false
 
 module _ (p a : ℕ) where
   none-counts : (n : ℕ) (q : List Frame) → All (λ f. counts p a n f ≡ false) q → total (whole p a n) q ≡ 0
-  unfolding total whole
-  none-counts n [] h = refl
-  none-counts n (f ∷ q) h = omega (arith, none-counts n q (h .1), ap (λ b. cond b (f .length) 0) (h .0))
+  unfolding whole
+  none-counts n q h = total-zero (whole p a n) q (all-imp q (λ f e. ap (λ b. cond b (f .length) 0) e) h)
 
   none-below : (n : ℕ) (qs : List (List Frame)) → p < n → waiting (whole p a) n qs ≡ 0
-  unfolding waiting
-  none-below n [] h = refl
-  none-below n (q ∷ qs) h =
-      omega (arith, none-counts n q (all-any (λ f. counts p a n f ≡ false) q (λ f. counts-below p a n f h)), none-below (suc n) qs (omega arith))
+  unfolding whole
+  none-below n qs h = waiting-zero (whole p a) n qs (λ k f u. ap (λ b. cond b (f .length) 0) (counts-below p a k f (omega arith)))
 
   -- Behind a frame that does not count, none of its level counts.
   counts-behind : (n : ℕ) (f g : Frame) → counts p a n f ≡ false → f .since ≤ g .since → counts p a n g ≡ false
@@ -95,7 +90,7 @@ module _ (p a : ℕ) where
       go none h = tt
       go (some k) h = λ e. omega (arith, h e, none-counts n [] tt)
   pick-counts n ((f ∷ q) ∷ qs) r = λ e.
-      let k = all-map (λ g. f .since ≤ g .since) (λ g. counts p a n g ≡ false) q (λ g. counts-behind n f g e) (r .0 .0) in
+      let k : All (λ g. counts p a n g ≡ false) q = all-imp q (λ g. counts-behind n f g e) (r .0 .0) in
       omega (arith, none-counts n (f ∷ q) (e, k), none-below (suc n) qs (at-or-below (counts-not p a n f e)))
     where
       at-or-below : (p < n) ⊎ ((n ≡ p) × (a < f .since)) → p < suc n

@@ -1,12 +1,12 @@
 -- `orders::read_path` meets its contract. The invariant: the hops read so far, before what the rest of the line says, are the whole path.
 -- Assumes nothing.
 use borrow.Author.Needs.{needs}
-use Prim.Native.Nat.{ℕ, suc, _+_, _-_, _*_, _≤_}
+use Prim.Native.Nat.{_-_, _≤_}
 use mathlib.Core.Path.{_≡_, refl, sym, _∙_, ap}
 use native.Mathlib.Omega.{arith}
 use mathlib.Core.List.{[]}
 use borrow.Author.Tests.{eq-eqb, ne-eqb}
-use lib.ListN.{length, take, drop, length-set}
+use lib.ListN.{length, drop, length-set}
 use Rattle.model.specs.Orders.{hopFields, pathFields}
 use Rattle.orders.specs.Reading.{hopOf}
 use Rattle.orders.proofs.PathLaws.{read-so-far, path-start, path-step, path-malformed, path-end}

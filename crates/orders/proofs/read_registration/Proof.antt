@@ -1,14 +1,13 @@
 -- `orders::read_registration` meets its contract: head, hop count, path and ranges are judged in the definition's order.
 -- Assumes nothing.
-use Prim.Native.Nat.{ℕ}
 use mathlib.Core.Path.{_≡_, sym, _∙_, ap}
 use mathlib.Core.Bool.{Bool, true, false}
-use mathlib.Core.Option.{Option, none, some}
+use mathlib.Core.Option.{some}
 use lib.ListN.{take}
 use borrow.Author.Tests.{not-true, not-false}
 use Rattle.model.specs.Columns.{between}
 use Rattle.model.specs.Laws.Columns.{between-true}
-use Rattle.model.specs.Orders.{headFields, headInRange, hopsInRange, pathFields, registration, registrationOf, withPath}
+use Rattle.model.specs.Orders.{headFields, hopsInRange, pathFields, registration, registrationOf, withPath}
 use Rattle.orders.specs.Reading.{fieldsOf, headOf, pathWhen, zipHops}
 use borrow.Author.Needs.{needs}
 use Rattle.orders.proofs.PathLaws.{with-order, bare-fits}

@@ -1,13 +1,11 @@
 -- `queue_table::add_line` meets its contract: a malformed or refused line changes nothing, any other is stored as the model adds it.
 -- Assumes nothing.
 use borrow.Author.Needs.{needs}
-use Prim.Native.Nat.{ℕ}
-use mathlib.Core.Path.{_≡_, refl, sym, _∙_, ap}
-use mathlib.Core.Option.{some, none}
-use native.Mathlib.Omega.{arith}
+use mathlib.Core.Path.{_≡_, sym, _∙_, ap}
+use mathlib.Core.Option.{some}
 use borrow.Author.Tests.{ne-eqb}
 use Rattle.model.specs.QueueTable as model
-use Rattle.queue_table.specs.View.{rowOf, numbersOf, linksOf, Columns, LineAdded}
+use Rattle.queue_table.specs.View.{rowOf, numbersOf, linksOf}
 use Rattle.queue_table.proofs.TurnLaws.{placed, stored-row, stored-columns, step-malformed, step-refused, step-added}
 use Rattle.queue_table.proofs.add_line.Statement.{statement}
 use Rattle.queue_table.proofs.add_line.Tie as tie

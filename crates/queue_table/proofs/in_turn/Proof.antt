@@ -2,10 +2,11 @@
 -- Assumes nothing.
 use borrow.Author.Needs.{needs}
 use mathlib.Core.Path.{sym, _∙_}
+use mathlib.Core.Bool.{and-true, and-false, or-true, or-false}
 use borrow.Author.Tests.{le-leb, lt-leb}
 use Rattle.model.specs.QueueTable.{rowInTurn}
 use Rattle.queue_table.specs.View.{numbersOf}
-use Rattle.queue_table.proofs.ViewLaws.{and-true, and-false, or-true, or-false, begins-at}
+use Rattle.queue_table.proofs.ViewLaws.{begins-at}
 use Rattle.queue_table.proofs.in_turn.Statement.{statement}
 use Rattle.queue_table.proofs.in_turn.Tie as tie
 

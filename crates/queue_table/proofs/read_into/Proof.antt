@@ -1,6 +1,6 @@
 -- `queue_table::read_into` meets its contract. The invariant: the lines left, after the links read so far, say what the whole text says.
 -- Assumes nothing.
-use Prim.Native.Nat.{ℕ, _+_, _-_, _≤_, _<_}
+use Prim.Native.Nat.{ℕ, _+_, _-_, _≤_}
 use mathlib.Core.Path.{_≡_, refl, sym, _∙_, ap}
 use mathlib.Core.List.{List, [], reverse}
 use native.Mathlib.Omega.{arith}

@@ -1,9 +1,9 @@
 -- `units::backlog_bound` meets its contract: the product of the two largest values fits, and the quotient is at most the product.
 -- Assumes nothing.
-use Prim.Native.Nat.{ℕ, _+_, _*_, _^_, _≤_}
+use Prim.Native.Nat.{_*_, _^_, _≤_}
 use native.Mathlib.Nat.{mul-le-mul}
 use native.Mathlib.Omega.{arith}
-use Rattle.model.specs.Formula.{ceilDiv, backlogBound}
+use Rattle.model.specs.Formula.{backlogBound}
 use Rattle.model.specs.Laws.Formula.{ceilDiv-self}
 use Rattle.units.proofs.backlog_bound.Statement.{statement}
 use Rattle.units.proofs.backlog_bound.Tie as tie

@@ -1,11 +1,10 @@
 -- `units::burst_at_hop` meets its contract: the product of the two largest values fits, and the quotient is at most the product.
 -- Assumes nothing.
-use Prim.Native.Nat.{ℕ, _*_, _≤_}
+use Prim.Native.Nat.{_*_, _≤_}
 use native.Mathlib.Nat.{mul-le-mul}
 use native.Mathlib.Omega.{arith}
 use lib.Dec.{lit≤}
-use mathlib.Core.Path.{ap}
-use Rattle.model.specs.Formula.{ceilDiv, burstAtHop}
+use Rattle.model.specs.Formula.{burstAtHop}
 use Rattle.model.specs.Laws.Formula.{ceilDiv-self}
 use Rattle.units.proofs.burst_at_hop.Statement.{statement}
 use Rattle.units.proofs.burst_at_hop.Tie as tie
