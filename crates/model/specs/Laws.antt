@@ -21,3 +21,4 @@ pub mod Schedulable
 pub mod Carries
 pub mod Levels
 pub mod Admissible
+pub mod Path

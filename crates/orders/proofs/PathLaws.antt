@@ -40,7 +40,7 @@ joined-all : (before : List Hop) (bytes : List ℕ) → joined before (hopFields
 unfolding hopFields
 joined-all before bytes = ap some (append-nil before)
 
-zip-length : (links levels : List ℕ) → length links ≡ length levels → length (zipHops links levels) ≡ length links
+pub zip-length : (links levels : List ℕ) → length links ≡ length levels → length (zipHops links levels) ≡ length links
 zip-length [] levels e = refl
 zip-length (l ∷ links) [] e = absurd (omega arith)
 zip-length (l ∷ links) (p ∷ levels) e = ap suc (zip-length links levels (omega arith))

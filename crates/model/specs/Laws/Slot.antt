@@ -1,13 +1,14 @@
 -- Slots: the first one that a test finds, and the held flows when a slot is filled or emptied. By induction on the slots. Assumes nothing.
 use Prim.Native.Nat.{ℕ, zero, suc, _+_, _≤_, _<_}
-use mathlib.Core.Path.{_≡_, refl}
+use mathlib.Core.Path.{_≡_, refl, sym, ap, _∙_}
 use mathlib.Core.Bool.{Bool, true, false, cond, not, _&&_, true≢false, false≢true}
 use mathlib.Core.List.{List, [], _∷_}
 use mathlib.Core.Option.{none, some}
-use native.Mathlib.Nat.{not-suc-le-zero}
+use native.Mathlib.Nat.{zero-add, not-suc-le-zero}
 use native.Mathlib.Omega.{arith}
+use borrow.Author.Tests.{lt-ltb, le-leb}
 use lib.ListN.{length, getD, set}
-use lib.Dec.{eqb}
+use lib.Dec.{leb, ltb, eqb, leb·suc-suc}
 use Rattle.model.specs.Total.{total}
 use Rattle.model.specs.Part.{Part, empty, skip, keep, swap, both}
 use Rattle.model.specs.Laws.Total.{part-refl}
@@ -102,3 +103,21 @@ clear-part (none ∷ slots) zero = part-refl (heldFlows slots)
 clear-part (some f ∷ slots) zero = skip (part-refl (heldFlows slots))
 clear-part (none ∷ slots) (suc i) = clear-part slots i
 clear-part (some f ∷ slots) (suc i) = keep (clear-part slots i)
+
+-- A number is held where the first slot that holds it is one of the slots; all are held where the first free one isn't.
+pub number-index : (n : ℕ) (slots : List Slot) → leb 1 (withNumber n (heldFlows slots)) ≡ ltb (firstIndex (holds n) slots) (length slots)
+unfolding heldFlows firstIndex holds withNumber total
+number-index n [] = refl
+number-index n (none ∷ slots) = number-index n slots ∙ sym (leb·suc-suc (suc (firstIndex (holds n) slots)) (length slots))
+number-index n (some f ∷ slots) = go (eqb (f .number) n) (number-index n slots)
+  where
+    go : (b : Bool) → leb 1 (withNumber n (heldFlows slots)) ≡ ltb (firstIndex (holds n) slots) (length slots)
+        → leb 1 (cond b 1 0 + withNumber n (heldFlows slots)) ≡ ltb (cond b 0 (suc (firstIndex (holds n) slots))) (suc (length slots))
+    go true r = le-leb 1 (1 + withNumber n (heldFlows slots)) (omega arith) ∙ sym (lt-ltb 0 (suc (length slots)) (omega arith))
+    go false r = rw (zero-add (withNumber n (heldFlows slots))) (r ∙ sym (leb·suc-suc (suc (firstIndex (holds n) slots)) (length slots)))
+
+pub held-index : (slots : List Slot) → every isHeld slots ≡ not (ltb (firstIndex isNone slots) (length slots))
+unfolding every isHeld isNone firstIndex
+held-index [] = refl
+held-index (none ∷ slots) = sym (ap not (lt-ltb 0 (suc (length slots)) (omega arith)))
+held-index (some f ∷ slots) = held-index slots ∙ sym (ap not (leb·suc-suc (suc (firstIndex isNone slots)) (length slots)))

@@ -1,0 +1,6 @@
+pub mod ViewLaws
+pub mod ScanLaws
+pub mod PoolLaws
+pub mod ChangeLaws
+pub mod InsertLaws
+pub mod RemoveLaws

@@ -1,0 +1,60 @@
+-- `flow_store::find` meets its contract. The invariant: what is found from slot i on is what is found from the first on.
+-- Assumes nothing.
+use borrow.Author.Needs.{needs}
+use Prim.Native.Nat.{_-_, _≤_}
+use mathlib.Core.Path.{_≡_, refl, sym, _∙_}
+use mathlib.Core.Bool.{true, false}
+use mathlib.Core.Logic.{⊎-elim}
+use native.Mathlib.Omega.{arith}
+use borrow.Author.Tests.{eq-eqb, ne-eqb}
+use Rattle.model.specs.Reference.{holds}
+use Rattle.flow_store.proofs.ScanLaws.{named, holds-named, found, scan-found, scan-on, scan-end, scan-whole}
+use Rattle.flow_store.proofs.find.Statement.{statement}
+use Rattle.flow_store.proofs.find.Tie as tie
+
+abbrev Inv-loop : tie.InvT-loop
+Inv-loop number slots i₀ i = (i ≤ 256) × (found (holds number) slots i ≡ found (holds number) slots 0)
+
+abbrev μ-loop : tie.MeasureT-loop
+μ-loop number slots i₀ i = 256 - i
+
+loop-holds : tie.Need-loop-holds Inv-loop μ-loop
+loop-holds c = (omega arith, refl)
+
+returns : tie.Need-returns Inv-loop μ-loop
+returns c =
+    let at = c .before .before .before .before .before in
+    let number = at .before .args .number in
+    let slots = at .before .args .slots .now in
+    let here : named number slots (at .loop .i) ≡ true = simp (eq-eqb _ _ (c .before .before .if1 .taken), c .if2 .taken) in
+    λ pool.
+    sym (scan-found (holds number) slots (named number slots) (holds-named number slots) (at .loop .i) (omega arith) here)
+    ∙ at .loop .inv .1
+    ∙ scan-whole (holds number) slots (named number slots) (holds-named number slots) pool
+
+loop-again : tie.Need-loop-again Inv-loop μ-loop
+loop-again c =
+    let at = c .before .before .before in
+    let number = at .before .args .number in
+    let slots = at .before .args .slots .now in
+    let not-here : named number slots (at .loop .i) ≡ false =
+    ⊎-elim (λ w. simp (eq-eqb _ _ (w .0 .taken), w .2 .left)) (λ w. simp (ne-eqb _ _ (w .left))) (c .if1 .came) in (
+      omega arith,
+      sym (scan-on (holds number) slots (named number slots) (holds-named number slots) (at .loop .i) (omega arith) not-here) ∙ at .loop .inv .1,
+    )
+
+returns-2 : tie.Need-returns-2 Inv-loop μ-loop
+returns-2 c =
+    let at = c .before in
+    let number = at .before .args .number in
+    let slots = at .before .args .slots .now in
+    λ pool.
+    sym (scan-end (holds number) slots (named number slots) (holds-named number slots) (at .loop .i) (omega arith))
+    ∙ at .loop .inv .1
+    ∙ scan-whole (holds number) slots (named number slots) (holds-named number slots) pool
+
+pub find-spec : {M : Type 1} → statement M
+find-spec =
+    tie.close
+    (tie.spec Inv-loop μ-loop loop-holds (λ c. search needs) (λ c. search needs) (λ c. search needs) (λ c. search needs) (λ c. search needs)
+    (λ c. search needs) (λ c. search needs) returns (λ c. search needs) (λ c. search needs) loop-again returns-2)

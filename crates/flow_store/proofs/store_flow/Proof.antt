@@ -1,0 +1,36 @@
+-- `flow_store::store_flow` meets its contract: its stores are the definition's, one after the other.
+-- Assumes nothing.
+use borrow.Author.Needs.{needs}
+use native.Mathlib.Omega.{arith}
+use native.Mathlib.Numerals.{add-one, add-two, add-three, add-four, add-five}
+use lib.ListN.{length-set}
+use Rattle.flow_store.specs.View.{flowStored}
+use Rattle.flow_store.proofs.store_flow.Statement.{statement}
+use Rattle.flow_store.proofs.store_flow.Tie as tie
+
+slice-write-slots-2 : tie.Need-slice-write-slots-2
+slice-write-slots-2 c = simp length-set (omega arith)
+
+slice-write-slots-3 : tie.Need-slice-write-slots-3
+slice-write-slots-3 c = simp length-set (omega arith)
+
+slice-write-slots-4 : tie.Need-slice-write-slots-4
+slice-write-slots-4 c = simp length-set (omega arith)
+
+slice-write-slots-5 : tie.Need-slice-write-slots-5
+slice-write-slots-5 c = simp length-set (omega arith)
+
+slice-write-slots-6 : tie.Need-slice-write-slots-6
+slice-write-slots-6 c = simp length-set (omega arith)
+
+returns : tie.Need-returns
+unfolding flowStored
+returns c = simp (add-one, add-two, add-three, add-four, add-five)
+
+pub store-flow-spec : {M : Type 1} → statement M
+store-flow-spec =
+    tie.close
+    (tie.spec (λ c. search needs) (λ c. search needs) (λ c. search needs) (λ c. search needs) (λ c. search needs) (λ c. search needs)
+    (λ c. search needs) (λ c. search needs) (λ c. search needs) slice-write-slots-2 (λ c. search needs) (λ c. search needs) slice-write-slots-3
+    (λ c. search needs) (λ c. search needs) slice-write-slots-4 (λ c. search needs) (λ c. search needs) slice-write-slots-5 (λ c. search needs)
+    (λ c. search needs) slice-write-slots-6 (λ c. search needs) returns)

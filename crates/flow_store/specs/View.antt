@@ -1,0 +1,84 @@
+-- What the two columns of the store say in the terms of the model.
+use Prim.Native.Nat.{ℕ, zero, suc, _+_, _-_, _*_, _≤_, _<_}
+use mathlib.Core.Path.{_≡_}
+use mathlib.Core.Bool.{cond}
+use mathlib.Core.List.{List, [], _∷_, map}
+use mathlib.Core.Option.{none, some}
+use lib.ListN.{length, getD, take, drop}
+use lib.Seq.{sets, paste}
+use lib.Dec.{eqb}
+use Rattle.model.specs.Orders as model
+use Rattle.model.specs.Reference.{Slot}
+use Rattle.queue_table.specs.View.{hopAt}
+use Rattle.orders.specs.declared.Flow.{Flow}
+
+-- The hop count of slot i, 0 where it is free.
+unfoldable pub countAt : (slots : List ℕ) (i : ℕ) → ℕ
+countAt slots i = getD slots (6 * i + 5) 0
+
+-- The flow in slot i, where these are its hop entries.
+unfoldable pub flowAt : (slots : List ℕ) (i : ℕ) (entries : List ℕ) → model.Flow
+flowAt slots i entries =
+    record {
+      number = getD slots (6 * i) 0;
+      rate = getD slots (6 * i + 1) 0;
+      burst = getD slots (6 * i + 2) 0;
+      frame = getD slots (6 * i + 3) 0;
+      deadline = getD slots (6 * i + 4) 0;
+      path = map hopAt entries;
+    }
+
+-- A slot with hop count 0 is free.
+unfoldable pub slotOf : (count : ℕ) → model.Flow → Slot
+slotOf count f = cond (eqb count 0) none (some f)
+
+-- The n slots from slot i on, whose entries stand in the pool one after the other.
+unfoldable pub slotsFrom : (n i : ℕ) (slots pool : List ℕ) → List Slot
+slotsFrom zero i slots pool = []
+slotsFrom (suc n) i slots pool =
+    slotOf (countAt slots i) (flowAt slots i (take (countAt slots i) pool)) ∷ slotsFrom n (suc i) slots (drop (countAt slots i) pool)
+
+unfoldable pub slotsOf : (slots pool : List ℕ) → List Slot
+slotsOf slots pool = slotsFrom 256 0 slots pool
+
+-- The hop counts of the n slots from slot i on, summed.
+unfoldable pub countsFrom : (n i : ℕ) (slots : List ℕ) → ℕ
+countsFrom zero i slots = 0
+countsFrom (suc n) i slots = countAt slots i + countsFrom n (suc i) slots
+
+-- Two columns of the right size whose entries fit the pool.
+pub record Store (slots pool : List ℕ) : Type 0 where
+  pub slots-long : length slots ≡ 1536
+  pub pool-long : length pool ≡ 1024
+  pub fits : countsFrom 256 0 slots ≤ 1024
+
+-- A flow's numbers stored at a slot, one after the other.
+unfoldable pub flowStored : (slot : ℕ) → Flow → List ℕ → List ℕ
+flowStored slot f slots =
+    sets slots (6 * slot) (f .number ∷ f .rate .0 ∷ f .burst .0 ∷ f .frame .0 ∷ f .deadline .0 ∷ f .hops ∷ [])
+
+-- The entries from place `start` up to `end` moved up, and a path's put before them.
+unfoldable pub pathInserted : (start end : ℕ) (entries pool : List ℕ) → List ℕ
+pathInserted start end entries pool =
+    paste (paste pool (start + length entries) (drop start pool) (end - start)) start entries (length entries)
+
+-- The entries from place `start + by` up to `end` moved down to `start`.
+unfoldable pub pathRemoved : (start end by : ℕ) (pool : List ℕ) → List ℕ
+pathRemoved start end by pool = paste pool start (drop (start + by) pool) (end - by - start)
+
+-- A flow's numbers fit the column: those in the ranges of an order line do.
+pub record Narrow (f : Flow) : Type 0 where
+  pub rate : f .rate .0 ≤ 10000000
+  pub burst : f .burst .0 ≤ 1000000
+  pub frame : f .frame .0 ≤ 1542
+  pub deadline : f .deadline .0 ≤ 10000000
+
+-- A flow with its path that goes to a free slot, and for which the pool has room.
+pub record Insertable (slot : ℕ) (f : Flow) (entries slots pool : List ℕ) : Type 0 where
+  pub store : Store slots pool
+  pub narrow : Narrow f
+  pub inside : slot < 256
+  pub free : countAt slots slot ≡ 0
+  pub hops : f .hops ≡ length entries
+  pub path : 1 ≤ length entries
+  pub room : countsFrom 256 0 slots + length entries ≤ 1024

@@ -1,0 +1,165 @@
+// The flows that are held, and their paths (document 01, "The book": places and hop entries).
+//
+// The store is two columns of numbers. Slot i, counted from 0, has flow number, rate, burst, largest frame, deadline and hop
+// count at 6 × i on in `slots`; hop count 0 means that the slot is free, and what else stands there doesn't count. `pool` has
+// the hop entries of the held flows one after the other in slot order, so that a flow's entries start at the sum of the hop
+// counts before it; what stands past the last held one doesn't count.
+ghost use mathlib.Core.Path.{_≡_};
+ghost use mathlib.Core.List.{List, map};
+ghost use mathlib.Core.Option.{none, some};
+ghost use Prim.Native.Nat.{ℕ, _+_, _-_, _≤_, _<_};
+ghost use lib.ListN.{length, set, take, drop};
+ghost use lib.Seq.{paste};
+ghost use Rattle.model.specs.Orders.{flowOf};
+ghost use Rattle.model.specs.Reference.{firstIndex, holds, isNone};
+ghost use Rattle.queue_table.specs.View.{hopAt};
+ghost use Rattle.orders.specs.Reading.{fieldsOf};
+ghost use Rattle.flow_store.specs.View.{countAt, slotsOf, countsFrom, Store, flowStored, pathInserted, pathRemoved, Narrow, Insertable};
+use orders::Flow;
+
+// The slot that holds the flow with this number, 256 where none does.
+pub fn find(number: u32, slots: &[u32]) -> usize
+    requires { ⌜ length (now slots) ≡ 1536 ⌝ }
+    ensures { λ r. ⌜ ((pool : List ℕ) → r ≡ firstIndex (holds number) (slotsOf (now (slots .entry)) pool)) ⌝ }
+{
+    let mut i = 0;
+    while i < 256 {
+        if slots[6 * i] == number && slots[6 * i + 5] != 0 {
+            return i;
+        }
+        i += 1;
+    }
+    i
+}
+
+// The lowest free slot, 256 where none is free.
+pub fn first_free(slots: &[u32]) -> usize
+    requires { ⌜ length (now slots) ≡ 1536 ⌝ }
+    ensures { λ r. ⌜ ((pool : List ℕ) → r ≡ firstIndex isNone (slotsOf (now (slots .entry)) pool)) ⌝ }
+{
+    let mut slot = 0;
+    while slot < 256 {
+        if slots[6 * slot + 5] == 0 {
+            return slot;
+        }
+        slot += 1;
+    }
+    slot
+}
+
+// The sum of the hop counts of the slots before `slot`, whatever they are.
+pub fn hop_sum(slots: &[u32], slot: usize) -> u64
+    requires { ⌜ (length (now slots) ≡ 1536) × (slot ≤ 256) ⌝ }
+    ensures { λ r. ⌜ r ≡ countsFrom slot 0 (now (slots .entry)) ⌝ }
+{
+    let mut sum: u64 = 0;
+    let mut i = 0;
+    while i < slot {
+        sum += slots[6 * i + 5] as u64;
+        i += 1;
+    }
+    sum
+}
+
+// Copies n numbers from place `from` of one column to place `at` of another.
+fn copy(source: &[u32], from: usize, n: usize, target: &mut [u32], at: usize)
+    requires { ⌜ (from + n ≤ length (now source)) × (at + n ≤ length (now target)) ⌝ }
+    ensures { λ _. ⌜ now (target .exit) ≡ paste (now (target .entry)) at (drop from (now (source .entry))) n ⌝ }
+{
+    let mut i = 0;
+    while i < n {
+        target[at + i] = source[from + i];
+        i += 1;
+    }
+}
+
+// Moves the numbers from place `start` up to `end` up by `by` places, the last first.
+fn move_up(start: usize, end: usize, by: usize, pool: &mut [u32])
+    requires { ⌜ (start ≤ end) × (end + by ≤ length (now pool)) ⌝ }
+    ensures { λ _. ⌜ now (pool .exit) ≡ paste (now (pool .entry)) (start + by) (drop start (now (pool .entry))) (end - start) ⌝ }
+{
+    let mut i = end;
+    while start < i {
+        i -= 1;
+        pool[i + by] = pool[i];
+    }
+}
+
+// Puts a path at place `start` of a pool that is held up to `end`.
+fn insert_path(start: usize, end: usize, entries: &[u32], pool: &mut [u32])
+    requires { ⌜ (start ≤ end) × (end + length (now entries) ≤ length (now pool)) ⌝ }
+    ensures { λ _. ⌜ now (pool .exit) ≡ pathInserted start end (now (entries .entry)) (now (pool .entry)) ⌝ }
+{
+    let n = entries.len();
+    move_up(start, end, n, pool);
+    copy(entries, 0, n, pool, start);
+}
+
+// Stores a flow's numbers. They fit the column: an order line's ranges are below 2^32.
+fn store_flow(slot: usize, flow: Flow, slots: &mut [u32])
+    requires { ⌜ (slot < 256) × (length (now slots) ≡ 1536) × Narrow flow ⌝ }
+    ensures { λ _. ⌜ now (slots .exit) ≡ flowStored slot flow (now (slots .entry)) ⌝ }
+{
+    let number = flow.number;
+    let rate = flow.rate.0 as u32;
+    let burst = flow.burst.0 as u32;
+    let frame = flow.frame.0 as u32;
+    let deadline = flow.deadline.0 as u32;
+    let hops = flow.hops;
+    let at = 6 * slot;
+    slots[at] = number;
+    slots[at + 1] = rate;
+    slots[at + 2] = burst;
+    slots[at + 3] = frame;
+    slots[at + 4] = deadline;
+    slots[at + 5] = hops;
+}
+
+// Puts a flow with its path in a free slot.
+pub fn insert(slot: usize, flow: Flow, entries: &[u32], slots: &mut [u32], pool: &mut [u32])
+    requires { ⌜ Insertable slot flow (now entries) (now slots) (now pool) ⌝ }
+    ensures { λ _. ⌜ slotsOf (now (slots .exit)) (now (pool .exit)) ≡ set (slotsOf (now (slots .entry)) (now (pool .entry))) slot (some (flowOf (fieldsOf flow) (map hopAt (now (entries .entry))))) ⌝ }
+    ensures { λ _. ⌜ Store (now (slots .exit)) (now (pool .exit)) ⌝ }
+{
+    let start = hop_sum(&slots[..], slot) as usize;
+    let end = hop_sum(&slots[..], 256) as usize;
+    insert_path(start, end, entries, pool);
+    store_flow(slot, flow, slots);
+}
+
+// Copies the path of a slot to the front of `entries` and answers its hop count.
+pub fn path_into(slot: usize, slots: &[u32], pool: &[u32], entries: &mut [u32]) -> usize
+    requires { ⌜ Store (now slots) (now pool) × (slot < 256) × (countAt (now slots) slot ≤ 12) × (length (now entries) ≡ 12) ⌝ }
+    ensures { λ r. ⌜ r ≡ countAt (now (slots .entry)) slot ⌝ }
+    ensures { λ r. ⌜ take r (now (entries .exit)) ≡ take (countAt (now (slots .entry)) slot) (drop (countsFrom slot 0 (now (slots .entry))) (now (pool .entry))) ⌝ }
+{
+    let start = hop_sum(slots, slot) as usize;
+    let n = slots[6 * slot + 5] as usize;
+    copy(pool, start, n, entries, 0);
+    n
+}
+
+// Moves the numbers from place `start + by` up to `end` down by `by` places, the first first.
+fn move_down(start: usize, end: usize, by: usize, pool: &mut [u32])
+    requires { ⌜ (start + by ≤ end) × (end ≤ length (now pool)) ⌝ }
+    ensures { λ _. ⌜ now (pool .exit) ≡ pathRemoved start end by (now (pool .entry)) ⌝ }
+{
+    let mut i = start;
+    while i < end - by {
+        pool[i] = pool[i + by];
+        i += 1;
+    }
+}
+
+// Empties a slot.
+pub fn remove(slot: usize, slots: &mut [u32], pool: &mut [u32])
+    requires { ⌜ Store (now slots) (now pool) × (slot < 256) ⌝ }
+    ensures { λ _. ⌜ slotsOf (now (slots .exit)) (now (pool .exit)) ≡ set (slotsOf (now (slots .entry)) (now (pool .entry))) slot none ⌝ }
+    ensures { λ _. ⌜ Store (now (slots .exit)) (now (pool .exit)) ⌝ }
+{
+    let n = slots[6 * slot + 5] as usize;
+    let start = hop_sum(&slots[..], slot) as usize;
+    let held = hop_sum(&slots[..], 256) as usize;
+    move_down(start, held, n, pool);
+    slots[6 * slot + 5] = 0;
+}

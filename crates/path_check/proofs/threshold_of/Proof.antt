@@ -1,0 +1,17 @@
+-- `path_check::threshold_of` meets its contract: a number of the column has 32 bits.
+-- Assumes nothing.
+use borrow.Author.Needs.{needs}
+use Prim.Native.Nat.{_*_}
+use mathlib.Core.Path.{refl}
+use native.Mathlib.Omega.{arith}
+use Rattle.path_check.proofs.threshold_of.Statement.{statement}
+use Rattle.path_check.proofs.threshold_of.Tie as tie
+
+cast-result : tie.Need-cast-result
+cast-result c = omega (arith, c .shared-slice-known .given (2 * c .before .args .entry))
+
+returns : tie.Need-returns
+returns c = (refl, omega (arith, c .shared-slice-known .given (2 * c .before .args .entry)))
+
+pub threshold-of-spec : {M : Type 1} → statement M
+threshold-of-spec = tie.close (tie.spec (λ c. search needs) (λ c. search needs) (λ c. search needs) cast-result returns)

@@ -1,0 +1,47 @@
+-- What the answers of this crate say in the terms of the model.
+use Prim.Native.Nat.{ℕ, zero, suc, _≤_}
+use mathlib.Core.Path.{_≡_}
+use mathlib.Core.Bool.{true}
+use mathlib.Core.List.{List, [], _∷_, map, reverse}
+use mathlib.Core.Option.{Option, none, some}
+use lib.ListN.{take}
+use Rattle.model.specs.Orders.{Hop}
+use Rattle.model.specs.Schedulable.{All}
+use Rattle.model.specs.Aggregates.{queueAt}
+use Rattle.model.specs.Reference.{Cause, atHop, noQueue}
+use Rattle.orders.specs.Reading.{zipHops}
+use Rattle.queue_table.specs.View.{tableOf, hopAt, isQueue}
+use Rattle.path_check.specs.declared.Located.{Located}
+use Rattle.path_check.specs.declared.Entry.{Entry}
+use Rattle.path_check.specs.declared.Entry.the-variants.{At, Missing}
+
+-- The cause with this code at hop i of a path, counted from 0; none past its end.
+unfoldable pub causeAt : (code : ℕ) (path : List Hop) (i : ℕ) → Option Cause
+causeAt code [] i = none
+causeAt code (h ∷ path) zero = some (record { code = code; link = h .link; level = h .level })
+causeAt code (h ∷ path) (suc i) = causeAt code path i
+
+-- Each entry names a queue of the first n links.
+abbrev pub AllQueues : (n : ℕ) (links entries : List ℕ) → Type 0
+AllQueues n links entries = All (λ e. isQueue n links e ≡ true) entries
+
+-- The entry names the hop's queue, and there is none only where the table has no such queue.
+abbrev pub EntryOf : (n : ℕ) (links : List ℕ) → Hop → Entry → Type 0
+EntryOf n links h (At e) = (hopAt e ≡ h) × (isQueue n links e ≡ true)
+EntryOf n links h Missing = (queues : List ℕ) → queueAt (tableOf n links queues) h ≡ none
+
+-- The hops before hop i, the nearest first.
+abbrev pub earlierThan : (entries : List ℕ) (i : ℕ) → List Hop
+earlierThan entries i = reverse (take i (map hopAt entries))
+
+-- The path of an order line: the first hops of its two arrays.
+abbrev pub linePath : (hopLinks hopLevels : List ℕ) (hops : ℕ) → List Hop
+linePath hopLinks hopLevels hops = take hops (zipHops hopLinks hopLevels)
+
+-- `missing` is the first hop without a queue, and the hop count where each has one; then the entries name the path.
+pub record PathLocated (n : ℕ) (links hopLinks hopLevels : List ℕ) (hops : ℕ) (r : Located) : Type 0 where
+  pub first : (queues : List ℕ)
+      → atHop 14 (noQueue (tableOf n links queues)) [] (linePath hopLinks hopLevels hops) ≡ causeAt 14 (linePath hopLinks hopLevels hops) (r .missing)
+  pub within : r .missing ≤ hops
+  pub named : r .missing ≡ hops → map hopAt (take hops (r .entries)) ≡ linePath hopLinks hopLevels hops
+  pub queues : r .missing ≡ hops → AllQueues n links (take hops (r .entries))
