@@ -22,3 +22,4 @@ pub mod Carries
 pub mod Levels
 pub mod Admissible
 pub mod Path
+pub mod Figures

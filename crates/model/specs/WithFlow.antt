@@ -9,3 +9,7 @@ noFlow = record { rate = 0; burst = 0; frame = 0 }
 -- Rate sum, burst sum and largest frame with a flow added.
 unfoldable pub withFlow : Aggregate → (rate burst frame : ℕ) → Aggregate
 withFlow a rate burst frame = record { rate = a .rate + rate; burst = a .burst + burst; frame = max (a .frame) frame }
+
+-- Two aggregates of one queue taken together.
+unfoldable pub together : Aggregate → Aggregate → Aggregate
+together a b = record { rate = a .rate + b .rate; burst = a .burst + b .burst; frame = max (a .frame) (b .frame) }

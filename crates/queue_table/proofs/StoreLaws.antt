@@ -11,11 +11,11 @@ use Rattle.queue_table.specs.View.{upTo, queueAt, levelsAt, linkAt, link
 use Rattle.queue_table.proofs.ViewLaws.{up-same, down-same}
 
 -- Numbers stored from `i` on: below that nothing changes, and each number stands in its place.
-sets-below : (l : List ℕ) (i : ℕ) (vs : List ℕ) (k : ℕ) → k < i → getD (sets l i vs) k 0 ≡ getD l k 0
+pub sets-below : (l : List ℕ) (i : ℕ) (vs : List ℕ) (k : ℕ) → k < i → getD (sets l i vs) k 0 ≡ getD l k 0
 sets-below l i [] k h = refl
 sets-below l i (v ∷ vs) k h = sets-below (set l i v) (suc i) vs k (omega arith) ∙ getD-set-other l i k v 0 (omega arith)
 
-sets-at : (l : List ℕ) (i : ℕ) (vs : List ℕ) (k : ℕ) → k < length vs → i + length vs ≤ length l → getD (sets l i vs) (i + k) 0 ≡ getD vs k 0
+pub sets-at : (l : List ℕ) (i : ℕ) (vs : List ℕ) (k : ℕ) → k < length vs → i + length vs ≤ length l → getD (sets l i vs) (i + k) 0 ≡ getD vs k 0
 sets-at l i [] k h room = absurd (omega arith)
 sets-at l i (v ∷ vs) zero h room =
     let e : i + 0 ≡ i = omega arith in

@@ -68,7 +68,7 @@ module _ (t : Table) where
     unfolding addsAt sameHop
     off-hop h a e = rw (ne-eqb link (h .link) (λ q. eqb-false (h .link) link e (sym q)))
 
-    off-path : (sum : ℕ) (path : List Hop) → crosses link path ≡ false
+    pub off-path : (sum : ℕ) (path : List Hop) → crosses link path ≡ false
         → All (λ e. addsAt (record { link = link; level = p }) m e ≡ 0) (entries t f sum path)
     unfolding entries crosses
     off-path sum [] e = tt

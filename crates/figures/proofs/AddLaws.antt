@@ -1,0 +1,139 @@
+-- The loop that counts a flow in hop by hop: what the hops left add and the figures so far make the whole.
+-- Assumes nothing.
+use Prim.Native.Nat.{ℕ, _+_, _*_, _^_, _≤_, _<_}
+use mathlib.Core.Path.{_≡_, sym, ap, _∙_}
+use mathlib.Core.Bool.{true}
+use mathlib.Core.List.{List, [], _∷_}
+use native.Mathlib.Omega.{arith}
+use native.Mathlib.Decide.{ℕ-discrete}
+use lib.ListN.{length, getD, drop}
+use Rattle.model.specs.Orders.{Flow}
+use Rattle.model.specs.Formula.{Aggregate, burstAtHop}
+use Rattle.model.specs.QueueTable.{Table}
+use Rattle.model.specs.Aggregates as model
+use Rattle.model.specs.Schedulable.{All}
+use Rattle.model.specs.WithFlow.{withFlow, together}
+use Rattle.model.specs.Laws.Figures.{entriesAt, entries-nothing, entries-other, entries-here, aggregate-alone, aggregate-more}
+use Rattle.queue_table.specs.View.{tableOf, hopAt, isQueue}
+use Rattle.link_check.proofs.Laws.{mapped-next, mapped-end}
+use Rattle.figures.specs.View.{figureAt, Below, figureStored, FlowOf, PathAdded, Figures}
+use Rattle.figures.proofs.FigureLaws.{stored-length, stored-here, stored-other, stored-below}
+use Rattle.figures.proofs.EntryLaws.{same-entry, other-entry, threshold-named, all-at}
+
+-- The figures so far, `sums`, with the hops from `i` on left, before which the thresholds sum to `sum`.
+pub record Adding (rate burst frame : ℕ) (queues entries before sums : List ℕ) (sum i : ℕ) : Type 0 where
+  pub long : length sums ≡ 1536
+  pub within : i ≤ length entries
+  pub sum-below : sum ≤ i * 100000
+  pub below : (bound : ℕ) → Below bound before → Below (bound + i * 2 ^ 31) sums
+  pub left : (n : ℕ) (links : List ℕ) (f : Flow) → All (λ e. isQueue n links e ≡ true) entries → FlowOf rate burst frame entries f
+      → (e : ℕ) → e < 512
+      → together (entriesAt (hopAt e) (model.entries (tableOf n links queues) f sum (drop i (f .path)))) (figureAt sums e)
+      ≡ together (model.aggregateAt (tableOf n links queues) (f ∷ []) (hopAt e)) (figureAt before e)
+
+module _ (rate burst frame : ℕ) (queues entries before : List ℕ) where
+  pub adding-none : length before ≡ 1536 → Adding rate burst frame queues entries before before 0 0
+  adding-none long =
+      record {
+        long = long;
+        within = omega arith;
+        sum-below = omega arith;
+        below = λ bound b j. omega (arith, b j);
+        left = λ n links f named is e lt. ap (λ a. together a (figureAt before e)) (sym (aggregate-alone (tableOf n links queues) f (hopAt e)));
+      }
+
+  module _ {sums : List ℕ} {sum i : ℕ} (so-far : Adding rate burst frame queues entries before sums sum i) where
+    pub adding-all : length entries ≤ i → length entries ≤ 12 → PathAdded rate burst frame queues entries before sums
+    unfolding model.entries
+    adding-all end few =
+        record {
+          long = so-far .long;
+          same = λ n links f named is e lt.
+              let over : drop i (f .path) ≡ [] = ap (drop i) (is .path-is) ∙ mapped-end hopAt entries i end in
+              let nothing = ap (λ l. together (entriesAt (hopAt e) (model.entries (tableOf n links queues) f sum l)) (figureAt sums e)) over in
+              sym (entries-nothing (hopAt e) (figureAt sums e)) ∙ sym nothing ∙ so-far .left n links f named is e lt;
+          below = λ bound b j. omega (arith, so-far .below bound b j, so-far .within);
+        }
+
+    -- The hop at `i` is counted in.
+    module _ (more : i < length entries) (e₁ : getD entries i 0 < 512) (low : getD queues (2 * getD entries i 0) 0 ≤ 100000)
+        (small : (rate ≤ 2 ^ 31) × (burstAtHop rate burst sum ≤ 2 ^ 31) × (frame ≤ 2 ^ 31)) where
+      abbrev x : ℕ
+      x = getD entries i 0
+
+      abbrev there : Aggregate
+      there = withFlow (figureAt sums x) rate (burstAtHop rate burst sum) frame
+
+      abbrev sums′ : List ℕ
+      sums′ = figureStored sums x there
+
+      next-below : (bound : ℕ) → Below bound before → Below (bound + (i + 1) * 2 ^ 31) sums′
+      unfolding figureAt withFlow
+      next-below bound b =
+          let now : Below (bound + i * 2 ^ 31) sums = so-far .below bound b in
+          stored-below sums x there (bound + (i + 1) * 2 ^ 31) (λ j. omega (arith, now j)) (omega (arith, now (3 * x))) (omega (arith, now (3 * x + 1))) (omega (arith, now (3 * x + 2)))
+
+      module _ (n : ℕ) (links : List ℕ) (f : Flow) (named : All (λ e. isQueue n links e ≡ true) entries) (is : FlowOf rate burst frame entries f) where
+        t : Table
+        t = tableOf n links queues
+
+        rest : List model.Entry
+        rest = model.entries t f (sum + getD queues (2 * x) 0) (drop (i + 1) (f .path))
+
+        entry : model.Entry
+        entry = record { hop = hopAt x; adds = record { rate = rate; burst = burstAtHop rate burst sum; frame = frame } }
+
+        -- What was left is this hop's entry and what is left then.
+        left-next : model.entries t f sum (drop i (f .path)) ≡ entry ∷ rest
+        unfolding model.entries t rest entry
+        left-next =
+            let hops : drop i (f .path) ≡ hopAt x ∷ drop (i + 1) (f .path)
+            = ap (drop i) (is .path-is) ∙ mapped-next hopAt entries i 0 more ∙ ap (λ l. hopAt x ∷ drop (i + 1) l) (sym (is .path-is)) in
+            ap (model.entries t f sum) hops
+            ∙ rw (threshold-named n links x (all-at (λ e. isQueue n links e ≡ true) entries i named more) queues, is .rate-is, is .burst-is, is .frame-is)
+
+        step : (e : ℕ) → Dec (e ≡ x)
+            → together (entriesAt (hopAt e) rest) (figureAt sums′ e) ≡ together (entriesAt (hopAt e) (entry ∷ rest)) (figureAt sums e)
+        unfolding entry
+        step e (yes same) =
+            rw same
+            (ap (together (entriesAt (hopAt x) rest)) (stored-here sums x there (omega (arith, so-far .long)))
+            ∙ sym (entries-here (hopAt x) entry rest (figureAt sums x) (same-entry x)))
+        step e (no other) =
+            ap (together (entriesAt (hopAt e) rest)) (stored-other sums x there e other)
+            ∙ ap (λ a. together a (figureAt sums e)) (sym (entries-other (hopAt e) entry rest (other-entry e x other)))
+
+        next-left : (e : ℕ) → e < 512
+            → together (entriesAt (hopAt e) (model.entries t f (sum + getD queues (2 * x) 0) (drop (i + 1) (f .path)))) (figureAt sums′ e)
+            ≡ together (model.aggregateAt t (f ∷ []) (hopAt e)) (figureAt before e)
+        unfolding t rest
+        next-left e lt =
+            step e (ℕ-discrete e x)
+            ∙ ap (λ l. together (entriesAt (hopAt e) l) (figureAt sums e)) (sym left-next)
+            ∙ so-far .left n links f named is e lt
+
+      pub adding-next : Adding rate burst frame queues entries before sums′ (sum + getD queues (2 * x) 0) (i + 1)
+      unfolding t
+      adding-next =
+          record {
+            long = stored-length sums x there ∙ so-far .long;
+            within = omega arith;
+            sum-below = omega (arith, so-far .sum-below);
+            below = next-below;
+            left = next-left;
+          }
+
+-- A column with the figures of the flows has those of the flow beside them, once its path is counted in.
+pub figures-added : {fs : List Flow} {rate burst frame : ℕ} {queues entries before after : List ℕ} (n : ℕ) (links : List ℕ) (f : Flow)
+    → All (λ e. isQueue n links e ≡ true) entries → FlowOf rate burst frame entries f
+    → PathAdded rate burst frame queues entries before after
+    → Figures (tableOf n links queues) fs before
+    → Figures (tableOf n links queues) (f ∷ fs) after
+figures-added {fs} {queues = queues} n links f named is added figures =
+    record {
+      long = added .long;
+      same = λ e lt.
+          added .same n links f named is e lt
+          ∙ ap (together (model.aggregateAt (tableOf n links queues) (f ∷ []) (hopAt e))) (figures .same e lt)
+          ∙ sym (aggregate-more (tableOf n links queues) f fs (hopAt e));
+    }

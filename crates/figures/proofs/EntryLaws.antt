@@ -1,0 +1,76 @@
+-- A hop entry's queue in the table, and a path taken hop by hop.
+-- Assumes nothing.
+use Prim.Native.Nat.{ℕ, zero, suc, _+_, _*_, _^_, _/_, _%_, _≤_, _<_}
+use mathlib.Core.Path.{_≡_, refl, ap, _∙_}
+use mathlib.Core.Bool.{Bool, true, false}
+use mathlib.Core.List.{List, [], _∷_}
+use mathlib.Core.Option.{some}
+use native.Mathlib.Nat.{div-add-mod, mod-lt, mul-le-mul}
+use native.Mathlib.Omega.{arith}
+use lib.Arith.{digits-div, digits-mod}
+use lib.ListN.{length, getD}
+use lib.Dec.{eqb, ltb}
+use borrow.Author.Tests.{eqb-true, eq-eqb, ltb-true}
+use Rattle.model.specs.Formula.{burstAtHop}
+use Rattle.model.specs.Laws.Formula.{ceilDiv-le}
+use Rattle.model.specs.Aggregates as model
+use Rattle.model.specs.Schedulable.{All}
+use Rattle.model.specs.Laws.Test.{and-both}
+use Rattle.queue_table.specs.View.{queueAt, levelsAt, tableOf, hopAt, isQueue}
+use Rattle.queue_table.proofs.LookupLaws.{queue-found}
+
+-- Two entries name one queue exactly when they are equal.
+pub same-entry : (e : ℕ) → model.sameHop (hopAt e) (hopAt e) ≡ true
+unfolding model.sameHop hopAt
+same-entry e = rw (eq-eqb (e / 8 + 1) (e / 8 + 1) refl, eq-eqb (e % 8 + 1) (e % 8 + 1) refl)
+
+pub other-entry : (d e : ℕ) → (d ≡ e → ⊥) → model.sameHop (hopAt d) (hopAt e) ≡ false
+unfolding model.sameHop hopAt
+other-entry d e ne = go (model.sameHop (hopAt d) (hopAt e)) refl
+  where
+    go : (b : Bool) → model.sameHop (hopAt d) (hopAt e) ≡ b → model.sameHop (hopAt d) (hopAt e) ≡ false
+    go false q = q
+    go true q =
+        let (link, level) = and-both (eqb (d / 8 + 1) (e / 8 + 1)) (eqb (d % 8 + 1) (e % 8 + 1)) q in
+        absurd (ne (omega (arith, eqb-true (d / 8 + 1) (e / 8 + 1) link, eqb-true (d % 8 + 1) (e % 8 + 1) level, div-add-mod d 8, div-add-mod e 8)))
+
+-- The entry of a link and a level, both counted from 0.
+pub entry-hop : (link p : ℕ) → p < 8 → hopAt (8 * link + p) ≡ record { link = link + 1; level = p + 1 }
+unfolding hopAt
+entry-hop link p h =
+    let e : 8 * link + p ≡ link * 8 + p = omega arith in
+    rw e (λ i. record { link = digits-div link h i + 1; level = digits-mod link h i + 1 })
+
+module _ (n : ℕ) (links : List ℕ) (e : ℕ) (named : isQueue n links e ≡ true) where
+  pub queue-within : (e / 8 < n) × (e % 8 < levelsAt links (e / 8))
+  unfolding isQueue
+  queue-within =
+      let (link, level) = and-both (ltb (e / 8) n) (ltb (e % 8) (levelsAt links (e / 8))) named in
+      (ltb-true (e / 8) n link, ltb-true (e % 8) (levelsAt links (e / 8)) level)
+
+  pub queue-low : n ≤ 64 → e < 512
+  queue-low few = omega (arith, queue-within .0, div-add-mod e 8, mod-lt e {m = 8} (omega arith))
+
+  pub queue-named : (queues : List ℕ) → model.queueAt (tableOf n links queues) (hopAt e) ≡ some (queueAt queues (e / 8) (e % 8))
+  unfolding hopAt
+  queue-named queues = queue-found n links queues (e / 8) (e % 8) (queue-within .0) (queue-within .1)
+
+  pub threshold-named : (queues : List ℕ) → model.thresholdOf (model.queueAt (tableOf n links queues) (hopAt e)) ≡ getD queues (2 * e) 0
+  unfolding model.thresholdOf queueAt
+  threshold-named queues =
+      let place : 16 * (e / 8) + 2 * (e % 8) ≡ 2 * e = omega (arith, div-add-mod e 8) in
+      ap model.thresholdOf (queue-named queues) ∙ ap (λ (k : ℕ). getD queues k 0) place
+
+-- What holds of each entry of a path holds of the one at `i`.
+module _ (P : ℕ → Type 0) where
+  pub all-at : (l : List ℕ) (i : ℕ) → All P l → i < length l → P (getD l i 0)
+  all-at [] i a h = absurd (omega arith)
+  all-at (x ∷ l) zero a h = a .0
+  all-at (x ∷ l) (suc i) a h = all-at l i (a .1) (omega arith)
+
+-- A burst at a hop, in the ranges of document 01.
+pub burst-small : (rate burst sum : ℕ) → rate ≤ 10000000 → burst ≤ 1000000 → sum ≤ 1200000 → burstAtHop rate burst sum ≤ 2 ^ 31
+unfolding burstAtHop
+burst-small rate burst sum r b s =
+    let product : rate * sum ≤ 10000000 * 1200000 = mul-le-mul {n₂ = 10000000} {m₂ = 1200000} r s in
+    omega (arith, ceilDiv-le (rate * sum) 8000 1500000000 (omega arith) (omega arith))

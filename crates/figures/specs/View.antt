@@ -1,0 +1,94 @@
+-- What the columns and answers of this crate say in the terms of the model.
+use Prim.Native.Nat.{ℕ, _+_, _*_, _/_, _%_, _^_, _≤_, _<_}
+use mathlib.Core.Path.{_≡_}
+use mathlib.Core.Bool.{true}
+use mathlib.Core.List.{List, [], _∷_, map}
+use mathlib.Core.Option.{Option, none, some}
+use lib.ListN.{length, getD, set}
+use lib.Seq.{sets}
+use Rattle.model.specs.Formula.{Aggregate}
+use Rattle.model.specs.QueueTable.{Table}
+use Rattle.model.specs.Orders.{Flow}
+use Rattle.model.specs.Aggregates.{aggregateAt}
+use Rattle.model.specs.Schedulable.{All, Named}
+use Rattle.model.specs.WithFlow.{withFlow, together}
+use Rattle.model.specs.Reference.{Cause, firstCause, linkFindings, atHop, metEarlier}
+use Rattle.queue_table.specs.View.{upTo, Columns, tableOf, hopAt, isQueue}
+use Rattle.figures.specs.declared.PathFinding.{PathFinding}
+use Rattle.figures.specs.declared.PathFinding.the-variants.{Fits, OverRate, OverDelay, OverBacklog}
+
+-- The figures of queue `e`, named as hop entries name it.
+unfoldable pub figureAt : (sums : List ℕ) (e : ℕ) → Aggregate
+figureAt sums e = record { rate = getD sums (3 * e) 0; burst = getD sums (3 * e + 1) 0; frame = getD sums (3 * e + 2) 0 }
+
+-- The figures of the eight levels of a link, counted from 0.
+unfoldable pub levelFigures : (sums : List ℕ) (link : ℕ) → List Aggregate
+levelFigures sums link = upTo 8 (λ p. figureAt sums (8 * link + p))
+
+-- The levels of the link of queue `e`, with a flow counted in there: its rate, its burst there and its largest frame.
+unfoldable pub levelsWith : (sums : List ℕ) (e rate burst frame : ℕ) → List Aggregate
+levelsWith sums e rate burst frame = set (levelFigures sums (e / 8)) (e % 8) (withFlow (figureAt sums e) rate burst frame)
+
+-- The column holds the figures of the flows.
+pub record Figures (t : Table) (fs : List Flow) (sums : List ℕ) : Type 0 where
+  pub long : length sums ≡ 1536
+  pub same : (e : ℕ) → e < 512 → figureAt sums e ≡ aggregateAt t fs (hopAt e)
+
+-- Each number of the column is at most so large.
+abbrev pub Below : (bound : ℕ) (sums : List ℕ) → Type 0
+Below bound sums = (j : ℕ) → getD sums j 0 ≤ bound
+
+-- The figures of a queue stored in the column.
+unfoldable pub figureStored : (sums : List ℕ) (e : ℕ) → Aggregate → List ℕ
+figureStored sums e a = sets sums (3 * e) (a .rate ∷ a .burst ∷ a .frame ∷ [])
+
+-- Hop entries within the columns, with thresholds in their range.
+pub record Hops (queues entries : List ℕ) : Type 0 where
+  pub queues-long : length queues ≡ 1024
+  pub few : length entries ≤ 12
+  pub each : All (λ e. (e < 512) × (getD queues (2 * e) 0 ≤ 100000)) entries
+
+-- A flow with this rate, burst and largest frame on this path.
+pub record FlowOf (rate burst frame : ℕ) (entries : List ℕ) (f : Flow) : Type 0 where
+  pub rate-is : f .rate ≡ rate
+  pub burst-is : f .burst ≡ burst
+  pub frame-is : f .frame ≡ frame
+  pub path-is : f .path ≡ map hopAt entries
+
+-- What the path adds at each queue is counted in, and no number grew by more than 2 ^ 35.
+pub record PathAdded (rate burst frame : ℕ) (queues entries sums sums′ : List ℕ) : Type 0 where
+  pub long : length sums′ ≡ 1536
+  pub same : (n : ℕ) (links : List ℕ) (f : Flow) → All (λ e. isQueue n links e ≡ true) entries → FlowOf rate burst frame entries f
+      → (e : ℕ) → e < 512 → figureAt sums′ e ≡ together (aggregateAt (tableOf n links queues) (f ∷ []) (hopAt e)) (figureAt sums e)
+  pub below : (bound : ℕ) → Below bound sums → Below (bound + 2 ^ 35) sums′
+
+-- The figures of a consistent registry stay below these numbers: a delay that passed bounds the burst sum.
+pub record Bounded (sums : List ℕ) : Type 0 where
+  pub long : length sums ≡ 1536
+  pub rates : (e : ℕ) → e < 512 → figureAt sums e .rate ≤ 10000000
+  pub bursts : (e : ℕ) → e < 512 → figureAt sums e .burst ≤ 2 ^ 32
+  pub frames : (e : ℕ) → e < 512 → figureAt sums e .frame ≤ 1542
+
+-- The links of the hop entries, with speeds in their range.
+pub record Speeds (links entries : List ℕ) : Type 0 where
+  pub links-long : length links ≡ 256
+  pub each : All (λ e. getD links (4 * (e / 8) + 2) 0 ≤ 10000) entries
+
+-- A path over queues of the table (14) that meets no link twice (16).
+pub record Path (n : ℕ) (links entries : List ℕ) : Type 0 where
+  pub named : All (λ e. isQueue n links e ≡ true) entries
+  pub once : atHop 16 metEarlier [] (map hopAt entries) ≡ none
+
+-- Document 01's code, link and level.
+abbrev pub causeOf : PathFinding → Option Cause
+causeOf Fits = none
+causeOf OverRate = some (record { code = 21; link = 0; level = 0 })
+causeOf (OverDelay link level) = some (record { code = 22; link = link; level = level })
+causeOf (OverBacklog link level) = some (record { code = 23; link = link; level = level })
+
+-- The first of 21 to 23 along the path with the flow beside the others, which are on queues of the table.
+pub record PathChecked (rate burst frame : ℕ) (links queues sums entries : List ℕ) (r : PathFinding) : Type 0 where
+  pub first : (n : ℕ) (fs : List Flow) (f : Flow) → Columns n links queues → Path n links entries → FlowOf rate burst frame entries f
+      → Figures (tableOf n links queues) fs sums
+      → All (λ g. All (Named (tableOf n links queues)) (g .path)) fs
+      → causeOf r ≡ firstCause (linkFindings (tableOf n links queues) (f ∷ fs) (f .path))

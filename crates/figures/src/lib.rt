@@ -1,0 +1,207 @@
+// The figures of the 512 queues (document 01, "The book"), in one column: what a path adds to them, and the check of
+// each link on a path with its flow counted in.
+//
+// A hop entry names a queue by 8 × (link - 1) + (level - 1), 0 to 511. Queue e has its rate sum, burst sum and largest
+// frame at 3 × e on in `sums`. The table's columns are those of `queue_table`: queue e has its threshold and buffer at
+// 2 × e on in `queues`. Why nothing overflows is said in `units`.
+ghost use mathlib.Core.Path.{_≡_};
+ghost use Prim.Native.Nat.{_+_, _*_, _/_, _^_, _≤_, _<_};
+ghost use lib.ListN.{length, getD};
+ghost use Rattle.model.specs.WithFlow.{withFlow};
+ghost use Rattle.model.specs.LinkCheck.{linkFinding};
+ghost use Rattle.model.specs.Reference.{linkCause};
+ghost use Rattle.queue_table.specs.View.{upTo, queueAt};
+ghost use Rattle.link_check.specs.Levels.{aggregateOf, aggregatesOf, queuesOf, findingOf};
+ghost use Rattle.figures.specs.View.{figureAt, levelFigures, levelsWith, Below, figureStored, Hops, PathAdded, Bounded, Speeds, causeOf, PathChecked};
+use link_check::Aggregate;
+use link_check::Finding;
+use link_check::LEVELS;
+use link_check::check_link;
+use units::Bytes;
+use units::Micros;
+use units::Rate;
+use units::burst_at_hop;
+
+// What the check of a path finds first; delay and backlog with their link and level.
+pub enum PathFinding {
+    Fits,
+    OverRate,
+    OverDelay(u32, u32),
+    OverBacklog(u32, u32),
+}
+
+// The queues of a link's eight levels.
+struct LinkQueues {
+    thresholds: [Micros; LEVELS],
+    buffers: [Bytes; LEVELS],
+}
+
+// The figures of queue e.
+fn figure(e: usize, sums: &[u64]) -> Aggregate
+    requires { ⌜ (e < 512) × (length (now sums) ≡ 1536) ⌝ }
+    ensures { λ r. ⌜ aggregateOf r ≡ figureAt (now (sums .entry)) e ⌝ }
+{
+    Aggregate {
+        rate: Rate(sums[3 * e]),
+        burst: Bytes(sums[3 * e + 1]),
+        frame: Bytes(sums[3 * e + 2]),
+    }
+}
+
+// The figures of a link's eight levels, the link counted from 0.
+pub fn link_levels(link: usize, sums: &[u64]) -> [Aggregate; LEVELS]
+    requires { ⌜ (link < 64) × (length (now sums) ≡ 1536) ⌝ }
+    ensures { λ r. ⌜ aggregatesOf r ≡ levelFigures (now (sums .entry)) link ⌝ }
+{
+    let mut levels = [Aggregate {
+        rate: Rate(0),
+        burst: Bytes(0),
+        frame: Bytes(0),
+    }; LEVELS];
+    let mut p = 0;
+    while p < LEVELS {
+        levels[p] = figure(8 * link + p, sums);
+        p += 1;
+    }
+    levels
+}
+
+// Thresholds and buffers of a link's eight levels, the link counted from 0.
+fn link_queues(link: usize, queues: &[u32]) -> LinkQueues
+    requires { ⌜ (link < 64) × (length (now queues) ≡ 1024) ⌝ }
+    ensures { λ r. ⌜ queuesOf (r .thresholds) (r .buffers) ≡ upTo 8 (queueAt (now (queues .entry)) link) ⌝ }
+{
+    let mut thresholds = [Micros(0); LEVELS];
+    let mut buffers = [Bytes(0); LEVELS];
+    let mut p = 0;
+    while p < LEVELS {
+        let at = 16 * link + 2 * p;
+        thresholds[p] = Micros(queues[at] as u64);
+        buffers[p] = Bytes(queues[at + 1] as u64);
+        p += 1;
+    }
+    LinkQueues {
+        thresholds,
+        buffers,
+    }
+}
+
+// A link's finding with its number.
+fn on_link(link: u32, found: Finding) -> PathFinding
+    ensures { λ r. ⌜ causeOf r ≡ linkCause link (findingOf found) ⌝ }
+{
+    match found {
+        Finding::Fits => PathFinding::Fits,
+        Finding::OverRate => PathFinding::OverRate,
+        Finding::OverDelay(level) => PathFinding::OverDelay(link, level as u32),
+        Finding::OverBacklog(level) => PathFinding::OverBacklog(link, level as u32),
+    }
+}
+
+// The check of the link of queue e, with a flow counted in there.
+fn check_hop(
+    e: usize,
+    rate: Rate,
+    burst: Bytes,
+    frame: Bytes,
+    links: &[u32],
+    queues: &[u32],
+    sums: &[u64],
+) -> PathFinding
+    requires { ⌜ (e < 512) × ((length (now links) ≡ 256) × ((length (now queues) ≡ 1024) × Bounded (now sums))) ⌝ }
+    requires { ⌜ getD (now links) (4 * (e / 8) + 2) 0 ≤ 10000 ⌝ }
+    requires { ⌜ (rate .0 ≤ 10000000) × ((burst .0 ≤ 2 ^ 31) × (frame .0 ≤ 1542)) ⌝ }
+    ensures { λ r. ⌜ causeOf r ≡ linkCause (e / 8 + 1) (linkFinding (getD (now (links .entry)) (4 * (e / 8) + 2) 0) (upTo 8 (queueAt (now (queues .entry)) (e / 8))) (levelsWith (now (sums .entry)) e (rate .0) (burst .0) (frame .0))) ⌝ }
+{
+    let link = e / LEVELS;
+    let mut levels = link_levels(link, sums);
+    let own = figure(e, sums);
+    levels[e % LEVELS] = own.with_flow(rate, burst, frame);
+    let held = link_queues(link, queues);
+    let speed = links[4 * link + 2] as u64;
+    let thresholds = held.thresholds;
+    let buffers = held.buffers;
+    let checked = check_link(speed, thresholds, buffers, levels);
+    let finding = checked.finding;
+    on_link(link as u32 + 1, finding)
+}
+
+// The links of a path one by one, with the flow counted in at its level and with its burst there: 21 for the link, then
+// level by level 22 before 23.
+pub fn check_path(
+    rate: Rate,
+    burst: Bytes,
+    frame: Bytes,
+    links: &[u32],
+    queues: &[u32],
+    sums: &[u64],
+    entries: &[u32],
+) -> PathFinding
+    requires { ⌜ (rate .0 ≤ 10000000) × ((burst .0 ≤ 1000000) × (frame .0 ≤ 1542)) ⌝ }
+    requires { ⌜ Hops (now queues) (now entries) ⌝ }
+    requires { ⌜ Speeds (now links) (now entries) × Bounded (now sums) ⌝ }
+    ensures { λ r. ⌜ PathChecked (rate .0) (burst .0) (frame .0) (now (links .entry)) (now (queues .entry)) (now (sums .entry)) (now (entries .entry)) r ⌝ }
+{
+    let mut sum: u64 = 0;
+    let mut i = 0;
+    while i < entries.len() {
+        let e = entries[i] as usize;
+        let found = check_hop(
+            e,
+            rate,
+            burst_at_hop(rate, burst, Micros(sum)),
+            frame,
+            links,
+            queues,
+            sums,
+        );
+        let PathFinding::Fits = found else {
+            return found;
+        };
+        sum += queues[2 * e] as u64;
+        i += 1;
+    }
+    PathFinding::Fits
+}
+
+// Counts a flow in at queue e, with its burst there.
+fn add_hop(e: usize, rate: Rate, burst: Bytes, frame: Bytes, sums: &mut [u64])
+    requires { ⌜ (e < 512) × ((length (now sums) ≡ 1536) × Below (2 ^ 63) (now sums)) ⌝ }
+    requires { ⌜ (rate .0 ≤ 2 ^ 31) × (burst .0 ≤ 2 ^ 31) ⌝ }
+    ensures { λ _. ⌜ now (sums .exit) ≡ figureStored (now (sums .entry)) e (withFlow (figureAt (now (sums .entry)) e) (rate .0) (burst .0) (frame .0)) ⌝ }
+{
+    let at = 3 * e;
+    let rates = sums[at] + rate.0;
+    let bursts = sums[at + 1] + burst.0;
+    let largest = sums[at + 2];
+    sums[at] = rates;
+    sums[at + 1] = bursts;
+    if largest < frame.0 {
+        sums[at + 2] = frame.0;
+    }
+}
+
+// Counts a flow in at each queue of its path.
+pub fn add_path(
+    rate: Rate,
+    burst: Bytes,
+    frame: Bytes,
+    queues: &[u32],
+    entries: &[u32],
+    sums: &mut [u64],
+)
+    requires { ⌜ (rate .0 ≤ 10000000) × ((burst .0 ≤ 1000000) × (frame .0 ≤ 1542)) ⌝ }
+    requires { ⌜ Hops (now queues) (now entries) ⌝ }
+    requires { ⌜ (length (now sums) ≡ 1536) × Below (2 ^ 62) (now sums) ⌝ }
+    ensures { λ _. ⌜ PathAdded (rate .0) (burst .0) (frame .0) (now (queues .entry)) (now (entries .entry)) (now (sums .entry)) (now (sums .exit)) ⌝ }
+{
+    let mut sum: u64 = 0;
+    let mut i = 0;
+    while i < entries.len() {
+        let e = entries[i] as usize;
+        let there = burst_at_hop(rate, burst, Micros(sum));
+        add_hop(e, rate, there, frame, sums);
+        sum += queues[2 * e] as u64;
+        i += 1;
+    }
+}

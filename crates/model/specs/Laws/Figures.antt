@@ -1,0 +1,279 @@
+-- The figures with a flow more: at each queue, what the flow adds there and what the others have. On a link that its path crosses once that is one level.
+-- The path is split at the hop; the entries before and after it add nothing at that link. Assumes nothing.
+use Prim.Native.Nat.{ℕ, zero, suc, _+_, _≤_, _<_, max}
+use mathlib.Core.Path.{_≡_, refl, sym, ap, ap₂, _∙_}
+use mathlib.Core.Bool.{Bool, true, false, cond}
+use mathlib.Core.List.{List, [], _∷_, _++_, append-nil}
+use mathlib.Core.Option.{Option, none, some, Option·some-ne-none, Option·none-ne-some}
+use native.Mathlib.Nat.{add-zero, zero-add}
+use native.Mathlib.Omega.{arith}
+use lib.ListN.{length, set}
+use lib.Dec.{eqb}
+use borrow.Author.Tests.{eqb-true, eqb-false, eq-eqb, ne-eqb}
+use Rattle.model.specs.Total.{total, largest}
+use Rattle.model.specs.Laws.Total.{total-append, largest-append, total-zero, largest-zero}
+use Rattle.model.specs.Laws.Test.{and-both, or-neither}
+use Rattle.model.specs.Laws.Aggregates.{off-path}
+use Rattle.model.specs.Laws.LinkSteps.{Empty}
+use Rattle.model.specs.Formula.{Aggregate, burstAtHop}
+use Rattle.model.specs.QueueTable.{Queue, Table}
+use Rattle.model.specs.Orders.{Hop, Flow}
+use Rattle.model.specs.Aggregates.{Entry, thresholdOf, queueAt, entries, allEntries, sameHop, addsAt, aggregateAt, levelAggregates}
+use Rattle.model.specs.Schedulable.{All, Named}
+use Rattle.model.specs.WithFlow.{noFlow, withFlow, together}
+use Rattle.model.specs.Laws.All.{append-all, all-imp}
+use Rattle.model.specs.Reference.{Cause, crosses, thresholdSum, atHop, metEarlier}
+
+-- What a list of entries adds at a queue.
+unfoldable pub entriesAt : Hop → List Entry → Aggregate
+entriesAt q es =
+    record {
+      rate = total (addsAt q (λ a. a .rate)) es;
+      burst = total (addsAt q (λ a. a .burst)) es;
+      frame = largest (addsAt q (λ a. a .frame)) es;
+    }
+
+-- The path crosses the link of the hop `h` there alone.
+pub record Crossed (path before : List Hop) (h : Hop) (after : List Hop) : Type 0 where
+  pub split : path ≡ before ++ h ∷ after
+  pub before-off : crosses (h .link) before ≡ false
+  pub after-off : crosses (h .link) after ≡ false
+
+together-none : (a : Aggregate) → together noFlow a ≡ a
+unfolding together noFlow
+together-none a = λ i. record { rate = rate i; burst = burst i; frame = frame i }
+  where
+    rate : 0 + a .rate ≡ a .rate
+    rate = omega arith
+
+    burst : 0 + a .burst ≡ a .burst
+    burst = omega arith
+
+    frame : max 0 (a .frame) ≡ a .frame
+    frame = omega arith
+
+together-moved : (a b c : Aggregate) → together (together a b) c ≡ together b (withFlow c (a .rate) (a .burst) (a .frame))
+unfolding together withFlow
+together-moved a b c = λ i. record { rate = rate i; burst = burst i; frame = frame i }
+  where
+    rate : a .rate + b .rate + c .rate ≡ b .rate + (c .rate + a .rate)
+    rate = omega arith
+
+    burst : a .burst + b .burst + c .burst ≡ b .burst + (c .burst + a .burst)
+    burst = omega arith
+
+    frame : max (max (a .frame) (b .frame)) (c .frame) ≡ max (b .frame) (max (c .frame) (a .frame))
+    frame = omega arith
+
+module _ (q : Hop) where
+  pub entries-nothing : (a : Aggregate) → together (entriesAt q []) a ≡ a
+  unfolding entriesAt total largest noFlow
+  entries-nothing a = together-none a
+
+  entries-append : (l m : List Entry) → entriesAt q (l ++ m) ≡ together (entriesAt q l) (entriesAt q m)
+  unfolding entriesAt together
+  entries-append l m =
+      λ i. record { rate = total-append (addsAt q (λ a. a .rate)) l m i; burst = total-append (addsAt q (λ a. a .burst)) l m i; frame = largest-append (addsAt q (λ a. a .frame)) l m i }
+
+  -- An entry of another queue.
+  pub entries-other : (x : Entry) (es : List Entry) → sameHop q (x .hop) ≡ false → entriesAt q (x ∷ es) ≡ entriesAt q es
+  unfolding entriesAt total largest addsAt together noFlow
+  entries-other x es e = rw e (together-none (entriesAt q es))
+
+  -- An entry of this queue, counted in there and then taken as done.
+  pub entries-here : (x : Entry) (es : List Entry) (a : Aggregate) → sameHop q (x .hop) ≡ true
+      → together (entriesAt q (x ∷ es)) a ≡ together (entriesAt q es) (withFlow a (x .adds .rate) (x .adds .burst) (x .adds .frame))
+  unfolding entriesAt total largest addsAt together
+  entries-here x es a e = rw e (together-moved (x .adds) (entriesAt q es) a)
+
+module _ (t : Table) where
+  pub aggregate-alone : (f : Flow) (q : Hop) → aggregateAt t (f ∷ []) q ≡ entriesAt q (entries t f 0 (f .path))
+  unfolding aggregateAt allEntries entriesAt
+  aggregate-alone f q = ap (entriesAt q) (append-nil (entries t f 0 (f .path)))
+
+  added : (f : Flow) (fs : List Flow) (q : Hop) → aggregateAt t (f ∷ fs) q ≡ together (entriesAt q (entries t f 0 (f .path))) (aggregateAt t fs q)
+  unfolding aggregateAt allEntries entriesAt
+  added f fs q = entries-append q (entries t f 0 (f .path)) (allEntries t fs)
+
+  -- The new flow's own aggregate and that of the others.
+  pub aggregate-more : (f : Flow) (fs : List Flow) (q : Hop) → aggregateAt t (f ∷ fs) q ≡ together (aggregateAt t (f ∷ []) q) (aggregateAt t fs q)
+  aggregate-more f fs q = added f fs q ∙ ap (λ (a : Aggregate). together a (aggregateAt t fs q)) (sym (aggregate-alone f q))
+
+  entries-off : (f : Flow) (sum : ℕ) (q : Hop) (path : List Hop) → crosses (q .link) path ≡ false → entriesAt q (entries t f sum path) ≡ noFlow
+  unfolding entriesAt noFlow
+  entries-off f sum q path off =
+      λ i. record {
+        rate = total-zero (addsAt q (λ a. a .rate)) (entries t f sum path) (off-path t f (q .link) (q .level) (λ a. a .rate) sum path off) i;
+        burst = total-zero (addsAt q (λ a. a .burst)) (entries t f sum path) (off-path t f (q .link) (q .level) (λ a. a .burst) sum path off) i;
+        frame = largest-zero (addsAt q (λ a. a .frame)) (entries t f sum path) (off-path t f (q .link) (q .level) (λ a. a .frame) sum path off) i;
+      }
+
+  entries-split : (f : Flow) (sum : ℕ) (before after : List Hop)
+      → entries t f sum (before ++ after) ≡ entries t f sum before ++ entries t f (sum + thresholdSum t before) after
+  unfolding entries thresholdSum total
+  entries-split f sum [] after = rw (add-zero sum)
+  entries-split f sum (h ∷ before) after =
+      let d : ℕ = thresholdOf (queueAt t h) in
+      let e : sum + d + thresholdSum t before ≡ sum + (d + thresholdSum t before) = omega arith in
+      ap₂ (λ (x : Entry) (l : List Entry). x ∷ l) refl
+      (entries-split f (sum + d) before after ∙ ap (λ (n : ℕ). entries t f (sum + d) before ++ entries t f n after) e)
+
+  module _ (f : Flow) (fs : List Flow) {before after : List Hop} {h : Hop} (c : Crossed (f .path) before h after) where
+    sum : ℕ
+    sum = thresholdSum t before
+
+    entry : Entry
+    entry = record { hop = h; adds = record { rate = f .rate; burst = burstAtHop (f .rate) (f .burst) sum; frame = f .frame } }
+
+    after-entries : List Entry
+    after-entries = entries t f (sum + thresholdOf (queueAt t h)) after
+
+    only : (p : ℕ) → let q : Hop = record { link = h .link; level = p } in
+        aggregateAt t (f ∷ fs) q ≡ together (entriesAt q (entry ∷ after-entries)) (aggregateAt t fs q)
+    unfolding entries sum entry after-entries
+    only p =
+        let q : Hop = record { link = h .link; level = p } in
+        let front : entriesAt q (entries t f 0 (f .path)) ≡ entriesAt q (entry ∷ after-entries)
+        = ap (λ (l : List Hop). entriesAt q (entries t f 0 l)) (c .split)
+        ∙ ap (entriesAt q) (entries-split f 0 before (h ∷ after))
+        ∙ entries-append q (entries t f 0 before) (entries t f (0 + thresholdSum t before) (h ∷ after))
+        ∙ ap (λ (a : Aggregate). together a (entriesAt q (entries t f (0 + thresholdSum t before) (h ∷ after)))) (entries-off f 0 q before (c .before-off))
+        ∙ together-none (entriesAt q (entries t f (0 + thresholdSum t before) (h ∷ after)))
+        ∙ rw (zero-add (thresholdSum t before)) in
+        added f fs q ∙ ap (λ (a : Aggregate). together a (aggregateAt t fs q)) front
+
+    same-level : (p : ℕ) → eqb p (h .level) ≡ true → sameHop (record { link = h .link; level = p }) h ≡ true
+    unfolding sameHop
+    same-level p e = rw (eq-eqb (h .link) (h .link) refl) e
+
+    other-level : (p : ℕ) → (p ≡ h .level → ⊥) → sameHop (record { link = h .link; level = p }) h ≡ false
+    unfolding sameHop
+    other-level p ne = rw (eq-eqb (h .link) (h .link) refl) (ne-eqb p (h .level) ne)
+
+    after-off : (p : ℕ) → entriesAt (record { link = h .link; level = p }) after-entries ≡ noFlow
+    unfolding after-entries
+    after-off p = entries-off f (sum + thresholdOf (queueAt t h)) (record { link = h .link; level = p }) after (c .after-off)
+
+    -- The aggregate at the hop, with the flow's burst there.
+    unfoldable pub counted : Aggregate
+    counted = withFlow (aggregateAt t fs h) (f .rate) (burstAtHop (f .rate) (f .burst) (thresholdSum t before)) (f .frame)
+
+    at-level : aggregateAt t (f ∷ fs) h ≡ counted
+    unfolding counted entry sum
+    at-level =
+        only (h .level)
+        ∙ entries-here h entry after-entries (aggregateAt t fs h) (same-level (h .level) (eq-eqb (h .level) (h .level) refl))
+        ∙ ap (λ (a : Aggregate). together a counted) (after-off (h .level))
+        ∙ together-none counted
+
+    beside : (p : ℕ) → (p ≡ h .level → ⊥) → let q : Hop = record { link = h .link; level = p } in aggregateAt t (f ∷ fs) q ≡ aggregateAt t fs q
+    unfolding entry
+    beside p ne =
+        let q : Hop = record { link = h .link; level = p } in
+        only p
+        ∙ ap (λ (a : Aggregate). together a (aggregateAt t fs q)) (entries-other q entry after-entries (other-level p ne) ∙ after-off p)
+        ∙ together-none (aggregateAt t fs q)
+
+    levels-past : (n : ℕ) (qs : List Queue) → h .level < n → levelAggregates t (f ∷ fs) (h .link) n qs ≡ levelAggregates t fs (h .link) n qs
+    unfolding levelAggregates
+    levels-past n [] lt = refl
+    levels-past n (q ∷ qs) lt = ap₂ (λ (a : Aggregate) (l : List Aggregate). a ∷ l) (beside n (omega arith)) (levels-past (suc n) qs (omega arith))
+
+    -- The levels of the link from number `n` on: the flow is counted in at its own, `k` further.
+    pub levels-more : (n k : ℕ) (qs : List Queue) → h .level ≡ n + k
+        → levelAggregates t (f ∷ fs) (h .link) n qs ≡ set (levelAggregates t fs (h .link) n qs) k counted
+    unfolding levelAggregates
+    levels-more n k [] e = refl
+    levels-more n zero (q ∷ qs) e =
+        let own : n ≡ h .level = omega arith in
+        ap₂ (λ (a : Aggregate) (l : List Aggregate). a ∷ l) (ap (λ (p : ℕ). aggregateAt t (f ∷ fs) (record { link = h .link; level = p })) own ∙ at-level) (levels-past (suc n) qs (omega arith))
+    levels-more n (suc k) (q ∷ qs) e =
+        ap₂ (λ (a : Aggregate) (l : List Aggregate). a ∷ l) (beside n (omega arith)) (levels-more (suc n) k qs (omega arith))
+
+  -- Queues one after the other.
+  pub levels-append : (fs : List Flow) (link n : ℕ) (qs more : List Queue)
+      → levelAggregates t fs link n (qs ++ more) ≡ levelAggregates t fs link n qs ++ levelAggregates t fs link (n + length qs) more
+  unfolding levelAggregates
+  levels-append fs link n [] more = rw (add-zero n)
+  levels-append fs link n (q ∷ qs) more =
+      let e : suc n + length qs ≡ n + suc (length qs) = omega arith in
+      ap₂ (λ (a : Aggregate) (l : List Aggregate). a ∷ l) refl
+      (levels-append fs link (suc n) qs more ∙ ap (λ (m : ℕ). levelAggregates t fs link (suc n) qs ++ levelAggregates t fs link m more) e)
+
+  pub levels-length : (fs : List Flow) (link n : ℕ) (qs : List Queue) → length (levelAggregates t fs link n qs) ≡ length qs
+  unfolding levelAggregates
+  levels-length fs link n [] = refl
+  levels-length fs link n (q ∷ qs) = ap suc (levels-length fs link (suc n) qs)
+
+  pub levels-empty : (fs : List Flow) (link n : ℕ) (qs : List Queue)
+      → ((p : ℕ) → n ≤ p → aggregateAt t fs (record { link = link; level = p }) ≡ noFlow)
+      → Empty (levelAggregates t fs link n qs)
+  unfolding levelAggregates
+  levels-empty fs link n [] z = tt
+  levels-empty fs link n (q ∷ qs) z = (z n (omega arith), levels-empty fs link (suc n) qs (λ p le. z p (omega arith)))
+
+  -- No flow has a hop where the table has no queue.
+  module _ (q : Hop) (missing : queueAt t q ≡ none) where
+    unnamed : (h : Hop) → Named t h → sameHop q h ≡ false
+    unfolding sameHop
+    unnamed h n = go (sameHop q h) refl
+      where
+        go : (b : Bool) → sameHop q h ≡ b → sameHop q h ≡ false
+        go false e = e
+        go true e =
+            let (link, level) = and-both (eqb (q .link) (h .link)) (eqb (q .level) (h .level)) e in
+            let same : q ≡ h = λ i. record { link = eqb-true (q .link) (h .link) link i; level = eqb-true (q .level) (h .level) level i } in
+            absurd (Option·none-ne-some _ (sym missing ∙ ap (queueAt t) same ∙ n .found))
+
+    entries-unnamed : (f : Flow) (sum : ℕ) (path : List Hop) → All (Named t) path → entriesAt q (entries t f sum path) ≡ noFlow
+    unfolding entries entriesAt total largest noFlow
+    entries-unnamed f sum [] a = refl
+    entries-unnamed f sum (h ∷ path) a =
+        entries-other q _ (entries t f (sum + thresholdOf (queueAt t h)) path) (unnamed h (a .0))
+        ∙ entries-unnamed f (sum + thresholdOf (queueAt t h)) path (a .1)
+
+    pub aggregate-unnamed : (fs : List Flow) → All (λ f. All (Named t) (f .path)) fs → aggregateAt t fs q ≡ noFlow
+    unfolding aggregateAt allEntries total largest noFlow
+    aggregate-unnamed [] a = refl
+    aggregate-unnamed (f ∷ fs) a =
+        added f fs q
+        ∙ ap (λ (x : Aggregate). together x (aggregateAt t fs q)) (entries-unnamed f 0 (f .path) (a .0))
+        ∙ together-none (aggregateAt t fs q)
+        ∙ aggregate-unnamed fs (a .1)
+
+-- No hop of the path is on a link met earlier (16).
+module _ (code : ℕ) where
+  found-none : (b : Bool) (c : Cause) (o : Option Cause) → cond b (some c) o ≡ none → (b ≡ false) × (o ≡ none)
+  found-none true c o e = absurd (Option·some-ne-none _ e)
+  found-none false c o e = (refl, e)
+
+  unmet : (earlier path : List Hop) → atHop code metEarlier earlier path ≡ none → All (λ h. crosses (h .link) earlier ≡ false) path
+  unfolding atHop metEarlier crosses
+  unmet earlier [] e = tt
+  unmet earlier (h ∷ path) e =
+      let (here, later) = found-none (crosses (h .link) earlier) _ (atHop code metEarlier (h ∷ earlier) path) e in
+      (here, all-imp path (λ x m. or-neither (eqb (h .link) (x .link)) (crosses (x .link) earlier) m .1) (unmet (h ∷ earlier) path later))
+
+  later-off : (h : Hop) (earlier path : List Hop) → All (λ x. crosses (x .link) (h ∷ earlier) ≡ false) path → crosses (h .link) path ≡ false
+  unfolding crosses
+  later-off h earlier [] a = refl
+  later-off h earlier (x ∷ path) a =
+      let other = or-neither (eqb (h .link) (x .link)) (crosses (x .link) earlier) (a .0) .0 in
+      rw (ne-eqb (x .link) (h .link) (λ e. eqb-false (h .link) (x .link) other (sym e))) (later-off h earlier path (a .1))
+
+  both-off : (earlier before : List Hop) (h : Hop) (after : List Hop) → atHop code metEarlier earlier (before ++ h ∷ after) ≡ none
+      → (crosses (h .link) before ≡ false) × (crosses (h .link) after ≡ false)
+  unfolding atHop metEarlier crosses
+  both-off earlier [] h after e =
+      (refl, later-off h earlier after (unmet (h ∷ earlier) after (found-none (crosses (h .link) earlier) _ _ e .1)))
+  both-off earlier (x ∷ before) h after e =
+      let rest = found-none (crosses (x .link) earlier) _ _ e .1 in
+      let met = append-all (λ y. crosses (y .link) (x ∷ earlier) ≡ false) before (h ∷ after) (unmet (x ∷ earlier) (before ++ h ∷ after) rest) .1 .0 in
+      let off = both-off (x ∷ earlier) before h after rest in
+      (rw (or-neither (eqb (x .link) (h .link)) (crosses (h .link) earlier) met .0) (off .0), off .1)
+
+  pub crossed : (before : List Hop) (h : Hop) (after : List Hop) {path : List Hop} → path ≡ before ++ h ∷ after → atHop code metEarlier [] path ≡ none
+      → Crossed path before h after
+  crossed before h after e none-met =
+      let off = both-off [] before h after (sym (ap (atHop code metEarlier []) e) ∙ none-met) in
+      record { split = e; before-off = off .0; after-off = off .1 }
