@@ -1,7 +1,7 @@
 -- The loop that counts a flow in hop by hop: what the hops left add and the figures so far make the whole.
 -- Assumes nothing.
 use Prim.Native.Nat.{ℕ, _+_, _*_, _^_, _≤_, _<_}
-use mathlib.Core.Path.{_≡_, sym, ap, _∙_}
+use mathlib.Core.Path.{_≡_, refl, sym, ap, _∙_}
 use mathlib.Core.Bool.{true}
 use mathlib.Core.List.{List, [], _∷_}
 use native.Mathlib.Omega.{arith}
@@ -13,12 +13,13 @@ use Rattle.model.specs.QueueTable.{Table}
 use Rattle.model.specs.Aggregates as model
 use Rattle.model.specs.Schedulable.{All}
 use Rattle.model.specs.WithFlow.{withFlow, together}
+use Rattle.model.specs.Laws.Aggregates.{hop-same}
 use Rattle.model.specs.Laws.Figures.{entriesAt, entries-nothing, entries-other, entries-here, aggregate-alone, aggregate-more}
 use Rattle.queue_table.specs.View.{tableOf, hopAt, isQueue}
 use Rattle.link_check.proofs.Laws.{mapped-next, mapped-end}
 use Rattle.figures.specs.View.{figureAt, Below, figureStored, FlowOf, PathAdded, Figures}
 use Rattle.figures.proofs.FigureLaws.{stored-length, stored-here, stored-other, stored-below}
-use Rattle.figures.proofs.EntryLaws.{same-entry, other-entry, threshold-named, all-at}
+use Rattle.figures.proofs.EntryLaws.{other-entry, threshold-named, all-at}
 
 -- The figures so far, `sums`, with the hops from `i` on left, before which the thresholds sum to `sum`.
 pub record Adding (rate burst frame : ℕ) (queues entries before sums : List ℕ) (sum i : ℕ) : Type 0 where
@@ -98,7 +99,7 @@ module _ (rate burst frame : ℕ) (queues entries before : List ℕ) where
         step e (yes same) =
             rw same
             (ap (together (entriesAt (hopAt x) rest)) (stored-here sums x there (omega (arith, so-far .long)))
-            ∙ sym (entries-here (hopAt x) entry rest (figureAt sums x) (same-entry x)))
+            ∙ sym (entries-here (hopAt x) entry rest (figureAt sums x) (hop-same (hopAt x) (hopAt x) refl)))
         step e (no other) =
             ap (together (entriesAt (hopAt e) rest)) (stored-other sums x there e other)
             ∙ ap (λ a. together a (figureAt sums e)) (sym (entries-other (hopAt e) entry rest (other-entry e x other)))

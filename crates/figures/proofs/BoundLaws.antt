@@ -10,22 +10,13 @@ use Rattle.model.specs.Total.{total, largest}
 use Rattle.model.specs.Formula.{Aggregate}
 use Rattle.model.specs.WithFlow.{withFlow}
 use Rattle.model.specs.Schedulable.{All}
+use Rattle.model.specs.Laws.Total.{total-le, largest-le}
 use Rattle.model.specs.Laws.All.{all-append}
 use Rattle.queue_table.specs.View.{upTo}
 use Rattle.queue_table.proofs.ViewLaws.{length-up}
 use Rattle.figures.specs.View.{figureAt, levelFigures, levelsWith, Bounded}
 
 module _ {A : Type 0} where
-  total-most : (f : A → ℕ) (most : ℕ) (l : List A) → All (λ x. f x ≤ most) l → total f l ≤ length l * most
-  unfolding total
-  total-most f most [] a = omega arith
-  total-most f most (x ∷ l) a = omega (arith, a .0, total-most f most l (a .1))
-
-  largest-most : (f : A → ℕ) (most : ℕ) (l : List A) → All (λ x. f x ≤ most) l → largest f l ≤ most
-  unfolding largest
-  largest-most f most [] a = omega arith
-  largest-most f most (x ∷ l) a = omega (arith, a .0, largest-most f most l (a .1))
-
   set-all : (P : A → Type 0) (l : List A) (i : ℕ) (v : A) → All P l → P v → All P (set l i v)
   set-all P [] i v a h = tt
   set-all P (x ∷ l) zero v a h = (h, a .1)
@@ -60,9 +51,9 @@ module _ (sums : List ℕ) (bounded : Bounded sums) (e : ℕ) (low : e < 512) (r
   unfolding withFlow
   room =
       let levels = levelsWith sums e rate burst frame in
-      let rates = total-most (λ a. a .rate) 20000000 levels (each (λ a. a .rate) 20000000 (λ d lt. omega (arith, bounded .rates d lt)) (omega (arith, bounded .rates e low))) in
-      let bursts = total-most (λ a. a .burst) (2 ^ 33) levels (each (λ a. a .burst) (2 ^ 33) (λ d lt. omega (arith, bounded .bursts d lt)) (omega (arith, bounded .bursts e low))) in
-      let frames = largest-most (λ a. a .frame) 1542 levels (each (λ a. a .frame) 1542 (λ d lt. bounded .frames d lt) (omega (arith, bounded .frames e low))) in
+      let rates = total-le (λ a. a .rate) 20000000 levels (each (λ a. a .rate) 20000000 (λ d lt. omega (arith, bounded .rates d lt)) (omega (arith, bounded .rates e low))) in
+      let bursts = total-le (λ a. a .burst) (2 ^ 33) levels (each (λ a. a .burst) (2 ^ 33) (λ d lt. omega (arith, bounded .bursts d lt)) (omega (arith, bounded .bursts e low))) in
+      let frames = largest-le (λ a. a .frame) 1542 levels (each (λ a. a .frame) 1542 (λ d lt. bounded .frames d lt) (omega (arith, bounded .frames e low))) in
       let rate-sum : total (λ a. a .rate) levels ≤ 8 * 20000000 = rw long at rates in
       let burst-sum : total (λ a. a .burst) levels ≤ 8 * 2 ^ 33 = rw long at bursts in
       (omega arith, omega arith)

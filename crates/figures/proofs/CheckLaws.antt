@@ -24,7 +24,7 @@ use Rattle.queue_table.specs.View.{upTo, queueAt, tableOf, hopAt, isQueue, Colu
 use Rattle.link_check.proofs.Laws.{mapped-next, mapped-end}
 use Rattle.figures.specs.declared.PathFinding.{PathFinding}
 use Rattle.figures.specs.declared.PathFinding.the-variants.{Fits}
-use Rattle.figures.specs.View.{levelsWith, Figures, FlowOf, Path, causeOf, PathChecked}
+use Rattle.figures.specs.View.{levelsWith, Figures, FlowOf, OnTable, causeOf, PathChecked}
 use Rattle.figures.proofs.EntryLaws.{all-at, queue-named, threshold-named}
 use Rattle.figures.proofs.LinkLaws.{hop-cause}
 
@@ -32,8 +32,8 @@ use Rattle.figures.proofs.LinkLaws.{hop-cause}
 pub record Checking (rate burst frame : ℕ) (links queues sums entries : List ℕ) (sum i : ℕ) : Type 0 where
   pub within : i ≤ length entries
   pub sum-below : sum ≤ i * 100000
-  pub sum-is : (n : ℕ) → Path n links entries → sum ≡ thresholdSum (tableOf n links queues) (map hopAt (take i entries))
-  pub left : (n : ℕ) (fs : List Flow) (f : Flow) → Columns n links queues → Path n links entries → FlowOf rate burst frame entries f
+  pub sum-is : (n : ℕ) → OnTable n links entries → sum ≡ thresholdSum (tableOf n links queues) (map hopAt (take i entries))
+  pub left : (n : ℕ) (fs : List Flow) (f : Flow) → Columns n links queues → OnTable n links entries → FlowOf rate burst frame entries f
       → Figures (tableOf n links queues) fs sums
       → All (λ g. All (Named (tableOf n links queues)) (g .path)) fs
       → firstCause (linkFindings (tableOf n links queues) (f ∷ fs) (drop i (f .path)))
@@ -79,7 +79,7 @@ module _ (rate burst frame : ℕ) (links queues sums entries : List ℕ) where
         abbrev e : ℕ
         e = getD entries i 0
 
-        module _ (n : ℕ) (fs : List Flow) (f : Flow) (columns : Columns n links queues) (path : Path n links entries) (is : FlowOf rate burst frame entries f)
+        module _ (n : ℕ) (fs : List Flow) (f : Flow) (columns : Columns n links queues) (path : OnTable n links entries) (is : FlowOf rate burst frame entries f)
             (figures : Figures (tableOf n links queues) fs sums) (on : All (λ g. All (Named (tableOf n links queues)) (g .path)) fs) where
           abbrev t : Table
           t = tableOf n links queues
@@ -109,7 +109,7 @@ module _ (rate burst frame : ℕ) (links queues sums entries : List ℕ) where
                   sym (first-fault (causeOf r) (linkFindings (tableOf n links queues) (f ∷ fs) (drop (i + 1) (f .path))) fault) ∙ step n fs f columns path is figures on;
             }
 
-        sum-next : (n : ℕ) → Path n links entries → sum + getD queues (2 * e) 0 ≡ thresholdSum (tableOf n links queues) (map hopAt (take (i + 1) entries))
+        sum-next : (n : ℕ) → OnTable n links entries → sum + getD queues (2 * e) 0 ≡ thresholdSum (tableOf n links queues) (map hopAt (take (i + 1) entries))
         unfolding thresholdSum total
         sum-next n path =
             let t : Table = tableOf n links queues in

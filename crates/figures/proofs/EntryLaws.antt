@@ -9,30 +9,29 @@ use native.Mathlib.Nat.{div-add-mod, mod-lt, mul-le-mul}
 use native.Mathlib.Omega.{arith}
 use lib.Arith.{digits-div, digits-mod}
 use lib.ListN.{length, getD}
-use lib.Dec.{eqb, ltb}
-use borrow.Author.Tests.{eqb-true, eq-eqb, ltb-true}
+use lib.Dec.{ltb}
+use borrow.Author.Tests.{ltb-true}
 use Rattle.model.specs.Formula.{burstAtHop}
 use Rattle.model.specs.Laws.Formula.{ceilDiv-le}
 use Rattle.model.specs.Aggregates as model
 use Rattle.model.specs.Schedulable.{All}
+use Rattle.model.specs.Orders.{Hop}
+use Rattle.model.specs.Laws.Aggregates.{same-hop}
 use Rattle.model.specs.Laws.Test.{and-both}
 use Rattle.queue_table.specs.View.{queueAt, levelsAt, tableOf, hopAt, isQueue}
+use Rattle.figures.specs.View.{Hops}
 use Rattle.queue_table.proofs.LookupLaws.{queue-found}
 
--- Two entries name one queue exactly when they are equal.
-pub same-entry : (e : ℕ) → model.sameHop (hopAt e) (hopAt e) ≡ true
-unfolding model.sameHop hopAt
-same-entry e = rw (eq-eqb (e / 8 + 1) (e / 8 + 1) refl, eq-eqb (e % 8 + 1) (e % 8 + 1) refl)
-
+-- Two entries that name one queue are equal.
 pub other-entry : (d e : ℕ) → (d ≡ e → ⊥) → model.sameHop (hopAt d) (hopAt e) ≡ false
-unfolding model.sameHop hopAt
+unfolding hopAt
 other-entry d e ne = go (model.sameHop (hopAt d) (hopAt e)) refl
   where
     go : (b : Bool) → model.sameHop (hopAt d) (hopAt e) ≡ b → model.sameHop (hopAt d) (hopAt e) ≡ false
     go false q = q
     go true q =
-        let (link, level) = and-both (eqb (d / 8 + 1) (e / 8 + 1)) (eqb (d % 8 + 1) (e % 8 + 1)) q in
-        absurd (ne (omega (arith, eqb-true (d / 8 + 1) (e / 8 + 1) link, eqb-true (d % 8 + 1) (e % 8 + 1) level, div-add-mod d 8, div-add-mod e 8)))
+        let same : hopAt d ≡ hopAt e = same-hop (hopAt d) (hopAt e) q in
+        absurd (ne (omega (arith, ap (λ (h : Hop). h .link) same, ap (λ (h : Hop). h .level) same, div-add-mod d 8, div-add-mod e 8)))
 
 -- The entry of a link and a level, both counted from 0.
 pub entry-hop : (link p : ℕ) → p < 8 → hopAt (8 * link + p) ≡ record { link = link + 1; level = p + 1 }
@@ -67,6 +66,10 @@ module _ (P : ℕ → Type 0) where
   all-at [] i a h = absurd (omega arith)
   all-at (x ∷ l) zero a h = a .0
   all-at (x ∷ l) (suc i) a h = all-at l i (a .1) (omega arith)
+
+pub hop-at : {queues entries : List ℕ} → Hops queues entries → (i : ℕ) → i < length entries
+    → (getD entries i 0 < 512) × (getD queues (2 * getD entries i 0) 0 ≤ 100000)
+hop-at {queues} {entries} hops i h = all-at (λ e. (e < 512) × (getD queues (2 * e) 0 ≤ 100000)) entries i (hops .each) h
 
 -- A burst at a hop, in the ranges of document 01.
 pub burst-small : (rate burst sum : ℕ) → rate ≤ 10000000 → burst ≤ 1000000 → sum ≤ 1200000 → burstAtHop rate burst sum ≤ 2 ^ 31

@@ -1,6 +1,6 @@
 -- Figures stored in the column are read back, and those of the other queues stay as they were.
 -- Assumes nothing.
-use Prim.Native.Nat.{ℕ, zero, suc, _+_, _*_, _≤_, _<_, max}
+use Prim.Native.Nat.{ℕ, zero, suc, _+_, _*_, _^_, _≤_, _<_, max}
 use mathlib.Core.Path.{_≡_, refl, sym, ap, _∙_}
 use mathlib.Core.List.{List, [], _∷_}
 use native.Mathlib.Nat.{add-zero}
@@ -60,6 +60,10 @@ module _ (sums : List ℕ) (e : ℕ) (a : Aggregate) where
       let one : List ℕ = set sums (3 * e) (a .rate) in
       let two : List ℕ = set one (suc (3 * e)) (a .burst) in
       set-below bound two (suc (suc (3 * e))) (a .frame) (set-below bound one (suc (3 * e)) (a .burst) (set-below bound sums (3 * e) (a .rate) b r) s) f
+
+-- A number of the column has room for one more flow.
+pub sum-fits : (sums : List ℕ) (k more : ℕ) → Below (2 ^ 63) sums → more ≤ 2 ^ 31 → getD sums k 0 + more < 2 ^ 64
+sum-fits sums k more below small = omega (arith, below k)
 
 -- The stores that count a flow in: the largest frame is stored only where it grows.
 module _ (sums : List ℕ) (e rate burst frame : ℕ) where

@@ -75,7 +75,7 @@ pub record Speeds (links entries : List ℕ) : Type 0 where
   pub each : All (λ e. getD links (4 * (e / 8) + 2) 0 ≤ 10000) entries
 
 -- A path over queues of the table (14) that meets no link twice (16).
-pub record Path (n : ℕ) (links entries : List ℕ) : Type 0 where
+pub record OnTable (n : ℕ) (links entries : List ℕ) : Type 0 where
   pub named : All (λ e. isQueue n links e ≡ true) entries
   pub once : atHop 16 metEarlier [] (map hopAt entries) ≡ none
 
@@ -88,7 +88,7 @@ causeOf (OverBacklog link level) = some (record { code = 23; link = link; level 
 
 -- The first of 21 to 23 along the path with the flow beside the others, which are on queues of the table.
 pub record PathChecked (rate burst frame : ℕ) (links queues sums entries : List ℕ) (r : PathFinding) : Type 0 where
-  pub first : (n : ℕ) (fs : List Flow) (f : Flow) → Columns n links queues → Path n links entries → FlowOf rate burst frame entries f
+  pub first : (n : ℕ) (fs : List Flow) (f : Flow) → Columns n links queues → OnTable n links entries → FlowOf rate burst frame entries f
       → Figures (tableOf n links queues) fs sums
       → All (λ g. All (Named (tableOf n links queues)) (g .path)) fs
       → causeOf r ≡ firstCause (linkFindings (tableOf n links queues) (f ∷ fs) (f .path))

@@ -23,3 +23,4 @@ pub mod Levels
 pub mod Admissible
 pub mod Path
 pub mod Figures
+pub mod Bounds

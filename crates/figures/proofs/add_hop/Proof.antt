@@ -1,18 +1,17 @@
 -- `figures::add_hop` meets its contract: its stores are the definition's, one after the other.
 -- Assumes nothing.
 use borrow.Author.Needs.{needs}
-use Prim.Native.Nat.{_+_, _*_}
 use native.Mathlib.Omega.{arith}
 use lib.ListN.{length-set}
-use Rattle.figures.proofs.FigureLaws.{frame-grows, frame-stays}
+use Rattle.figures.proofs.FigureLaws.{sum-fits, frame-grows, frame-stays}
 use Rattle.figures.proofs.add_hop.Statement.{statement}
 use Rattle.figures.proofs.add_hop.Tie as tie
 
 add-rates : tie.Need-add-rates
-add-rates c = omega (arith, c .before .before .pre .0 .1 .1 (3 * c .before .before .args .e), c .before .before .pre .1)
+add-rates c = record { fits = sum-fits (c .before .before .args .sums .now) _ (c .before .before .args .rate .0) (c .before .before .pre .0 .1 .1) (c .before .before .pre .1 .0) }
 
 add-bursts-2 : tie.Need-add-bursts-2
-add-bursts-2 c = omega (arith, c .before .before .before .before .pre .0 .1 .1 (3 * c .before .before .before .before .args .e + 1), c .before .before .before .before .pre .1)
+add-bursts-2 c = record { fits = sum-fits (c .before .before .before .before .args .sums .now) _ (c .before .before .before .before .args .burst .0) (c .before .before .before .before .pre .0 .1 .1) (c .before .before .before .before .pre .1 .1) }
 
 slice-write-sums-2 : tie.Need-slice-write-sums-2
 slice-write-sums-2 c = simp length-set (omega arith)

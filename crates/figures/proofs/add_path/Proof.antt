@@ -6,7 +6,7 @@ use mathlib.Core.Path.{sym, _∙_}
 use native.Mathlib.Omega.{arith}
 use lib.ListN.{length, getD}
 use Rattle.model.specs.Formula.{burstAtHop}
-use Rattle.figures.proofs.EntryLaws.{all-at, burst-small}
+use Rattle.figures.proofs.EntryLaws.{hop-at, burst-small}
 use Rattle.figures.proofs.AddLaws.{Adding, adding-none, adding-next, adding-all}
 use Rattle.figures.proofs.add_path.Statement.{statement}
 use Rattle.figures.proofs.add_path.Tie as tie
@@ -26,9 +26,7 @@ module _ (c : tie.In-loop Inv-loop μ-loop) where
   e = getD (start .args .entries .now) (c .before .loop .i) 0
 
   hop : (e < 512) × (getD (start .args .queues .now) (2 * e) 0 ≤ 100000)
-  hop =
-      all-at (λ e. (e < 512) × (getD (start .args .queues .now) (2 * e) 0 ≤ 100000)) (start .args .entries .now) (c .before .loop .i) (start .pre .1 .0 .each)
-      (c .loop-test .taken)
+  hop = hop-at (start .pre .1 .0) (c .before .loop .i) (c .loop-test .taken)
 
   low : c .before .loop .sum ≤ 1200000
   low = omega (arith, c .before .loop .inv .sum-below, c .loop-test .taken, start .pre .1 .0 .few)

@@ -17,7 +17,7 @@ use Rattle.model.specs.LinkCheck.{linkFinding}
 use Rattle.model.specs.Reference.{linkCause}
 use Rattle.queue_table.specs.View.{upTo, queueAt}
 use Rattle.figures.specs.View.{causeOf, levelsWith}
-use Rattle.figures.proofs.EntryLaws.{all-at, burst-small}
+use Rattle.figures.proofs.EntryLaws.{all-at, hop-at, burst-small}
 use Rattle.figures.proofs.CheckLaws.{Checking, checking-none, checking-all, checking-found, checking-next}
 use Rattle.figures.proofs.check_path.Statement.{statement}
 use Rattle.figures.proofs.check_path.Tie as tie
@@ -44,9 +44,7 @@ module _ (c : tie.In-loop Inv-loop μ-loop) where
   e = getD (start .args .entries .now) (c .before .loop .i) 0
 
   hop : (e < 512) × (getD (start .args .queues .now) (2 * e) 0 ≤ 100000)
-  hop =
-      all-at (λ e. (e < 512) × (getD (start .args .queues .now) (2 * e) 0 ≤ 100000)) (start .args .entries .now) (c .before .loop .i) (start .pre .1 .0 .each)
-      (c .loop-test .taken)
+  hop = hop-at (start .pre .1 .0) (c .before .loop .i) (c .loop-test .taken)
 
   speed : getD (start .args .links .now) (4 * (e / 8) + 2) 0 ≤ 10000
   speed =

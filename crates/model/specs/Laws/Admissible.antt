@@ -47,12 +47,12 @@ module _ (t : Table) (fs : List Flow) (frames : All (λ f. 1 ≤ f .frame) fs) (
       }
 
 -- 11: the largest frame.
-frame-range : (f : Flow) → flowInRange f ≡ true → 84 ≤ f .frame
+pub frame-range : (f : Flow) → flowInRange f ≡ true → (84 ≤ f .frame) × (f .frame ≤ 1542)
 unfolding flowInRange headInRange headOf
 frame-range f e =
     let head = and-both (headInRange (headOf f)) _ e .0 in
     let (e₁, deadline) = and-both (numberInRange (f .number) && between 1 10000000 (f .rate) && between 84 1000000 (f .burst) && between 84 1542 (f .frame)) _ head in
-    between-true 84 1542 (f .frame) (and-both (numberInRange (f .number) && between 1 10000000 (f .rate) && between 84 1000000 (f .burst)) _ e₁ .1) .0
+    between-true 84 1542 (f .frame) (and-both (numberInRange (f .number) && between 1 10000000 (f .rate) && between 84 1000000 (f .burst)) _ e₁ .1)
 
 -- The deadline's finding and eq. 14.
 deadline-met : (t : Table) (f : Flow) → (deadlineFinding t f ≡ none) ↔ (thresholdSum t (f .path) ≤ f .deadline)
@@ -65,8 +65,8 @@ module _ (s : State) (f : Flow) (ok : StateRules s) (range : flowInRange f ≡ t
 
   frames : All (λ g. 1 ≤ g .frame) with-new
   frames = (
-    omega (arith, frame-range f range),
-    all-imp (heldFlows (s .slots)) (λ g r. omega (arith, frame-range g (r .range))) (ok .flows .flows),
+    omega (arith, frame-range f range .0),
+    all-imp (heldFlows (s .slots)) (λ g r. omega (arith, frame-range g (r .range) .0)) (ok .flows .flows),
   )
 
   -- None of 10 to 17, 30 and 31 against it: 0 if and only if admissible.

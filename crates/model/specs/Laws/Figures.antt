@@ -9,11 +9,11 @@ use native.Mathlib.Nat.{add-zero, zero-add}
 use native.Mathlib.Omega.{arith}
 use lib.ListN.{length, set}
 use lib.Dec.{eqb}
-use borrow.Author.Tests.{eqb-true, eqb-false, eq-eqb, ne-eqb}
+use borrow.Author.Tests.{eqb-false, eq-eqb, ne-eqb}
 use Rattle.model.specs.Total.{total, largest}
 use Rattle.model.specs.Laws.Total.{total-append, largest-append, total-zero, largest-zero}
-use Rattle.model.specs.Laws.Test.{and-both, or-neither}
-use Rattle.model.specs.Laws.Aggregates.{off-path}
+use Rattle.model.specs.Laws.Test.{or-neither}
+use Rattle.model.specs.Laws.Aggregates.{same-hop, hop-same, off-path}
 use Rattle.model.specs.Laws.LinkSteps.{Empty}
 use Rattle.model.specs.Formula.{Aggregate, burstAtHop}
 use Rattle.model.specs.QueueTable.{Queue, Table}
@@ -142,10 +142,6 @@ module _ (t : Table) where
         ∙ rw (zero-add (thresholdSum t before)) in
         added f fs q ∙ ap (λ (a : Aggregate). together a (aggregateAt t fs q)) front
 
-    same-level : (p : ℕ) → eqb p (h .level) ≡ true → sameHop (record { link = h .link; level = p }) h ≡ true
-    unfolding sameHop
-    same-level p e = rw (eq-eqb (h .link) (h .link) refl) e
-
     other-level : (p : ℕ) → (p ≡ h .level → ⊥) → sameHop (record { link = h .link; level = p }) h ≡ false
     unfolding sameHop
     other-level p ne = rw (eq-eqb (h .link) (h .link) refl) (ne-eqb p (h .level) ne)
@@ -162,7 +158,7 @@ module _ (t : Table) where
     unfolding counted entry sum
     at-level =
         only (h .level)
-        ∙ entries-here h entry after-entries (aggregateAt t fs h) (same-level (h .level) (eq-eqb (h .level) (h .level) refl))
+        ∙ entries-here h entry after-entries (aggregateAt t fs h) (hop-same h h refl)
         ∙ ap (λ (a : Aggregate). together a counted) (after-off (h .level))
         ∙ together-none counted
 
@@ -215,15 +211,11 @@ module _ (t : Table) where
   -- No flow has a hop where the table has no queue.
   module _ (q : Hop) (missing : queueAt t q ≡ none) where
     unnamed : (h : Hop) → Named t h → sameHop q h ≡ false
-    unfolding sameHop
     unnamed h n = go (sameHop q h) refl
       where
         go : (b : Bool) → sameHop q h ≡ b → sameHop q h ≡ false
         go false e = e
-        go true e =
-            let (link, level) = and-both (eqb (q .link) (h .link)) (eqb (q .level) (h .level)) e in
-            let same : q ≡ h = λ i. record { link = eqb-true (q .link) (h .link) link i; level = eqb-true (q .level) (h .level) level i } in
-            absurd (Option·none-ne-some _ (sym missing ∙ ap (queueAt t) same ∙ n .found))
+        go true e = absurd (Option·none-ne-some _ (sym missing ∙ ap (queueAt t) (same-hop q h e) ∙ n .found))
 
     entries-unnamed : (f : Flow) (sum : ℕ) (path : List Hop) → All (Named t) path → entriesAt q (entries t f sum path) ≡ noFlow
     unfolding entries entriesAt total largest noFlow

@@ -4,6 +4,7 @@ use mathlib.Core.Path.{_≡_, refl}
 use mathlib.Core.Bool.{true, cond, _&&_}
 use mathlib.Core.List.{List, [], _∷_}
 use mathlib.Core.Option.{Option, none, some, Option·none-ne-some, Option·some-ne-none}
+use lib.ListN.{length}
 use Rattle.model.specs.Columns.{between}
 use Rattle.model.specs.Laws.Columns.{between-true}
 use Rattle.model.specs.QueueTable.{Queue, Link, Table, rowInRange}
@@ -24,23 +25,46 @@ unfolding nth
 all-nth P l zero a e = absurd (Option·none-ne-some _ e)
 all-nth P l (suc i) a e = all-at P l i _ a e
 
+-- What the ranges of a table line (2) say of a queue and its link.
+pub record RowBounds (l : Link) (q : Queue) : Type 0 where
+  pub speed : l .speed ≤ 10000
+  pub positive : 1 ≤ q .threshold
+  pub threshold : q .threshold ≤ 100000
+  pub buffer : q .buffer ≤ 16777215
+
+row-bounds : (l : Link) (q : Queue) → rowInRange (rowOf l q) ≡ true → RowBounds l q
+unfolding rowInRange rowOf
+row-bounds l q e =
+    let (e₁, buffer) = and-both (between 1 9999 (l .from) && between 1 9999 (l .to) && between 1 10000 (l .speed) && between 1 100000 (q .threshold)) _ e in
+    let (e₂, threshold) = and-both (between 1 9999 (l .from) && between 1 9999 (l .to) && between 1 10000 (l .speed)) _ e₁ in
+    let (e₃, speed) = and-both (between 1 9999 (l .from) && between 1 9999 (l .to)) _ e₂ in
+    let (low, high) = between-true 1 100000 (q .threshold) threshold in
+    record {
+      speed = between-true 1 10000 (l .speed) speed .1;
+      positive = low;
+      threshold = high;
+      buffer = between-true 1 16777215 (q .buffer) buffer .1;
+    }
+
 module _ (t : Table) (ok : tableConsistent t ≡ true) where
   links-rules : All LinkRules t
   unfolding tableConsistent
   links-rules = all-imp t link-rules (every-all linkConsistent t (and-both (every linkConsistent t) _ ok .0))
 
-  -- The threshold of a queue's line.
-  row-threshold : (l : Link) (q : Queue) → rowInRange (rowOf l q) ≡ true → 1 ≤ q .threshold
-  unfolding rowInRange rowOf
-  row-threshold l q e =
-      let (e₁, buffer) = and-both (between 1 9999 (l .from) && between 1 9999 (l .to) && between 1 10000 (l .speed) && between 1 100000 (q .threshold)) _ e in
-      between-true 1 100000 (q .threshold) (and-both (between 1 9999 (l .from) && between 1 9999 (l .to) && between 1 10000 (l .speed)) _ e₁ .1) .0
+  -- Each level of a link with a number.
+  pub link-bounds : (n : ℕ) (k : Link) → linkAt t n ≡ some k → (between 1 8 (length (k .levels)) ≡ true) × All (RowBounds k) (k .levels)
+  unfolding linkAt
+  link-bounds n k e =
+      let r = all-nth LinkRules t n links-rules e in
+      (r .levels, all-imp (k .levels) (row-bounds k) (r .ranges))
 
-  pub thresholds : (h : Hop) (q : Queue) → queueAt t h ≡ some q → 1 ≤ q .threshold
-  unfolding queueAt linkAt
-  thresholds h q e =
+  -- A queue and its link.
+  pub queue-bounds : (h : Hop) (q : Queue) → queueAt t h ≡ some q
+      → (k : Link) × (linkAt t (h .link) ≡ some k) × (nth (k .levels) (h .level) ≡ some q) × RowBounds k q
+  unfolding queueAt
+  queue-bounds h q e =
       let (k, found, level) = and-then (linkAt t (h .link)) (λ l. nth (l .levels) (h .level)) e in
-      row-threshold k q (all-nth (λ q. rowInRange (rowOf k q) ≡ true) (k .levels) (h .level) (all-nth LinkRules t (h .link) links-rules found .ranges) level)
+      (k, found, level, all-nth (RowBounds k) (k .levels) (h .level) (link-bounds (h .link) k found .1) level)
 
 -- 14: each hop names a queue.
 named : (t : Table) (earlier path : List Hop) → atHop 14 (noQueue t) earlier path ≡ none → All (Named t) path
@@ -58,7 +82,7 @@ pub schedulable : (s : State) → StateRules s → Schedulable (s .table) (heldF
 unfolding lineFindings
 schedulable s r =
     record {
-      thresholds = thresholds (s .table) (r .table);
+      thresholds = λ h q e. queue-bounds (s .table) (r .table) h q e .3 .positive;
       flows = all-imp (heldFlows (s .slots)) meets (r .flows .flows);
     }
   where
