@@ -1,26 +1,29 @@
--- The check of eight levels in the columns is the model's check of the link, with the flow counted in at its hop.
+-- The check of eight levels in the columns is the model's check of the link, as the flows are and with one more counted in at its hop.
 -- Levels past the link's own carry no flow of the table, so the law of padding applies. Assumes nothing.
 use Prim.Native.Nat.{ℕ, zero, suc, _+_, _-_, _*_, _/_, _%_, _≤_, _<_}
-use mathlib.Core.Path.{_≡_, refl, sym, ap, ap₂, _∙_}
+use mathlib.Core.Path.{_≡_, refl, sym, ap, ap₂, subst, _∙_}
 use mathlib.Core.Bool.{true}
 use mathlib.Core.List.{List, [], _∷_, _++_, append-nil, append-assoc}
+use mathlib.Core.Option.{Option·none-ne-some, Option·some-injective}
 use native.Mathlib.Nat.{add-zero}
 use native.Mathlib.Omega.{arith}
+use native.Mathlib.Decide.{decLt}
+use native.Mathlib.Numerals.{add-one}
 use lib.ListN.{length, getD, set}
 use Rattle.model.specs.Formula.{Aggregate, burstAtHop}
-use Rattle.model.specs.QueueTable.{Queue, Table}
+use Rattle.model.specs.QueueTable.{Queue, Link, Table}
 use Rattle.model.specs.Orders.{Hop, Flow}
 use Rattle.model.specs.Aggregates as model
 use Rattle.model.specs.WithFlow.{noFlow, withFlow}
-use Rattle.model.specs.LinkCheck.{linkFinding}
-use Rattle.model.specs.Schedulable.{All, Named}
+use Rattle.model.specs.LinkCheck.{Finding, linkFinding}
+use Rattle.model.specs.Schedulable.{All, Named, LinkMeets}
 use Rattle.model.specs.Reference.{linkCause, causeAt, thresholdSum}
 use Rattle.model.specs.Laws.LinkSteps.{padding}
 use Rattle.model.specs.Laws.Figures.{Crossed, counted, levels-more, levels-append, levels-length, levels-empty, aggregate-unnamed}
 use Rattle.queue_table.specs.View.{upTo, queueAt, levelsAt, linkAt, tableOf, hopAt, isQueue, Columns}
 use Rattle.queue_table.proofs.ViewLaws.{length-up, up-same}
-use Rattle.queue_table.proofs.LookupLaws.{link-found, queue-no-level}
-use Rattle.figures.specs.View.{figureAt, levelFigures, levelsWith, Figures}
+use Rattle.queue_table.proofs.LookupLaws.{link-found, link-missing, queue-no-level}
+use Rattle.figures.specs.View.{figureAt, levelFigures, levelsWith, codeAt, Figures}
 use Rattle.figures.proofs.EntryLaws.{entry-hop, queue-within, queue-low}
 
 up-split : {A : Type 0} (m k : ℕ) (f : ℕ → A) → upTo (m + k) f ≡ upTo m f ++ upTo k (λ p. f (m + p))
@@ -102,3 +105,39 @@ module _ (n : ℕ) (links queues : List ℕ) where
           ∙ ap (linkCause (i + 1))
           (sym (eight-levels (f ∷ fs) i speed (within .0) (columns .shallow i (within .0)) (f-on, on))
           ∙ ap (linkFinding speed (upTo 8 (queueAt queues i))) hop-levels)
+
+  -- The finding at a link as the flows are.
+  module _ (columns : Columns n links queues) (fs : List Flow) (sums : List ℕ) (figures : Figures t fs sums) (on : All (λ g. All (Named t) (g .path)) fs) where
+    own-code : (i : ℕ) → i < n
+        → linkFinding (linkAt links queues i .speed) (linkAt links queues i .levels) (model.levelAggregates t fs (i + 1) 1 (linkAt links queues i .levels)) .code
+        ≡ codeAt links queues sums i
+    unfolding linkAt
+    own-code i h =
+        let speed : ℕ = getD links (4 * i + 2) 0 in
+        ap (λ (w : Finding). w .code)
+        (sym (eight-levels fs i speed h (columns .shallow i h) on)
+        ∙ ap (linkFinding speed (upTo 8 (queueAt queues i))) (figure-levels fs sums i (omega (arith, columns .few)) figures))
+
+    pub meets-code : (i : ℕ) → i < n → LinkMeets t fs (i + 1) → codeAt links queues sums i ≡ 0
+    meets-code i h m = sym (own-code i h) ∙ m .meets (linkAt links queues i) (link-found n links queues i h)
+
+    code-meets : (i : ℕ) → codeAt links queues sums i ≡ 0 → i < n → LinkMeets t fs (i + 1)
+    code-meets i z h =
+        record {
+          meets = λ k e.
+              subst (λ (k : Link). linkFinding (k .speed) (k .levels) (model.levelAggregates t fs (i + 1) 1 (k .levels)) .code ≡ 0)
+              (Option·some-injective _ _ (sym (link-found n links queues i h) ∙ e))
+              (own-code i h ∙ z);
+        }
+
+    -- A number past the links names none.
+    pub codes-meet : ((i : ℕ) → i < n → codeAt links queues sums i ≡ 0) → (link : ℕ) → LinkMeets t fs link
+    unfolding model.linkAt model.nth
+    codes-meet z zero = record { meets = λ k e. absurd (Option·none-ne-some _ e) }
+    codes-meet z (suc i) = go (decLt i n)
+      where
+        go : Dec (i < n) → LinkMeets t fs (suc i)
+        go (yes h) = rw (add-one i) at (code-meets i (z i h) h)
+        go (no past) =
+            let missing = link-missing n links queues i (omega arith) in
+            record { meets = λ k e. absurd (Option·none-ne-some _ (sym (rw (add-one i) at missing) ∙ e)) }

@@ -1,7 +1,7 @@
 -- What the columns and answers of this crate say in the terms of the model.
 use Prim.Native.Nat.{ℕ, _+_, _*_, _/_, _%_, _^_, _≤_, _<_}
 use mathlib.Core.Path.{_≡_}
-use mathlib.Core.Bool.{true}
+use mathlib.Core.Bool.{Bool, true, false}
 use mathlib.Core.List.{List, [], _∷_, map}
 use mathlib.Core.Option.{Option, none, some}
 use lib.ListN.{length, getD, set}
@@ -10,10 +10,11 @@ use Rattle.model.specs.Formula.{Aggregate}
 use Rattle.model.specs.QueueTable.{Table}
 use Rattle.model.specs.Orders.{Flow}
 use Rattle.model.specs.Aggregates.{aggregateAt}
-use Rattle.model.specs.Schedulable.{All, Named}
+use Rattle.model.specs.LinkCheck.{linkFinding}
+use Rattle.model.specs.Schedulable.{All, Named, LinkMeets}
 use Rattle.model.specs.WithFlow.{withFlow, together}
 use Rattle.model.specs.Reference.{Cause, firstCause, linkFindings, atHop, metEarlier}
-use Rattle.queue_table.specs.View.{upTo, Columns, tableOf, hopAt, isQueue}
+use Rattle.queue_table.specs.View.{upTo, Columns, tableOf, queueAt, hopAt, isQueue}
 use Rattle.figures.specs.declared.PathFinding.{PathFinding}
 use Rattle.figures.specs.declared.PathFinding.the-variants.{Fits, OverRate, OverDelay, OverBacklog}
 
@@ -92,3 +93,18 @@ pub record PathChecked (rate burst frame : ℕ) (links queues sums entries : Lis
       → Figures (tableOf n links queues) fs sums
       → All (λ g. All (Named (tableOf n links queues)) (g .path)) fs
       → causeOf r ≡ firstCause (linkFindings (tableOf n links queues) (f ∷ fs) (f .path))
+
+-- What the check of the eight levels of a link finds with these figures: the code of 21 to 23, or 0.
+abbrev pub codeAt : (links queues sums : List ℕ) (link : ℕ) → ℕ
+codeAt links queues sums link = linkFinding (getD links (4 * link + 2) 0) (upTo 8 (queueAt queues link)) (levelFigures sums link) .code
+
+-- The links of the table, with speeds in their range.
+pub record LinkSpeeds (n : ℕ) (links : List ℕ) : Type 0 where
+  pub each : (link : ℕ) → link < n → getD links (4 * link + 2) 0 ≤ 10000
+
+-- Whether every link of the table meets 21 to 23 with flows on its queues that have these figures.
+pub record LinksMet (n : ℕ) (links queues sums : List ℕ) (r : Bool) : Type 0 where
+  pub sound : r ≡ true → (fs : List Flow) → Figures (tableOf n links queues) fs sums → All (λ g. All (Named (tableOf n links queues)) (g .path)) fs
+      → (link : ℕ) → LinkMeets (tableOf n links queues) fs link
+  pub complete : r ≡ false → (fs : List Flow) → Figures (tableOf n links queues) fs sums → All (λ g. All (Named (tableOf n links queues)) (g .path)) fs
+      → ((link : ℕ) → LinkMeets (tableOf n links queues) fs link) → ⊥

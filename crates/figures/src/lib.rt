@@ -5,14 +5,17 @@
 // frame at 3 × e on in `sums`. The table's columns are those of `queue_table`: queue e has its threshold and buffer at
 // 2 × e on in `queues`. Why nothing overflows is said in `units`.
 ghost use mathlib.Core.Path.{_≡_};
+ghost use mathlib.Core.Bool.{true};
+ghost use mathlib.Core.Logic.{_↔_};
 ghost use Prim.Native.Nat.{_+_, _*_, _/_, _^_, _≤_, _<_};
 ghost use lib.ListN.{length, getD};
+ghost use lib.Dec.{eqb};
 ghost use Rattle.model.specs.WithFlow.{withFlow};
 ghost use Rattle.model.specs.LinkCheck.{linkFinding};
 ghost use Rattle.model.specs.Reference.{linkCause};
-ghost use Rattle.queue_table.specs.View.{upTo, queueAt};
+ghost use Rattle.queue_table.specs.View.{upTo, queueAt, Columns};
 ghost use Rattle.link_check.specs.Levels.{aggregateOf, aggregatesOf, queuesOf, findingOf};
-ghost use Rattle.figures.specs.View.{figureAt, levelFigures, levelsWith, Below, figureStored, Hops, PathAdded, Bounded, Speeds, causeOf, PathChecked};
+ghost use Rattle.figures.specs.View.{figureAt, levelFigures, levelsWith, Below, figureStored, Hops, PathAdded, Bounded, Speeds, causeOf, PathChecked, codeAt, LinkSpeeds, LinksMet};
 use link_check::Aggregate;
 use link_check::Finding;
 use link_check::LEVELS;
@@ -204,4 +207,61 @@ pub fn add_path(
         sum += queues[2 * e] as u64;
         i += 1;
     }
+}
+
+// Whether the figures are small enough for the formulas. Those of a consistent registry are.
+pub fn bounded(sums: &[u64]) -> bool
+    requires { ⌜ length (now sums) ≡ 1536 ⌝ }
+    ensures { λ r. ⌜ (r ≡ true) ↔ Bounded (now (sums .entry)) ⌝ }
+{
+    let mut e = 0;
+    while e < 512 {
+        let own = figure(e, sums);
+        if own.rate.0 > 10_000_000 {
+            return false;
+        }
+        if own.burst.0 > 4_294_967_296 {
+            return false;
+        }
+        if own.frame.0 > 1542 {
+            return false;
+        }
+        e += 1;
+    }
+    true
+}
+
+// Whether a link, counted from 0, meets 21 to 23 with these figures.
+fn link_meets(link: usize, links: &[u32], queues: &[u32], sums: &[u64]) -> bool
+    requires { ⌜ (link < 64) × ((length (now links) ≡ 256) × ((length (now queues) ≡ 1024) × Bounded (now sums))) ⌝ }
+    requires { ⌜ getD (now links) (4 * link + 2) 0 ≤ 10000 ⌝ }
+    ensures { λ r. ⌜ r ≡ eqb (codeAt (now (links .entry)) (now (queues .entry)) (now (sums .entry)) link) 0 ⌝ }
+{
+    let levels = link_levels(link, sums);
+    let held = link_queues(link, queues);
+    let speed = links[4 * link + 2] as u64;
+    let thresholds = held.thresholds;
+    let buffers = held.buffers;
+    let checked = check_link(speed, thresholds, buffers, levels);
+    let finding = checked.finding;
+    match finding {
+        Finding::Fits => true,
+        _ => false,
+    }
+}
+
+// Whether every link meets 21 to 23 with these figures.
+pub fn links_meet(n: usize, links: &[u32], queues: &[u32], sums: &[u64]) -> bool
+    requires { ⌜ Columns n (now links) (now queues) × Bounded (now sums) ⌝ }
+    requires { ⌜ LinkSpeeds n (now links) ⌝ }
+    ensures { λ r. ⌜ LinksMet n (now (links .entry)) (now (queues .entry)) (now (sums .entry)) r ⌝ }
+{
+    let mut i = 0;
+    while i < n {
+        if !link_meets(i, links, queues, sums) {
+            return false;
+        }
+        i += 1;
+    }
+    true
 }

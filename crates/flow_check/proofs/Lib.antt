@@ -1,1 +1,3 @@
 pub mod CauseLaws
+pub mod HeldLaws
+pub mod SlotLaws

@@ -1,19 +1,21 @@
 -- What the answers of this crate say in the terms of the model.
-use Prim.Native.Nat.{ℕ, _≤_}
+use Prim.Native.Nat.{ℕ, _+_, _*_}
 use mathlib.Core.Path.{_≡_}
-use mathlib.Core.List.{List, [], _∷_, map}
+use mathlib.Core.Bool.{Bool, true, _&&_}
+use mathlib.Core.List.{List, [], _∷_, _++_, map}
 use mathlib.Core.Option.{Option, none, some}
-use lib.ListN.{length, take}
-use lib.Dec.{ltb}
+use lib.ListN.{length, getD, take, drop}
+use lib.Dec.{leb, ltb, eqb}
 use Rattle.model.specs.QueueTable.{Table}
 use Rattle.model.specs.Orders as model
 use Rattle.model.specs.Reference as model-causes
 use Rattle.model.specs.Outcomes.{earlyFindings}
+use Rattle.model.specs.Consistent.{flowInRange}
 use Rattle.orders.specs.declared.Flow.{Flow}
 use Rattle.orders.specs.Reading.{fieldsOf}
 use Rattle.queue_table.specs.View.{tableOf, hopAt}
 use Rattle.path_check.specs.Causes.{AllQueues, linePath}
-use Rattle.flow_store.specs.View.{Store, slotsOf}
+use Rattle.flow_store.specs.View.{Store, slotsOf, countAt, countsFrom}
 use Rattle.flow_check.specs.declared.Cause.{Cause}
 use Rattle.flow_check.specs.declared.Cause.the-variants.{Nothing, Whole, At}
 use Rattle.flow_check.specs.declared.Judged.{Judged}
@@ -63,3 +65,38 @@ pub record RoomJudged (hops : ℕ) (slots : List ℕ) (r : Room) : Type 0 where
   pub first : (pool : List ℕ) (f : model.Flow) → Store slots pool → length (f .path) ≡ hops
       → causeOf (r .cause) ≡ model-causes.firstCause (model-causes.roomFindings (slotsOf slots pool) f)
   pub slot : (pool : List ℕ) → r .slot ≡ model-causes.firstIndex model-causes.isNone (slotsOf slots pool)
+
+-- 11, 12, 17, 14, 16, 15 and 20 of a held flow beside the others: what consistency asks of it but the links.
+unfoldable pub flowAlone : Table → List model.Flow → model.Flow → Bool
+flowAlone t fs f =
+    flowInRange f
+    && leb (model-causes.withNumber (f .number) fs) 1
+    && model-causes.isNone (model-causes.firstCause (model-causes.lineFindings t f ++ model-causes.deadlineFinding t f ∷ []))
+
+-- The same of slot i, counted from 0, if it is held: with 12 as that no lower slot has the number.
+unfoldable pub slotAlone : Table → List model-causes.Slot → (i : ℕ) → model-causes.Slot → Bool
+slotAlone t slots i none = true
+slotAlone t slots i (some f) =
+    flowInRange f
+    && eqb (model-causes.firstIndex (model-causes.holds (f .number)) slots) i
+    && model-causes.isNone (model-causes.firstCause (model-causes.lineFindings t f ++ model-causes.deadlineFinding t f ∷ []))
+
+-- The numbers that stand at slot i, held or free.
+abbrev pub headAt : (slots : List ℕ) (i : ℕ) → model.Head
+headAt slots i =
+    record {
+      number = getD slots (6 * i) 0;
+      rate = getD slots (6 * i + 1) 0;
+      burst = getD slots (6 * i + 2) 0;
+      frame = getD slots (6 * i + 3) 0;
+      deadline = getD slots (6 * i + 4) 0;
+      hops = getD slots (6 * i + 5) 0;
+    }
+
+-- The hop entries of slot i.
+abbrev pub entriesAt : (slots pool : List ℕ) (i : ℕ) → List ℕ
+entriesAt slots pool i = take (countAt slots i) (drop (countsFrom i 0 slots) pool)
+
+-- 14, 16, 15 and 20 of a path.
+abbrev pub pathFindings : Table → (deadline : ℕ) → List model.Hop → List (Option model-causes.Cause)
+pathFindings t deadline path = model-causes.atHop 14 (model-causes.noQueue t) [] path ∷ entryFindings t deadline path

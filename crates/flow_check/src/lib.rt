@@ -1,17 +1,20 @@
 // The causes against a registration before its links are checked (document 01, "Order"): 12, 17, 14, 16, 15, 20, and
-// then 30 and 31.
+// then 30 and 31; and whether each held flow meets 11 and those before 30 beside the others.
 ghost use mathlib.Core.Path.{_≡_};
 ghost use mathlib.Core.List.{List, [], _∷_, map};
-ghost use mathlib.Core.Option.{some};
-ghost use Prim.Native.Nat.{ℕ, _+_, _/_, _%_, _≤_};
-ghost use lib.ListN.{length};
-ghost use Rattle.model.specs.Reference.{firstCause};
+ghost use mathlib.Core.Option.{none, some};
+ghost use Prim.Native.Nat.{ℕ, _+_, _/_, _%_, _≤_, _<_};
+ghost use lib.ListN.{length, getD};
+ghost use Rattle.model.specs.Reference.{firstCause, isNone, every, heldFlows};
 ghost use Rattle.queue_table.specs.View.{Columns, hopAt, tableOf};
 ghost use Rattle.path_check.specs.Causes.{AllQueues};
-ghost use Rattle.flow_store.specs.View.{Store, slotsOf};
-ghost use Rattle.flow_check.specs.Findings.{causeOf, entryFindings, PathJudged, FlowJudged, RoomJudged};
+ghost use Rattle.flow_store.specs.View.{Store, slotsOf, countAt};
+ghost use Rattle.orders.specs.Reading.{fieldsOf};
+ghost use Rattle.flow_check.specs.Findings.{causeOf, entryFindings, PathJudged, FlowJudged, RoomJudged, flowAlone, slotAlone, headAt, entriesAt, pathFindings};
 use orders::Flow;
+use units::Bytes;
 use units::Micros;
+use units::Rate;
 
 // A cause against a registration.
 pub enum Cause {
@@ -149,4 +152,110 @@ pub fn judge_room(hops: u32, slots: &[u32]) -> Room
         cause: Cause::Nothing,
         slot,
     }
+}
+
+// The numbers that stand at a slot, held or free.
+fn numbers_at(slot: usize, slots: &[u32]) -> Flow
+    requires { ⌜ (length (now slots) ≡ 1536) × (slot < 256) ⌝ }
+    ensures { λ r. ⌜ fieldsOf r ≡ headAt (now (slots .entry)) slot ⌝ }
+{
+    let at = 6 * slot;
+    Flow {
+        number: slots[at],
+        rate: Rate(slots[at + 1] as u64),
+        burst: Bytes(slots[at + 2] as u64),
+        frame: Bytes(slots[at + 3] as u64),
+        deadline: Micros(slots[at + 4] as u64),
+        hops: slots[at + 5],
+    }
+}
+
+fn is_nothing(cause: Cause) -> bool
+    ensures { λ r. ⌜ r ≡ isNone (causeOf cause) ⌝ }
+{
+    match cause {
+        Cause::Nothing => true,
+        Cause::Whole(_) => false,
+        Cause::At(_, _, _) => false,
+    }
+}
+
+// Whether none of 14, 16, 15 and 20 is against a path of entries of any value.
+fn path_stands(deadline: Micros, n: usize, links: &[u32], queues: &[u32], entries: &[u32]) -> bool
+    requires { ⌜ Columns n (now links) (now queues) × (length (now entries) ≤ 12) ⌝ }
+    ensures { λ r. ⌜ r ≡ isNone (firstCause (pathFindings (tableOf n (now (links .entry)) (now (queues .entry))) (deadline .0) (map hopAt (now (entries .entry))))) ⌝ }
+{
+    if !path_check::all_queues(n, links, entries) {
+        return false;
+    }
+    is_nothing(judge_entries(deadline, n, links, queues, entries))
+}
+
+// The same of the path of a slot.
+fn slot_path_stands(
+    slot: usize,
+    deadline: Micros,
+    n: usize,
+    links: &[u32],
+    queues: &[u32],
+    slots: &[u32],
+    pool: &[u32],
+) -> bool
+    requires { ⌜ Columns n (now links) (now queues) × Store (now slots) (now pool) ⌝ }
+    requires { ⌜ (slot < 256) × (countAt (now slots) slot ≤ 12) ⌝ }
+    ensures { λ r. ⌜ r ≡ isNone (firstCause (pathFindings (tableOf n (now (links .entry)) (now (queues .entry))) (deadline .0) (map hopAt (entriesAt (now (slots .entry)) (now (pool .entry)) slot)))) ⌝ }
+{
+    let mut entries = [0u32; 12];
+    let hops = flow_store::path_into(slot, slots, pool, &mut entries);
+    path_stands(deadline, n, links, queues, &entries[..hops])
+}
+
+// Whether a slot is free, or its flow meets 11, 12, 17, 14, 16, 15 and 20; its numbers can have any value.
+fn held_flow(
+    slot: usize,
+    n: usize,
+    links: &[u32],
+    queues: &[u32],
+    slots: &[u32],
+    pool: &[u32],
+) -> bool
+    requires { ⌜ Columns n (now links) (now queues) × Store (now slots) (now pool) × (slot < 256) ⌝ }
+    ensures { λ r. ⌜ r ≡ slotAlone (tableOf n (now (links .entry)) (now (queues .entry))) (slotsOf (now (slots .entry)) (now (pool .entry))) slot (getD (slotsOf (now (slots .entry)) (now (pool .entry))) slot none) ⌝ }
+{
+    let flow = numbers_at(slot, slots);
+    let number = flow.number;
+    let burst = flow.burst.0;
+    let largest = flow.frame.0;
+    let hops = flow.hops;
+    if hops == 0 {
+        return true;
+    }
+    if 12 < hops {
+        return false;
+    }
+    if !orders::in_range(flow) {
+        return false;
+    }
+    if flow_store::find(number, slots) != slot {
+        return false;
+    }
+    if burst < largest {
+        return false;
+    }
+    slot_path_stands(slot, flow.deadline, n, links, queues, slots, pool)
+}
+
+// Whether each held flow meets 11, 12, 17, 14, 16, 15 and 20 beside the others.
+pub fn held_flows(n: usize, links: &[u32], queues: &[u32], slots: &[u32], pool: &[u32]) -> bool
+    requires { ⌜ Columns n (now links) (now queues) × Store (now slots) (now pool) ⌝ }
+    ensures { λ r. ⌜ r ≡ every (flowAlone (tableOf n (now (links .entry)) (now (queues .entry))) (heldFlows (slotsOf (now (slots .entry)) (now (pool .entry))))) (heldFlows (slotsOf (now (slots .entry)) (now (pool .entry)))) ⌝ }
+{
+    let mut slot = 0;
+    while slot < 256 {
+        if !held_flow(slot, n, links, queues, slots, pool) {
+            return false;
+        }
+        slot += 1;
+    }
+    true
 }

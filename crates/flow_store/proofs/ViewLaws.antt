@@ -40,7 +40,7 @@ module _ (slots : List ℕ) where
       (slots-split k n (suc i) (drop c pool)
       ∙ ap (λ (p : List ℕ). slotsFrom k (suc i) slots (drop c pool) ++ slotsFrom n (suc i + k) slots p) (drop-drop (countsFrom k (suc i) slots) c pool)))
 
-  counts-split : (k n i : ℕ) → countsFrom (k + n) i slots ≡ countsFrom k i slots + countsFrom n (i + k) slots
+  pub counts-split : (k n i : ℕ) → countsFrom (k + n) i slots ≡ countsFrom k i slots + countsFrom n (i + k) slots
   unfolding countsFrom
   counts-split zero n i = rw (zero-add n, add-zero i) (omega arith)
   counts-split (suc k) n i =

@@ -24,3 +24,4 @@ pub mod Admissible
 pub mod Path
 pub mod Figures
 pub mod Bounds
+pub mod Uncrossed

@@ -118,7 +118,7 @@ fn read_head(line: &[u8]) -> Head
 }
 
 // The ranges of a registration, its hop count aside.
-fn in_range(flow: Flow) -> bool
+pub fn in_range(flow: Flow) -> bool
     ensures { λ r. ⌜ r ≡ headInRange (fieldsOf flow) ⌝ }
 {
     let number = flow.number;

@@ -2,3 +2,4 @@ pub mod ViewLaws
 pub mod StoreLaws
 pub mod TurnLaws
 pub mod LookupLaws
+pub mod ConsistentLaws

@@ -21,7 +21,7 @@ use Rattle.model.specs.Orders.{Order, register, flowOf, headInRange, hopsInRang
 use Rattle.model.specs.Aggregates as lookup
 use Rattle.model.specs.Schedulable.{All, Named, FlowMeets}
 use Rattle.model.specs.Reference.{Slot, State, Cause, Outcome, heldFlows, heldHops, hopEntries, isNone, isHeld, every, firstIndex, firstCause, atHop, metEarlier, roomFindings, findings, refuse, fill, perform, decide, apply}
-use Rattle.model.specs.Consistent.{flowInRange, headOf, consistent}
+use Rattle.model.specs.Consistent.{flowInRange, headOf, tableConsistent, consistent}
 use Rattle.model.specs.Laws.Finding.{none-applies}
 use Rattle.model.specs.Laws.Slot.{index-below}
 use Rattle.model.specs.Laws.Reference.{slot-free, hops-free}
@@ -30,7 +30,7 @@ use Rattle.model.specs.Laws.Schedulable.{schedulable}
 use Rattle.model.specs.Laws.Bounds.{threshold-below, speed-below, figures-bounded}
 use Rattle.orders.specs.declared.Flow.{Flow}
 use Rattle.orders.specs.Reading.{fieldsOf}
-use Rattle.queue_table.specs.View.{tableOf, hopAt, isQueue, linkAt}
+use Rattle.queue_table.specs.View.{Columns, tableOf, hopAt, isQueue, linkAt}
 use Rattle.queue_table.proofs.LookupLaws.{link-found}
 use Rattle.path_check.specs.Causes.{AllQueues, linePath}
 use Rattle.flow_store.specs.View.{Store, slotsOf, countAt, countsFrom, Narrow, Insertable}
@@ -53,6 +53,7 @@ pub record Ranges (f : line.Flow) : Type 0 where
   pub frame : f .frame ≤ 1542
   pub deadline : f .deadline ≤ 10000000
   pub hops : 1 ≤ length (f .path)
+  pub few : length (f .path) ≤ 12
 
 pub ranges : (f : line.Flow) → flowInRange f ≡ true → Ranges f
 unfolding flowInRange headInRange headOf hopsInRange
@@ -68,6 +69,7 @@ ranges f e =
       frame = between-true 84 1542 (f .frame) frame .1;
       deadline = between-true 1 10000000 (f .deadline) deadline .1;
       hops = between-true 1 12 (length (f .path)) hops .0;
+      few = between-true 1 12 (length (f .path)) hops .1;
     }
 
 getD-past : (l : List ℕ) (j : ℕ) → length l ≤ j → getD l j 0 ≡ 0
@@ -91,11 +93,35 @@ bounded-below sums b j = go (ltb j (length sums)) refl
     go true e =
         third (j / 3) (j % 3) (omega (arith, div-add-mod j 3)) (omega (arith, div-add-mod j 3, b .long, ltb-true j (length sums) e)) (mod-lt j {m = 3} (omega arith))
 
+-- Queues of a consistent table have thresholds in their range.
+pub hops-ranged : (n : ℕ) (links queues : List ℕ) → Columns n links queues → tableConsistent (tableOf n links queues) ≡ true
+    → (entries : List ℕ) → AllQueues n links entries → length entries ≤ 12 → Hops queues entries
+unfolding lookup.thresholdOf
+hops-ranged n links queues columns table entries named few =
+    record {
+      queues-long = columns .queues-long;
+      few = few;
+      each = all-imp entries each named;
+    }
+  where
+    each : (e : ℕ) → isQueue n links e ≡ true → (e < 512) × (getD queues (2 * e) 0 ≤ 100000)
+    each e q = (
+      queue-low n links e q (columns .few),
+      rw (sym (threshold-named n links e q queues), queue-named n links e q queues)
+          (threshold-below (tableOf n links queues) table (hopAt e) _ (queue-named n links e q queues)),
+    )
+
 refusal : (s : State) (c : Cause) (r : Answer) → causeIn r ≡ some c → answerOf r ≡ refuse s c .answer
 unfolding refuse
 refusal s c (Done slot) e = absurd (Option·none-ne-some _ e)
 refusal s c (Refused code link level) e =
     ap (λ (d : Cause). refuse s d .answer) (Option·some-injective _ _ e)
+
+pub stepped-same : {o o′ : Order} {n : ℕ} {links queues slots pool slots′ pool′ sums′ : List ℕ} {r : Answer} → o ≡ o′
+    → Stepped o n links queues slots pool slots′ pool′ sums′ r
+    → Stepped o′ n links queues slots pool slots′ pool′ sums′ r
+stepped-same {n = n} {links} {queues} {slots} {pool} {slots′} {pool′} {sums′} {r} e =
+    subst (λ (o : Order). Stepped o n links queues slots pool slots′ pool′ sums′ r) e
 
 filled : (s : State) (i : ℕ) (x : Slot) → answerOf (Done (i + 1)) ≡ fill s i x .answer
 unfolding fill
@@ -138,20 +164,7 @@ module _ (n : ℕ) (links queues slots pool sums : List ℕ) (k : Kept n links q
   -- Queues of the table have thresholds and speeds in their ranges.
   module _ (entries : List ℕ) (named : AllQueues n links entries) where
     pub hops-within : length entries ≤ 12 → Hops queues entries
-    unfolding lookup.thresholdOf
-    hops-within few =
-        record {
-          queues-long = k .columns .queues-long;
-          few = few;
-          each = all-imp entries each named;
-        }
-      where
-        each : (e : ℕ) → isQueue n links e ≡ true → (e < 512) × (getD queues (2 * e) 0 ≤ 100000)
-        each e q = (
-          queue-low n links e q (k .columns .few),
-          rw (sym (threshold-named n links e q queues), queue-named n links e q queues)
-              (threshold-below (tableOf n links queues) (rules .table) (hopAt e) _ (queue-named n links e q queues)),
-        )
+    hops-within few = hops-ranged n links queues (k .columns) (rules .table) entries named few
 
     pub speeds-within : Speeds links entries
     unfolding linkAt

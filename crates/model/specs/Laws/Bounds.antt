@@ -32,14 +32,17 @@ pub threshold-below : (t : Table) → tableConsistent t ≡ true → (h : Hop) (
 threshold-below t ok h q e = queue-bounds t ok h q e .3 .threshold
 
 -- A link has at least one level, whose line gives the speed.
-pub speed-below : (t : Table) → tableConsistent t ≡ true → (n : ℕ) (k : Link) → linkAt t n ≡ some k → k .speed ≤ 10000
-speed-below t ok n k e =
+pub speed-range : (t : Table) → tableConsistent t ≡ true → (n : ℕ) (k : Link) → linkAt t n ≡ some k → (1 ≤ k .speed) × (k .speed ≤ 10000)
+speed-range t ok n k e =
     let (levels, ranges) = link-bounds t ok n k e in
     first (k .levels) (between-true 1 8 (length (k .levels)) levels .0) ranges
   where
-    first : (qs : List Queue) → 1 ≤ length qs → All (RowBounds k) qs → k .speed ≤ 10000
+    first : (qs : List Queue) → 1 ≤ length qs → All (RowBounds k) qs → (1 ≤ k .speed) × (k .speed ≤ 10000)
     first [] some-level a = absurd (omega arith)
-    first (q ∷ qs) some-level a = a .0 .speed
+    first (q ∷ qs) some-level a = (a .0 .speed-low, a .0 .speed)
+
+pub speed-below : (t : Table) → tableConsistent t ≡ true → (n : ℕ) (k : Link) → linkAt t n ≡ some k → k .speed ≤ 10000
+speed-below t ok n k e = speed-range t ok n k e .1
 
 module _ (t : Table) where
   -- What holds of each flow's largest frame holds of each entry's.

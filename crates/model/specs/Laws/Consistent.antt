@@ -110,7 +110,7 @@ numbers-differ n [] z = tt
 numbers-differ n (g ∷ fs) z = (not-counted _ (omega arith), numbers-differ n fs (omega arith))
 
 -- What holds at each link of a path holds at a link that it crosses.
-crossed : (P : ℕ → Type 0) (n : ℕ) (path : List Hop) → All (λ h. P (h .link)) path → crosses n path ≡ true → P n
+pub crossed : (P : ℕ → Type 0) (n : ℕ) (path : List Hop) → All (λ h. P (h .link)) path → crosses n path ≡ true → P n
 unfolding crosses
 crossed P n [] a e = absurd (false≢true e)
 crossed P n (h ∷ path) a e = go (eqb (h .link) n) refl (crossed P n path (a .1)) e

@@ -208,6 +208,20 @@ module _ (t : Table) where
   levels-empty fs link n [] z = tt
   levels-empty fs link n (q ∷ qs) z = (z n (omega arith), levels-empty fs link (suc n) qs (λ p le. z p (omega arith)))
 
+  -- Flows that add nothing at a queue.
+  aggregate-none : (q : Hop) (fs : List Flow) → All (λ f. entriesAt q (entries t f 0 (f .path)) ≡ noFlow) fs → aggregateAt t fs q ≡ noFlow
+  unfolding aggregateAt allEntries total largest noFlow
+  aggregate-none q [] a = refl
+  aggregate-none q (f ∷ fs) a =
+      added f fs q
+      ∙ ap (λ (x : Aggregate). together x (aggregateAt t fs q)) (a .0)
+      ∙ together-none (aggregateAt t fs q)
+      ∙ aggregate-none q fs (a .1)
+
+  -- No path crosses the link of the queue.
+  pub aggregate-uncrossed : (q : Hop) (fs : List Flow) → All (λ f. crosses (q .link) (f .path) ≡ false) fs → aggregateAt t fs q ≡ noFlow
+  aggregate-uncrossed q fs a = aggregate-none q fs (all-imp fs (λ f off. entries-off f 0 q (f .path) off) a)
+
   -- No flow has a hop where the table has no queue.
   module _ (q : Hop) (missing : queueAt t q ≡ none) where
     unnamed : (h : Hop) → Named t h → sameHop q h ≡ false
@@ -225,13 +239,7 @@ module _ (t : Table) where
         ∙ entries-unnamed f (sum + thresholdOf (queueAt t h)) path (a .1)
 
     pub aggregate-unnamed : (fs : List Flow) → All (λ f. All (Named t) (f .path)) fs → aggregateAt t fs q ≡ noFlow
-    unfolding aggregateAt allEntries total largest noFlow
-    aggregate-unnamed [] a = refl
-    aggregate-unnamed (f ∷ fs) a =
-        added f fs q
-        ∙ ap (λ (x : Aggregate). together x (aggregateAt t fs q)) (entries-unnamed f 0 (f .path) (a .0))
-        ∙ together-none (aggregateAt t fs q)
-        ∙ aggregate-unnamed fs (a .1)
+    aggregate-unnamed fs a = aggregate-none q fs (all-imp fs (λ f n. entries-unnamed f 0 (f .path) n) a)
 
 -- No hop of the path is on a link met earlier (16).
 module _ (code : ℕ) where

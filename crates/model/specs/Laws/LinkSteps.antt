@@ -1,6 +1,6 @@
 -- A link walked level by level with running sums: a level's code depends on the levels above and below by their sums and largest frame
 -- alone, so a loop may carry those; and a link padded with empty levels, which change nothing. For any number of levels. Assumes nothing.
-use Prim.Native.Nat.{ℕ, zero, suc, _+_, _≤_, _<_}
+use Prim.Native.Nat.{ℕ, zero, suc, _+_, _*_, _≤_, _<_}
 use mathlib.Core.Path.{_≡_, refl, sym, ap, ap₂, _∙_}
 use mathlib.Core.Bool.{cond}
 use mathlib.Core.List.{List, [], _∷_, _++_}
@@ -8,7 +8,7 @@ use native.Mathlib.Nat.{add-zero, max-zero}
 use native.Mathlib.Omega.{arith}
 use native.Mathlib.Numerals.{add-one}
 use lib.ListN.{length, getD, drop}
-use borrow.Author.Tests.{ne-eqb}
+use borrow.Author.Tests.{ne-eqb, lt-ltb}
 use Rattle.model.specs.Total.{total, largest}
 use Rattle.model.specs.Laws.Total.{total-append, total-next, total-zero, largest-append, largest-next, largest-drop, largest-zero}
 use Rattle.model.specs.Laws.All.{all-imp}
@@ -128,6 +128,13 @@ unfolding levelsFinding levelCode isEmpty noFlow orElse
 empty-levels speed n above queues [] none = no-levels speed n above queues
 empty-levels speed n above [] (a ∷ empties) none = refl
 empty-levels speed n above (q ∷ queues) (a ∷ empties) none = rw (none .0) (empty-levels speed (suc n) (noFlow ∷ above) queues empties (none .1))
+
+-- A link without a flow.
+pub empty-link : (speed : ℕ) (queues : List Queue) (empties : List Aggregate) → Empty empties → 1 ≤ speed → linkFinding speed queues empties .code ≡ 0
+unfolding linkFinding rateCode withinRate orElse noFlow
+empty-link speed queues empties none moving =
+    let rates : total (λ a. a .rate) empties ≡ 0 = total-zero (λ a. a .rate) empties (empty-zero (λ a. a .rate) refl empties none) in
+    simp (rates, lt-ltb 0 (1000 * speed) (omega arith), empty-levels speed 1 [] queues empties none)
 
 module _ (speed : ℕ) (more : List Queue) (empties : List Aggregate) (none : Empty empties) where
   padded-levels : (n : ℕ) (above : List Aggregate) (queues : List Queue) (levels : List Aggregate) → length queues ≡ length levels

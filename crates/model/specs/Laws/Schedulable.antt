@@ -27,6 +27,7 @@ all-nth P l (suc i) a e = all-at P l i _ a e
 
 -- What the ranges of a table line (2) say of a queue and its link.
 pub record RowBounds (l : Link) (q : Queue) : Type 0 where
+  pub speed-low : 1 ≤ l .speed
   pub speed : l .speed ≤ 10000
   pub positive : 1 ≤ q .threshold
   pub threshold : q .threshold ≤ 100000
@@ -39,8 +40,10 @@ row-bounds l q e =
     let (e₂, threshold) = and-both (between 1 9999 (l .from) && between 1 9999 (l .to) && between 1 10000 (l .speed)) _ e₁ in
     let (e₃, speed) = and-both (between 1 9999 (l .from) && between 1 9999 (l .to)) _ e₂ in
     let (low, high) = between-true 1 100000 (q .threshold) threshold in
+    let (slowest, fastest) = between-true 1 10000 (l .speed) speed in
     record {
-      speed = between-true 1 10000 (l .speed) speed .1;
+      speed-low = slowest;
+      speed = fastest;
       positive = low;
       threshold = high;
       buffer = between-true 1 16777215 (q .buffer) buffer .1;
@@ -67,7 +70,7 @@ module _ (t : Table) (ok : tableConsistent t ≡ true) where
       (k, found, level, all-nth (RowBounds k) (k .levels) (h .level) (link-bounds (h .link) k found .1) level)
 
 -- 14: each hop names a queue.
-named : (t : Table) (earlier path : List Hop) → atHop 14 (noQueue t) earlier path ≡ none → All (Named t) path
+pub named : (t : Table) (earlier path : List Hop) → atHop 14 (noQueue t) earlier path ≡ none → All (Named t) path
 unfolding atHop noQueue isNone
 named t earlier [] e = tt
 named t earlier (h ∷ path) e = go (queueAt t h) refl (named t (h ∷ earlier) path) e

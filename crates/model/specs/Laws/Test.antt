@@ -1,9 +1,9 @@
 -- What computed tests say: `&&`, `||`, a choice, a step that may fail, a test of every element. By cases, and by induction on the list.
 -- Assumes nothing.
 use Prim.Native.Nat.{ℕ, _≤_, zero-le}
-use mathlib.Core.Path.{_≡_, refl, sym, _∙_}
-use mathlib.Core.Bool.{Bool, true, false, cond, _&&_, _||_, and-eq-true-iff, true≢false}
-use mathlib.Core.List.{List, [], _∷_}
+use mathlib.Core.Path.{_≡_, refl, sym, ap, _∙_}
+use mathlib.Core.Bool.{Bool, true, false, cond, _&&_, _||_, and-eq-true-iff, and-assoc, true≢false}
+use mathlib.Core.List.{List, [], _∷_, _++_}
 use mathlib.Core.Option.{Option, none, some, Option·none-ne-some}
 use native.Mathlib.Nat.{le-refl}
 use native.Mathlib.Omega.{arith}
@@ -61,3 +61,8 @@ module _ {A : Type 0} (test : A → Bool) where
   unfolding every
   all-every [] a = refl
   all-every (x ∷ l) a = both-and (a .0) (all-every l (a .1))
+
+  pub every-append : (l m : List A) → every test (l ++ m) ≡ (every test l && every test m)
+  unfolding every
+  every-append [] m = refl
+  every-append (x ∷ l) m = ap (λ (b : Bool). test x && b) (every-append l m) ∙ sym (and-assoc (test x) (every test l) (every test m))

@@ -1,0 +1,44 @@
+-- `recount::recount` meets its contract. The invariant: the figures are those of the slots from `slot` on.
+-- Assumes nothing.
+use borrow.Author.Needs.{needs}
+use Prim.Native.Nat.{_+_, _-_, _≤_}
+use mathlib.Core.Path.{_≡_}
+use native.Mathlib.Omega.{arith}
+use Rattle.recount.specs.View.{Counted}
+use Rattle.recount.proofs.RecountLaws.{counted-none, counted-all}
+use Rattle.recount.proofs.recount.Statement.{statement}
+use Rattle.recount.proofs.recount.Tie as tie
+
+abbrev Inv-loop : tie.InvT-loop
+Inv-loop queues slots pool sums₀ slot₀ sums slot = (slot ≤ 256) × Counted queues slots pool sums slot
+
+abbrev μ-loop : tie.MeasureT-loop
+μ-loop queues slots pool sums₀ slot₀ sums slot = slot
+
+loop-holds : tie.Need-loop-holds Inv-loop μ-loop
+loop-holds c =
+    let args = c .before .before .before .before .before .before .before .before .args in
+    let zero = c .before .before .clear .ensures in
+    (omega arith, counted-none (args .queues .now) (args .slots .now) (args .pool .now) (c .before .before .clear .last .0) (zero .0) (zero .1))
+
+count-slot-requires : tie.Need-count-slot-requires Inv-loop μ-loop
+count-slot-requires c κs =
+    let at = c .before .before in
+    let whole : at .loop .slot - 1 + 1 ≡ at .loop .slot = omega arith in
+    ((c .before .before .before .before .before .before .before .before .before .before .before .pre .0, omega (arith, at .loop .inv .0)), rw whole (at .loop .inv .1))
+
+loop-again : tie.Need-loop-again Inv-loop μ-loop
+loop-again c = (omega (arith, c .before .before .before .before .before .loop .inv .0), c .before .before .count-slot .ensures)
+
+returns : tie.Need-returns Inv-loop μ-loop
+returns c =
+    let args = c .before .before .before .before .before .before .before .before .before .before .args in
+    let at = c .before in
+    let none : at .loop .slot ≡ 0 = omega (arith, c .loop-test .left) in
+    counted-all (args .queues .now) (args .slots .now) (args .pool .now) (at .loop .sums) (rw none at (at .loop .inv .1))
+
+pub recount-spec : {M : Type 1} → statement M
+recount-spec =
+    tie.close
+    (tie.spec Inv-loop μ-loop (λ c κs. search needs) loop-holds (λ c. search needs) count-slot-requires (λ c. search needs) loop-again
+    (λ c. search needs) returns)

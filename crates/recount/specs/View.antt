@@ -1,0 +1,44 @@
+-- What a recount asks of the columns, and what it leaves.
+use Prim.Native.Nat.{ℕ, _+_, _-_, _*_, _^_, _≤_, _<_}
+use mathlib.Core.Path.{_≡_}
+use mathlib.Core.Bool.{true}
+use mathlib.Core.List.{List}
+use lib.ListN.{length, getD, take, drop}
+use Rattle.model.specs.Reference.{heldFlows}
+use Rattle.model.specs.Schedulable.{All}
+use Rattle.queue_table.specs.View.{tableOf, isQueue}
+use Rattle.flow_store.specs.View.{Store, countAt, countsFrom, slotsFrom, slotsOf}
+use Rattle.figures.specs.View.{Below, Figures, Hops}
+
+-- The hop entries of slot i.
+abbrev pub entriesIn : (slots pool : List ℕ) (i : ℕ) → List ℕ
+entriesIn slots pool i = take (countAt slots i) (drop (countsFrom i 0 slots) pool)
+
+-- The flow in slot i has its numbers in their ranges, and a path within the columns.
+pub record Ranged (queues slots pool : List ℕ) (i : ℕ) : Type 0 where
+  pub few : countAt slots i ≤ 12
+  pub rate : getD slots (6 * i + 1) 0 ≤ 10000000
+  pub burst : getD slots (6 * i + 2) 0 ≤ 1000000
+  pub frame : getD slots (6 * i + 3) 0 ≤ 1542
+  pub hops : Hops queues (entriesIn slots pool i)
+
+-- Columns whose held flows can be counted in; what stands in a free slot doesn't count.
+pub record Countable (queues slots pool : List ℕ) : Type 0 where
+  pub store : Store slots pool
+  pub queues-long : length queues ≡ 1024
+  pub each : (i : ℕ) → i < 256 → 1 ≤ countAt slots i → Ranged queues slots pool i
+
+-- Each hop entry of each slot is a queue of the first n links.
+abbrev pub OnQueues : (n : ℕ) (links slots pool : List ℕ) → Type 0
+OnQueues n links slots pool = (i : ℕ) → i < 256 → All (λ e. isQueue n links e ≡ true) (entriesIn slots pool i)
+
+-- The column holds the figures of the flows in the slots from slot i on.
+pub record Counted (queues slots pool sums : List ℕ) (i : ℕ) : Type 0 where
+  pub long : length sums ≡ 1536
+  pub below : Below ((256 - i) * 2 ^ 35) sums
+  pub same : (n : ℕ) (links : List ℕ) → OnQueues n links slots pool
+      → Figures (tableOf n links queues) (heldFlows (slotsFrom (256 - i) i slots (drop (countsFrom i 0 slots) pool))) sums
+
+-- The column holds the figures of all held flows.
+pub record Recounted (queues slots pool sums : List ℕ) : Type 0 where
+  pub same : (n : ℕ) (links : List ℕ) → OnQueues n links slots pool → Figures (tableOf n links queues) (heldFlows (slotsOf slots pool)) sums

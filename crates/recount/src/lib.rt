@@ -1,0 +1,71 @@
+// Works out anew the figures of the held flows (document 01, "The book"), so that a registry whose figures don't match
+// its flows is found out (42).
+//
+// The columns are those of `queue_table` (queues), `flow_store` (slots, pool) and `figures` (sums).
+ghost use mathlib.Core.Path.{_≡_};
+ghost use mathlib.Core.Bool.{true, false};
+ghost use Prim.Native.Nat.{_+_, _<_};
+ghost use lib.ListN.{length};
+ghost use Rattle.figures.specs.View.{Below};
+ghost use Rattle.recount.specs.View.{Countable, Counted, Recounted};
+use units::Bytes;
+use units::Rate;
+
+// The figures of no flow.
+fn clear(sums: &mut [u64])
+    requires { ⌜ length (now sums) ≡ 1536 ⌝ }
+    ensures { λ _. ⌜ (length (now (sums .exit)) ≡ 1536) × Below 0 (now (sums .exit)) ⌝ }
+{
+    let mut i = 0;
+    while i < 1536 {
+        sums[i] = 0;
+        i += 1;
+    }
+}
+
+// Counts the flow of a slot in, where it holds one.
+fn count_slot(slot: usize, queues: &[u32], slots: &[u32], pool: &[u32], sums: &mut [u64])
+    requires { ⌜ Countable (now queues) (now slots) (now pool) × (slot < 256) ⌝ }
+    requires { ⌜ Counted (now queues) (now slots) (now pool) (now sums) (slot + 1) ⌝ }
+    ensures { λ _. ⌜ Counted (now (queues .entry)) (now (slots .entry)) (now (pool .entry)) (now (sums .exit)) slot ⌝ }
+{
+    let at = 6 * slot;
+    if slots[at + 5] == 0 {
+        return;
+    }
+    let rate = Rate(slots[at + 1] as u64);
+    let burst = Bytes(slots[at + 2] as u64);
+    let frame = Bytes(slots[at + 3] as u64);
+    let mut entries = [0u32; 12];
+    let n = flow_store::path_into(slot, slots, pool, &mut entries);
+    figures::add_path(rate, burst, frame, queues, &entries[..n], sums);
+}
+
+// Works out anew the figures of the held flows, whatever the column holds.
+pub fn recount(queues: &[u32], slots: &[u32], pool: &[u32], sums: &mut [u64])
+    requires { ⌜ Countable (now queues) (now slots) (now pool) × (length (now sums) ≡ 1536) ⌝ }
+    ensures { λ _. ⌜ Recounted (now (queues .entry)) (now (slots .entry)) (now (pool .entry)) (now (sums .exit)) ⌝ }
+{
+    clear(sums);
+    let mut slot = 256;
+    while 0 < slot {
+        slot -= 1;
+        count_slot(slot, queues, slots, pool, sums);
+    }
+}
+
+// Whether two columns of figures are equal.
+pub fn same(a: &[u64], b: &[u64]) -> bool
+    requires { ⌜ (length (now a) ≡ 1536) × (length (now b) ≡ 1536) ⌝ }
+    ensures { λ r. ⌜ (r ≡ true → now (a .entry) ≡ now (b .entry)) ⌝ }
+    ensures { λ r. ⌜ (r ≡ false → now (a .entry) ≡ now (b .entry) → ⊥) ⌝ }
+{
+    let mut i = 0;
+    while i < 1536 {
+        if a[i] != b[i] {
+            return false;
+        }
+        i += 1;
+    }
+    true
+}

@@ -1,0 +1,112 @@
+-- When a registry is in order, part by part: its table, each flow by itself, the figures, the links.
+-- Assumes nothing.
+use Prim.Native.Nat.{ℕ, _+_, _≤_, _<_}
+use mathlib.Core.Path.{_≡_, refl, sym, ap, _∙_}
+use mathlib.Core.Bool.{true, _&&_}
+use mathlib.Core.List.{List, [], _∷_, _++_}
+use mathlib.Core.Option.{none}
+use native.Mathlib.Omega.{arith}
+use lib.ListN.{length}
+use lib.Dec.{leb}
+use borrow.Author.Tests.{leb-true, le-leb}
+use Rattle.model.specs.Columns.{between}
+use Rattle.model.specs.QueueTable.{Table}
+use Rattle.model.specs.Orders.{Hop, Flow}
+use Rattle.model.specs.Schedulable.{All, Named, LinkMeets}
+use Rattle.model.specs.Reference.{State, heldFlows, slotCount, hopEntries, withNumber, every, isNone, firstCause, lineFindings, deadlineFinding}
+use Rattle.model.specs.Consistent.{flowInRange, tableConsistent, linkConsistent, consistent}
+use Rattle.model.specs.Laws.Test.{and-both, both-and, every-all, all-every}
+use Rattle.model.specs.Laws.All.{append-all, all-append, all-imp, member-all}
+use Rattle.model.specs.Laws.Columns.{between-true}
+use Rattle.model.specs.Laws.Finding.{none-applies, applies-none, is-none}
+use Rattle.model.specs.Laws.Slot.{held-length}
+use Rattle.model.specs.Laws.Consistent.{FlowRules, FlowsRules}
+use Rattle.model.specs.Laws.Reached.{StateRules, state-rules, rules-state}
+use Rattle.model.specs.Laws.Schedulable.{link-bounds, named}
+use Rattle.model.specs.Laws.Bounds.{speed-below}
+use Rattle.queue_table.specs.View.{Columns, tableOf, linkAt, levelsAt, queueAt}
+use Rattle.queue_table.proofs.ViewLaws.{length-up}
+use Rattle.queue_table.proofs.LookupLaws.{link-found}
+use Rattle.flow_store.specs.View.{Store, slotsOf}
+use Rattle.flow_store.proofs.ViewLaws.{length-slots, held-hops}
+use Rattle.flow_check.specs.Findings.{flowAlone}
+use Rattle.figures.specs.View.{Figures, LinkSpeeds}
+use Rattle.registry.specs.View.{stateOf, Kept}
+
+module _ (t : Table) (fs : List Flow) where
+  alone-rules : ((link : ℕ) → LinkMeets t fs link) → (f : Flow) → flowAlone t fs f ≡ true → FlowRules t fs f
+  unfolding flowAlone
+  alone-rules meets f e =
+      let (e₁, found) = and-both (flowInRange f && leb (withNumber (f .number) fs) 1) _ e in
+      let (range, number) = and-both (flowInRange f) (leb (withNumber (f .number) fs) 1) e₁ in
+      let (line, rest) = append-all (λ x. x ≡ none) (lineFindings t f) (deadlineFinding t f ∷ []) (none-applies _ (is-none _ found)) in
+      record {
+        range = range;
+        number = leb-true _ _ number;
+        line = line;
+        deadline = rest .0;
+        links = member-all (λ (h : Hop). LinkMeets t fs (h .link)) (f .path) (λ h on. meets (h .link));
+      }
+
+  rules-alone : (f : Flow) → FlowRules t fs f → flowAlone t fs f ≡ true
+  unfolding flowAlone isNone
+  rules-alone f r =
+      both-and (both-and (r .range) (le-leb _ _ (r .number)))
+      (rw (applies-none (lineFindings t f ++ deadlineFinding t f ∷ [])
+      (all-append (λ x. x ≡ none) (lineFindings t f) (deadlineFinding t f ∷ []) (r .line) (r .deadline, tt))))
+
+module _ (n : ℕ) (links queues slots pool : List ℕ) where
+  abbrev t : Table
+  t = tableOf n links queues
+
+  abbrev held : List Flow
+  held = heldFlows (slotsOf slots pool)
+
+  pub columns-of : length links ≡ 256 → length queues ≡ 1024 → tableConsistent t ≡ true → Columns n links queues
+  unfolding tableConsistent tableOf linkAt
+  columns-of links-long queues-long ok =
+      record {
+        links-long = links-long;
+        queues-long = queues-long;
+        few = omega (arith, length-up n (linkAt links queues), leb-true (length t) 64 (and-both (every linkConsistent t) _ ok .1));
+        shallow = λ i lt.
+            omega (arith, length-up (levelsAt links i) (queueAt queues i), between-true 1 8 _ (link-bounds t ok (i + 1) _ (link-found n links queues i lt) .0) .1);
+      }
+
+  pub speeds-of : tableConsistent t ≡ true → LinkSpeeds n links
+  unfolding linkAt
+  speeds-of ok = record { each = λ i lt. speed-below t ok (i + 1) _ (link-found n links queues i lt) }
+
+  -- 14: the held flows are on queues of the table.
+  pub alone-named : every (flowAlone t held) held ≡ true → All (λ g. All (Named t) (g .path)) held
+  unfolding flowAlone lineFindings
+  alone-named alone = all-imp held each (every-all (flowAlone t held) held alone)
+    where
+      each : (g : Flow) → flowAlone t held g ≡ true → All (Named t) (g .path)
+      each g e =
+          let causes = and-both (flowInRange g && leb (withNumber (g .number) held) 1) _ e .1 in
+          named t [] (g .path) (none-applies (lineFindings t g ++ deadlineFinding t g ∷ []) (is-none _ causes) .1 .0)
+
+  module _ (k : StateRules (stateOf n links queues slots pool)) where
+    pub kept-alone : every (flowAlone t held) held ≡ true
+    kept-alone = all-every (flowAlone t held) held (all-imp held (rules-alone t held) (k .flows .flows))
+
+  pub kept : {sums : List ℕ} → Columns n links queues → Store slots pool → tableConsistent t ≡ true → every (flowAlone t held) held ≡ true
+      → Figures t held sums
+      → ((link : ℕ) → LinkMeets t held link)
+      → Kept n links queues slots pool sums
+  unfolding slotCount hopEntries
+  kept columns store table alone figures meets =
+      record { columns = columns; store = store; in-order = rules-state (stateOf n links queues slots pool) rules; figures = figures }
+    where
+      rules : StateRules (stateOf n links queues slots pool)
+      rules =
+          record {
+            table = table;
+            size = length-slots slots pool;
+            flows = record {
+              flows = all-imp held (alone-rules t held meets) (every-all (flowAlone t held) held alone);
+              slots = omega (arith, held-length (slotsOf slots pool), length-slots slots pool);
+              hops = omega (arith, held-hops slots pool store, store .fits);
+            };
+          }

@@ -1,0 +1,118 @@
+-- `registry::in_order` meets its contract: what passes each test is consistent, and what is consistent passes each.
+-- Assumes nothing.
+use borrow.Author.Needs.{needs}
+use mathlib.Core.Path.{_≡_, sym, _∙_}
+use mathlib.Core.Bool.{true, true≢false, false≢true}
+use mathlib.Core.List.{List}
+use native.Mathlib.Omega.{arith}
+use borrow.Author.Tests.{not-true, not-false}
+use Rattle.model.specs.Orders.{Flow}
+use Rattle.model.specs.Reference.{heldFlows, every}
+use Rattle.model.specs.Consistent.{tableConsistent}
+use Rattle.model.specs.Laws.Reached.{state-rules}
+use Rattle.model.specs.Laws.Uncrossed.{consistent-meets}
+use Rattle.queue_table.specs.View.{Columns, tableOf}
+use Rattle.flow_store.specs.View.{Store, slotsOf}
+use Rattle.flow_check.specs.Findings.{flowAlone}
+use Rattle.figures.specs.View.{Figures}
+use Rattle.recount.specs.View.{OnQueues}
+use Rattle.registry.proofs.KeptLaws.{bounded}
+use Rattle.registry.proofs.OrderLaws.{columns-of, speeds-of, alone-named, kept-alone, kept}
+use Rattle.registry.proofs.HeldLaws.{on-queues, countable}
+use Rattle.registry.proofs.in_order.Statement.{statement}
+use Rattle.registry.proofs.in_order.Tie as tie
+
+-- The counts fit the pool, and the table passes 2 to 4.
+module _ (c : tie.Else2) where
+  abbrev start : tie.Start
+  start = c .before .before .before .before .before .before .before .before .before
+
+  abbrev held : List Flow
+  held = heldFlows (slotsOf (start .args .slots .now) (start .args .pool .now))
+
+  table : tableConsistent (tableOf (start .args .n) (start .args .links .now) (start .args .queues .now)) ≡ true
+  table = sym (c .before .consistent .ensures) ∙ not-false _ (c .if2 .left)
+
+  store : Store (start .args .slots .now) (start .args .pool .now)
+  store =
+      record {
+        slots-long = start .pre .slots-long;
+        pool-long = start .pre .pool-long;
+        fits = omega (arith, c .before .before .if1 .left, c .before .before .before .hop-sum .ensures);
+      }
+
+  columns : Columns (start .args .n) (start .args .links .now) (start .args .queues .now)
+  columns =
+      columns-of (start .args .n) (start .args .links .now) (start .args .queues .now) (start .args .slots .now) (start .args .pool .now)
+      (start .pre .links-long) (start .pre .queues-long) table
+
+-- Each held flow is right by itself.
+module _ (c : tie.Else3) where
+  abbrev at : tie.Else2
+  at = c .before .before
+
+  alone : every (flowAlone (tableOf (start at .args .n) (start at .args .links .now) (start at .args .queues .now)) (held at)) (held at) ≡ true
+  alone = sym (c .before .held-flows .ensures) ∙ not-false _ (c .if3 .left)
+
+  on : OnQueues (start at .args .n) (start at .args .links .now) (start at .args .slots .now) (start at .args .pool .now)
+  on = on-queues _ _ _ _ _ (columns at) (store at) (table at) alone
+
+-- The figures are those of the flows.
+figures : (c : tie.Else4) → let at = at (c .before .before) in
+    Figures (tableOf (start at .args .n) (start at .args .links .now) (start at .args .queues .now)) (held at) (start at .args .sums .now)
+figures c = c .before .figures-right .ensures .0 (not-false _ (c .if4 .left)) .same _ _ (on (c .before .before))
+
+returns : tie.Need-returns
+returns c = (λ e. absurd (false≢true e), λ e k. omega (arith, k .store .fits, c .before .hop-sum .ensures, c .if1 .taken))
+
+returns-2 : tie.Need-returns-2
+returns-2 c =
+    (λ e. absurd (false≢true e), λ e k. true≢false (sym (state-rules _ (k .in-order) .table) ∙ sym (c .before .consistent .ensures) ∙ not-true _ (c .if2 .taken)))
+
+held-flows-requires : tie.Need-held-flows-requires
+held-flows-requires c κs = (columns c, store c)
+
+returns-3 : tie.Need-returns-3
+returns-3 c = (
+  λ e. absurd (false≢true e),
+  λ e k. true≢false (sym (kept-alone _ _ _ _ _ (state-rules _ (k .in-order))) ∙ sym (c .before .held-flows .ensures) ∙ not-true _ (c .if3 .taken)),
+)
+
+figures-right-requires : tie.Need-figures-right-requires
+figures-right-requires c κs =
+    (countable _ _ _ _ _ (columns (at c)) (store (at c)) (table (at c)) (alone c), start (at c) .pre .sums-long)
+
+returns-4 : tie.Need-returns-4
+returns-4 c = (
+  λ e. absurd (false≢true e),
+  λ e k. c .before .figures-right .ensures .1 (not-true _ (c .if4 .taken)) _ _ (on (c .before .before)) (k .figures),
+)
+
+returns-5 : tie.Need-returns-5
+returns-5 c = (
+  λ e. absurd (false≢true e),
+  λ e k. true≢false (sym (c .before .bounded .ensures .1 (bounded _ _ _ _ _ _ k)) ∙ not-true _ (c .if5 .taken)),
+)
+
+links-meet-requires : tie.Need-links-meet-requires
+links-meet-requires c κs =
+    let j = at (c .before .before .before .before) in
+    ((columns j, c .before .bounded .ensures .0 (not-false _ (c .if5 .left))), speeds-of _ _ _ (start j .args .slots .now) (start j .args .pool .now) (table j))
+
+returns-6 : tie.Need-returns-6
+returns-6 c =
+    let f = c .before .before .before in
+    let a = f .before .before in
+    let j = at a in
+    let named = alone-named _ _ _ (start j .args .slots .now) (start j .args .pool .now) (alone a) in (
+      λ e.
+          kept _ _ _ (start j .args .slots .now) (start j .args .pool .now) (columns j) (store j) (table j) (alone a) (figures f)
+          (c .links-meet .ensures .sound e (held j) (figures f) named),
+      λ e k. c .links-meet .ensures .complete e (held j) (figures f) named (consistent-meets _ (state-rules _ (k .in-order))),
+    )
+
+pub in-order-spec : {M : Type 1} → statement M
+in-order-spec =
+    tie.close
+    (tie.spec (λ c κs. search needs) returns (λ c κs. search needs) returns-2 held-flows-requires returns-3 figures-right-requires returns-4
+    (λ c κs. search needs) returns-5 links-meet-requires returns-6)
