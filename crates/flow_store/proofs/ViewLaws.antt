@@ -97,12 +97,6 @@ module _ (slots : List ℕ) where
       let after = slotsFrom (255 - k) (suc k) slots (drop (countsFrom k 0 slots + countAt slots k) pool) in
       ap (λ (l : List Slot). getD l k none) (slots-around k pool h) ∙ getD-at (slotsFrom k 0 slots pool) here after none k (length-from k 0 pool)
 
-  -- The same, by the path that was copied out.
-  pub slot-copied : (k r : ℕ) (pool entries : List ℕ) → k < 256 → r ≡ countAt slots k
-      → take r entries ≡ take (countAt slots k) (drop (countsFrom k 0 slots) pool)
-      → getD (slotsOf slots pool) k none ≡ slotOf r (flowAt slots k (take r entries))
-  slot-copied k r pool entries h count path = slot-at k pool h ∙ sym (rw (path, count))
-
   -- A slot's entries lie in the pool.
   pub slot-fits : (k : ℕ) (pool : List ℕ) → k < 256 → Store slots pool → countsFrom k 0 slots + countAt slots k ≤ length pool
   slot-fits k pool h store = omega (arith, counts-around k h, store .pool-long, store .fits)

@@ -6,7 +6,7 @@ use mathlib.Core.Bool.{Bool, true, false, not, _&&_, _||_}
 use mathlib.Core.List.{List, [], _∷_, map}
 use mathlib.Core.Option.{none, some}
 use native.Mathlib.Omega.{arith}
-use borrow.Author.Tests.{ltb-true, ltb-false, lt-ltb, eq-eqb, eqb-true, eqb-false}
+use borrow.Author.Tests.{ltb-true, ltb-false, lt-ltb}
 use lib.ListN.{getD}
 use lib.Dec.{ltb, eqb}
 use Rattle.model.specs.Orders.{Hop}
@@ -20,33 +20,6 @@ use Rattle.queue_table.specs.View.{tableOf, levelsAt, linkAt, queueAt, hopAt, i
 use Rattle.queue_table.proofs.LookupLaws.{link-found, queue-found, queue-no-link, queue-no-level, queue-link-zero, queue-level-zero}
 use Rattle.queue_table.proofs.ViewLaws.{same-test}
 use Rattle.path_check.specs.Causes.{AllQueues}
-
-pub hop-link : (e : ℕ) → hopAt e .link ≡ e / 8 + 1
-unfolding hopAt
-hop-link e = refl
-
-pub hop-level : (e : ℕ) → hopAt e .level ≡ e % 8 + 1
-unfolding hopAt
-hop-level e = refl
-
-not-both : (a b : Bool) → (a ≡ true → b ≡ true → ⊥) → (a && b) ≡ false
-not-both true true h = absurd (h refl refl)
-not-both true false h = refl
-not-both false b h = refl
-
--- Two entries name one hop exactly when they are one.
-pub same-hop : (a b : ℕ) → model.sameHop (hopAt a) (hopAt b) ≡ eqb a b
-unfolding model.sameHop hopAt
-same-hop a b = go (eqb a b) refl
-  where
-    go : (t : Bool) → eqb a b ≡ t → (eqb (a / 8 + 1) (b / 8 + 1) && eqb (a % 8 + 1) (b % 8 + 1)) ≡ eqb a b
-    go true e =
-        let same : a ≡ b = eqb-true a b e in
-        both-and (eq-eqb (a / 8 + 1) (b / 8 + 1) (ap (λ (x : ℕ). x / 8 + 1) same)) (eq-eqb (a % 8 + 1) (b % 8 + 1) (ap (λ (x : ℕ). x % 8 + 1) same))
-        ∙ sym e
-    go false e =
-        not-both _ _ (λ p q. eqb-false a b e (omega (arith, eqb-true (a / 8 + 1) (b / 8 + 1) p, eqb-true (a % 8 + 1) (b % 8 + 1) q)))
-        ∙ sym e
 
 -- Link i + 1 is crossed, one entry at a time.
 pub crosses-entry : (i e : ℕ) (path : List Hop) → crosses (i + 1) (hopAt e ∷ path) ≡ (eqb (e / 8) i || crosses (i + 1) path)
