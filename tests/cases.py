@@ -1,5 +1,5 @@
 #!/usr/bin/env python3
-"""Writes the inputs of the programs table_cases and order_cases, each case beside what document 01 says of it.
+"""Writes the inputs of the programs table_cases, order_cases and registry_cases, each case beside what document 01 says of it.
 
 Run at the project's root after a change to a case; --check only says which files differ. The expected lines are given by
 hand, not worked out."""
@@ -123,6 +123,140 @@ orders = [
     (" 2     7", bare(10)),                                      # the last line isn't ended
 ]
 
+def said(code, slot=0, link=0, level=0):
+    return f"{code:3}{slot:4}{link:4}{level:2}\n"
+
+
+COUNT, LINKS, QUEUES, SLOTS, POOL, SUMS = range(6)
+
+
+def put(column, index, n):
+    """An x line: sets one number of the registry and prints nothing."""
+    return (f"x{column:2}{index:5}{n:9}\n", "")
+
+
+def queues(*pairs):
+    """One link at 100 Mbit/s, a threshold and a buffer for each level."""
+    return "".join(row(1, 1, 2, 100, p, t, b) for p, (t, b) in enumerate(pairs, 1))
+
+
+def chain(n, threshold):
+    """Links 1 to n one after the other, a level each."""
+    return "".join(row(l, l, l + 1, 100, 1, threshold, 16777215) for l in range(1, n + 1))
+
+
+def along(number, hops):
+    return reg(number=number, rate=1, deadline=132000, hops=hops, path=[(l, 1) for l in range(1, hops + 1)])
+
+
+def damaged(*changes):
+    """Numbers wrong, (column, index, wrong, right) each: 42. Put right, the registry answers as before: flow 7 is held."""
+    wrong = [put(column, index, n) for column, index, n, _ in changes]
+    right = [put(column, index, n) for column, index, _, n in changes]
+    return wrong + [(reg(), said(42))] + right + [(reg(), said(12))]
+
+
+def hop(k, burst):
+    """The numbers by which flow 7 of the chain gets a k-th hop, its figures with it."""
+    return [(SLOTS, 5, k, k - 1), (POOL, k - 1, 8 * k - 8, 0)] + [
+        (SUMS, 24 * k - 24 + i, n, 0) for i, n in enumerate([1, burst, 1542])]
+
+
+def three(buffer):
+    """Three links one after the other, the last with this buffer."""
+    return "".join(row(l, l, l + 1, 100, 1, 371, b) for l, b in [(1, 2000), (2, 2000), (3, buffer)])
+
+
+through = reg(deadline=1113, hops=3, path=[(1, 1), (2, 1), (3, 1)])
+first = (reg(number=7, deadline=1000), said(0, 1))
+second = reg(number=8, deadline=1000, path=[(1, 2)])
+both = [first, (second, said(0, 2))]
+exact = queues((371, 1573), (374, 1574))
+
+# (table, [(line, what is printed)])
+registries = [
+    (queues((247, 1558)), [first]),                              # document 01's sums
+    (queues((246, 1558)), [(first[0], said(22, 0, 1, 1))]),
+    (queues((247, 1557)), [(first[0], said(23, 0, 1, 1))]),
+    (exact, both),                                               # a second on level 2
+    (queues((370, 2000), (374, 2000)), [first, (second, said(22, 0, 1, 1)), (first[0], said(12))]),
+    (queues((371, 1572), (374, 2000)), [first, (second, said(23, 0, 1, 1))]),
+    (queues((371, 2000), (373, 2000)), [first, (second, said(22, 0, 1, 2))]),
+    (queues((371, 2000), (374, 1573)), [first, (second, said(23, 0, 1, 2))]),
+    (queues((1000, 9000)), [                                     # rates
+        (reg(number=1, rate=99000, deadline=1000), said(0, 1)),
+        (reg(number=2, rate=1000, deadline=1000), said(21)),
+        (reg(number=3, rate=999, deadline=1000), said(0, 2)),
+        (reg(number=4, rate=1, deadline=1000), said(21)),
+    ]),
+    (two, [
+        (reg(burst=1541), said(17)),
+        (reg(number=65536), said(11)),
+        (reg(number=65535), said(0, 1)),
+        (reg(number=65535), said(12)),
+        (reg(number=65535, burst=1541), said(12)),               # 12 before 17
+        (reg(deadline=369), said(20)),
+        (reg(path=[(1, 3)]), said(14, 0, 1, 3)),
+        (reg(path=[(2, 1)]), said(14, 0, 2, 1)),
+        (reg(path=[(0, 0)]), said(14, 0, 0, 0)),
+        (reg(hops=13, path=[]), said(11)),
+        (" 2 65535\n", said(11)),                                # the other call's kind
+        ("\n", said(10)),
+        (reg()[:-1], said(10)),                                  # the last line isn't ended
+    ]),
+    (chain(3, 11000), [
+        (reg(hops=2, path=[(1, 1), (1, 1)], deadline=132000), said(16, 0, 1, 1)),
+        (reg(hops=2, path=[(2, 1), (1, 1)], deadline=132000), said(15, 0, 1, 1)),
+        (reg(hops=3, path=[(1, 1), (3, 1), (1, 1)], deadline=132000), said(16, 0, 1, 1)),   # 16 over all before 15
+        (reg(hops=2, path=[(1, 1), (3, 1)], deadline=132000), said(15, 0, 3, 1)),
+        (reg(hops=2, path=[(1, 1), (2, 1)], deadline=21999), said(20)),
+        (reg(hops=2, path=[(1, 1), (2, 1)], deadline=22000), said(0, 1)),
+    ]),
+    (three(1651), [(through, said(0, 1))]),                      # 1,635 after two thresholds of 371, and 16 (15.42)
+    (three(1650), [(through, said(23, 0, 3, 1))]),
+    (one[:-1], [(reg(), said(14, 0, 1, 1))]),                    # a refused table: no queues
+    (chain(12, 11000), [(along(k, 12), said(0, k)) for k in range(1, 86)] + [    # 1,020 hop entries
+        (along(100, 5), said(31)),
+        (along(100, 4), said(0, 86)),
+        (along(101, 1), said(31)),
+        put(SLOTS, 6 * 85 + 5, 5),                               # counts that pass the pool
+        (along(101, 1), said(42)),
+        put(SLOTS, 6 * 85 + 5, 4),
+        (along(101, 1), said(31)),
+    ]),
+    (chain(1, 100000), [(along(k, 1), said(0, k)) for k in range(1, 257)] + [(along(257, 1), said(30))]),
+    (chain(13, 11000), [(reg(rate=1, deadline=143000, hops=11, path=[(l, 1) for l in range(1, 12)]), said(0, 1))]
+        + [put(*change[:3]) for change in hop(12, 1558)] + [(reg(), said(12))]   # a twelfth hop: nothing wrong
+        + damaged(*hop(13, 1559))),                              # a thirteenth, all else right
+    (exact, both
+        + damaged((SLOTS, 2, 1541, 1542), (SUMS, 1, 1541, 1542)) # 17, the figures right
+        + damaged((POOL, 0, 8, 0), *((SUMS, i, 0, n) for i, n in enumerate([1000, 1542, 1542])),
+                  *((SUMS, 24 + i, n, 0) for i, n in enumerate([1000, 1542, 1542])))     # 14, the figures right
+        + damaged((SLOTS, 5, 13, 1))                             # a hop count of 13
+        + damaged((SLOTS, 5, 0, 1))                              # a flow gone, its figures not
+        + damaged((POOL, 0, 2, 0))                               # level 3: no such queue
+        + damaged((POOL, 0, 8, 0))                               # link 2
+        + damaged((POOL, 1, 999999999, 1))
+        + damaged((SUMS, 0, 1001, 1000))                         # a figure off by one
+        + damaged((SUMS, 1, 1541, 1542))
+        + damaged((SUMS, 5, 1541, 1542))
+        + damaged((SLOTS, 6, 7, 8))                              # two flows of one number
+        + damaged((SLOTS, 6, 0, 8))                              # flow number 0
+        + damaged((SLOTS, 3, 1543, 1542))                        # largest frame above burst
+        + damaged((SLOTS, 4, 370, 1000))                         # deadline below the threshold
+        + damaged((LINKS, 3, 0, 2))                              # number of levels
+        + damaged((LINKS, 3, 9, 2))
+        + damaged((LINKS, 0, 2, 1))                              # from equals to
+        + damaged((LINKS, 2, 10001, 100))                        # speed
+        + damaged((QUEUES, 0, 0, 371))                           # threshold out of range
+        + damaged((QUEUES, 0, 370, 371))                         # the held flows pass the threshold
+        + damaged((QUEUES, 3, 1573, 1574))                       # the held flows pass the buffer
+        + damaged((COUNT, 0, 0, 1))                              # paths without a link
+        + damaged((COUNT, 0, 2, 1))                              # a link of no levels
+        + damaged((COUNT, 0, 65, 1))
+        + [put(SLOTS, 12, 7), put(POOL, 2, 999), (reg(), said(12))]),    # a free slot, a free entry: nothing wrong
+]
+
 
 def files():
     """What stands in each file."""
@@ -134,6 +268,10 @@ def files():
     out["crates/table_cases/stdout"] = shown
     out["crates/order_cases/data/orders.txt"] = "".join(o for o, _ in orders)
     out["crates/order_cases/stdout"] = "".join(p for _, p in orders)
+    for k, (text, calls) in enumerate(registries):
+        out[f"crates/registry_cases/data/t{k:02}"] = text
+        out[f"crates/registry_cases/data/o{k:02}"] = "".join(line for line, _ in calls)
+    out["crates/registry_cases/stdout"] = "".join(printed for _, calls in registries for _, printed in calls)
     return out
 
 

@@ -1,0 +1,135 @@
+// Opens a registry on each table text, the files t00, t01, .. beside it until one is missing, hands it the lines of o00,
+// o01, .. one by one and prints what each is answered: code in 3 columns, slot in 4, link in 4 and level in 2.
+//
+// A line that starts with x isn't handed on: it sets one number of the registry. Column 2-3 (0 the number of links, 1 links,
+// 2 queues, 3 slots, 4 hop entries, 5 figures), index 4-8, the number 9-17.
+use columns::Field;
+use columns::NextLine;
+use libc::STDOUT_FILENO;
+use registry::Answer;
+use registry::Registry;
+
+fn show(code: u32, slot: u32, link: u32, level: u32) {
+    let mut out = *b"             \n";
+    columns::write_at(&mut out, 1, 3, columns::wide(code));
+    columns::write_at(&mut out, 4, 7, columns::wide(slot));
+    columns::write_at(&mut out, 8, 11, columns::wide(link));
+    columns::write_at(&mut out, 12, 13, columns::wide(level));
+    io::write_all(STDOUT_FILENO, &out);
+}
+
+// A number of an x line, 0 where there is none.
+fn number(field: Field) -> u32 {
+    match field {
+        Field::Number(n) => n,
+        Field::Malformed => 0,
+    }
+}
+
+fn set(column: &mut [u32], index: usize, n: u32) {
+    if index < column.len() {
+        column[index] = n;
+    }
+}
+
+fn set_figure(column: &mut [u64], index: usize, n: u32) {
+    if index < column.len() {
+        column[index] = n as u64;
+    }
+}
+
+fn change(registry: Registry, column: u32, index: usize, n: u32) -> Registry {
+    let mut count = registry.count;
+    let mut links = registry.links;
+    let mut queues = registry.queues;
+    let mut slots = registry.slots;
+    let mut pool = registry.pool;
+    let mut sums = registry.sums;
+    match column {
+        0 => count = n as usize,
+        1 => set(&mut links, index, n),
+        2 => set(&mut queues, index, n),
+        3 => set(&mut slots, index, n),
+        4 => set(&mut pool, index, n),
+        _ => set_figure(&mut sums, index, n),
+    }
+    Registry {
+        count,
+        links,
+        queues,
+        slots,
+        pool,
+        sums,
+    }
+}
+
+fn call(registry: Registry, line: &[u8]) -> Registry {
+    let called = registry::register(registry, line);
+    let answer = called.answer;
+    match answer {
+        Answer::Done(slot) => show(0, slot, 0, 0),
+        Answer::Refused(code, link, level) => show(code, 0, link, level),
+    }
+    called.registry
+}
+
+fn step(registry: Registry, line: &[u8]) -> Registry {
+    if line.len() == 0 || line[0] != b'x' {
+        return call(registry, line);
+    }
+    let column = number(columns::read_at(line, 2, 3));
+    let index = number(columns::read_at(line, 4, 8)) as usize;
+    let n = number(columns::read_at(line, 9, 17));
+    change(registry, column, index, n)
+}
+
+fn walk(text: &[u8], empty: Registry) {
+    let mut registry = empty;
+    let mut at = 0;
+    while at < text.len() {
+        let NextLine::Ended(end) = columns::next_line(text, at) else {
+            call(registry, &text[at..]);
+            return;
+        };
+        let next = end + 1;
+        registry = step(registry, &text[at..next]);
+        at = next;
+    }
+}
+
+fn judge(table: &[u8], orders: &[u8]) {
+    let opened = registry::open(table);
+    walk(orders, opened.registry);
+}
+
+// Whether there are such files.
+fn judge_files(table_name: &[u8], orders_name: &[u8]) -> bool {
+    let table_fd = os::open_read(table_name);
+    if table_fd < 0 {
+        return false;
+    }
+    let mut table = [0u8; 20000];
+    let n = io::read_full(table_fd, &mut table);
+    libc::close(table_fd);
+    let orders_fd = os::open_read(orders_name);
+    if orders_fd < 0 {
+        return false;
+    }
+    let mut orders = [0u8; 16384];
+    let m = io::read_full(orders_fd, &mut orders);
+    libc::close(orders_fd);
+    judge(&table[..n], &orders[..m]);
+    true
+}
+
+fn main() {
+    let mut k: u8 = 0;
+    while k < 100 {
+        let table_name = [b't', 48 + k / 10, 48 + k % 10];
+        let orders_name = [b'o', 48 + k / 10, 48 + k % 10];
+        if !judge_files(&table_name, &orders_name) {
+            return;
+        }
+        k += 1;
+    }
+}
