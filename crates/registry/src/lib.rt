@@ -1,5 +1,5 @@
-// The registry (document 01, "The book") over its columns: a registration without the check of 42, for callers that made
-// the registry themselves.
+// The registry (document 01, "The book"): opened on a table text, and registrations on it. `register` takes any registry
+// and answers 42 first; `register_flow` and `register_call` work in place on columns that are known to be consistent.
 //
 // The columns are those of `queue_table` (links, queues), `flow_store` (slots, pool) and `figures` (sums).
 ghost use mathlib.Core.Path.{_≡_};
