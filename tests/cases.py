@@ -149,6 +149,21 @@ def along(number, hops):
     return reg(number=number, rate=1, deadline=132000, hops=hops, path=[(l, 1) for l in range(1, hops + 1)])
 
 
+# Thresholds along a chain that 18 flows of rate 1,000 meet: bursts grow from hop to hop.
+RISING = [2400, 2900, 3400, 4000, 4700, 5600, 6600, 7800, 9200, 10800, 12800, 15100]
+
+
+def chains(n):
+    """n chains of twelve links, a level each."""
+    return "".join(row(12 * c + k, 13 * c + k, 13 * c + k + 1, 100, 1, t, 16777215)
+                   for c in range(n) for k, t in enumerate(RISING, 1))
+
+
+def on(number, c, hops):
+    """A flow of rate 1,000 on the first hops of chain c."""
+    return reg(number=number, deadline=sum(RISING), hops=hops, path=[(12 * c + k, 1) for k in range(1, hops + 1)])
+
+
 def damaged(*changes):
     """Numbers wrong, (column, index, wrong, right) each: 42. Put right, the registry answers as before: flow 7 is held."""
     wrong = [put(column, index, n) for column, index, n, _ in changes]
@@ -215,14 +230,14 @@ registries = [
     (three(1651), [(through, said(0, 1))]),                      # 1,635 after two thresholds of 371, and 16 (15.42)
     (three(1650), [(through, said(23, 0, 3, 1))]),
     (one[:-1], [(reg(), said(14, 0, 1, 1))]),                    # a refused table: no queues
-    (chain(12, 11000), [(along(k, 12), said(0, k)) for k in range(1, 86)] + [    # 1,020 hop entries
-        (along(100, 5), said(31)),
-        (along(100, 4), said(0, 86)),
-        (along(101, 1), said(31)),
+    (chains(5), [(on(k, k % 5, 12), said(0, k)) for k in range(1, 86)] + [       # 1,020 hop entries
+        (on(100, 0, 5), said(31)),
+        (on(100, 0, 4), said(0, 86)),
+        (on(101, 0, 1), said(31)),
         put(SLOTS, 6 * 85 + 5, 5),                               # counts that pass the pool
-        (along(101, 1), said(42)),
+        (on(101, 0, 1), said(42)),
         put(SLOTS, 6 * 85 + 5, 4),
-        (along(101, 1), said(31)),
+        (on(101, 0, 1), said(31)),
     ]),
     (chain(1, 100000), [(along(k, 1), said(0, k)) for k in range(1, 257)] + [(along(257, 1), said(30))]),
     (chain(13, 11000), [(reg(rate=1, deadline=143000, hops=11, path=[(l, 1) for l in range(1, 12)]), said(0, 1))]
