@@ -164,11 +164,16 @@ def on(number, c, hops):
     return reg(number=number, deadline=sum(RISING), hops=hops, path=[(12 * c + k, 1) for k in range(1, hops + 1)])
 
 
+def gone(number):
+    """A release, handed to `release`."""
+    return f"r 2{number:6}\n"
+
+
 def damaged(*changes):
     """Numbers wrong, (column, index, wrong, right) each: 42. Put right, the registry answers as before: flow 7 is held."""
     wrong = [put(column, index, n) for column, index, n, _ in changes]
     right = [put(column, index, n) for column, index, _, n in changes]
-    return wrong + [(reg(), said(42))] + right + [(reg(), said(12))]
+    return wrong + [(reg(), said(42)), (gone(7), said(42))] + right + [(reg(), said(12))]
 
 
 def hop(k, burst):
@@ -238,7 +243,47 @@ registries = [
         (on(101, 0, 1), said(42)),
         put(SLOTS, 6 * 85 + 5, 4),
         (on(101, 0, 1), said(31)),
+        (on(200, 0, 12), said(31)),
+        (gone(40), said(0, 40)),                                 # free at once
+        (on(200, 0, 12), said(0, 40)),
+        (on(201, 0, 1), said(31)),
+        (gone(100), said(0, 86)),
+        (on(202, 0, 5), said(31)),
+        (on(202, 0, 4), said(0, 86)),
+        *((gone(k), said(0, k)) for k in range(1, 85, 2) if k % 5 == 1),         # free entries here and there
+        *((on(300 + k, 1, 12), said(0, k)) for k in range(1, 85, 2) if k % 5 == 1),
+        (on(400, 1, 1), said(31)),
     ]),
+    (two, [                                                      # document 01's whole batch, call by call
+        (reg(), said(0, 1)),
+        (reg(number=8, deadline=374, path=[(1, 2)]), said(22, 0, 1, 1)),
+        (gone(7), said(0, 1)),
+        (reg(number=8, deadline=374, path=[(1, 2)]), said(0, 1)),
+        (gone(7), said(13)),
+        (gone(0), said(11)),
+        (gone(65536), said(11)),
+        ("r" + reg(), said(11)),                                 # the other call's kind
+        ("r 2     8 \n", said(10)),
+        ("r\n", said(10)),
+        ("r 3\n", said(11)),
+        ("r 2 65535\n", said(13)),
+        (gone(8), said(0, 1)),
+        ("r 2     8", said(10)),                                 # the last line isn't ended
+    ]),
+    (queues((254, 16777215)), [                                  # the largest frame of the flows left
+        (reg(number=1, deadline=1000), said(0, 1)),
+        (reg(number=2, deadline=1000, burst=84, frame=84), said(0, 2)),
+        (reg(number=3, deadline=1000, burst=3007, frame=84), said(22, 0, 1, 1)),
+        (gone(1), said(0, 1)),
+        (reg(number=3, deadline=1000, burst=3008, frame=84), said(22, 0, 1, 1)),
+        (reg(number=3, deadline=1000, burst=3007, frame=84), said(0, 1)),        # 8000 x (84 + 84 + 3007) / 100000 is 254
+    ]),
+    (chain(3, 11000), [(reg(rate=1, deadline=132000, hops=2, path=[(1, 1), (2, 1)]), said(0, 1))]
+        + damaged((POOL, 1, 16, 8), *((SUMS, 24 + i, 0, n) for i, n in enumerate([1, 1544, 1542])),
+                  *((SUMS, 48 + i, n, 0) for i, n in enumerate([1, 1544, 1542])))        # 15, the figures right
+        + damaged((POOL, 1, 0, 8), *((SUMS, 24 + i, 0, n) for i, n in enumerate([1, 1544, 1542])),
+                  (SUMS, 0, 2, 1), (SUMS, 1, 3086, 1542))        # 16, the figures right
+        + [(gone(7), said(0, 1)), (gone(7), said(13))]),
     (chain(1, 100000), [(along(k, 1), said(0, k)) for k in range(1, 257)] + [(along(257, 1), said(30))]),
     (chain(13, 11000), [(reg(rate=1, deadline=143000, hops=11, path=[(l, 1) for l in range(1, 12)]), said(0, 1))]
         + [put(*change[:3]) for change in hop(12, 1558)] + [(reg(), said(12))]   # a twelfth hop: nothing wrong

@@ -16,10 +16,9 @@ use Rattle.model.specs.WithFlow.{withFlow, together}
 use Rattle.model.specs.Laws.Aggregates.{hop-same}
 use Rattle.model.specs.Laws.Figures.{entriesAt, entries-nothing, entries-other, entries-here, aggregate-alone, aggregate-more}
 use Rattle.queue_table.specs.View.{tableOf, hopAt, isQueue}
-use Rattle.link_check.proofs.Laws.{mapped-next, mapped-end}
 use Rattle.figures.specs.View.{figureAt, Below, figureStored, FlowOf, PathAdded, Figures}
 use Rattle.figures.proofs.FigureLaws.{stored-length, stored-here, stored-other, stored-below}
-use Rattle.figures.proofs.EntryLaws.{other-entry, threshold-named, all-at}
+use Rattle.figures.proofs.EntryLaws.{other-entry, entries-next, entries-end}
 
 -- The figures so far, `sums`, with the hops from `i` on left, before which the thresholds sum to `sum`.
 pub record Adding (rate burst frame : ℕ) (queues entries before sums : List ℕ) (sum i : ℕ) : Type 0 where
@@ -45,13 +44,11 @@ module _ (rate burst frame : ℕ) (queues entries before : List ℕ) where
 
   module _ {sums : List ℕ} {sum i : ℕ} (so-far : Adding rate burst frame queues entries before sums sum i) where
     pub adding-all : length entries ≤ i → length entries ≤ 12 → PathAdded rate burst frame queues entries before sums
-    unfolding model.entries
     adding-all end few =
         record {
           long = so-far .long;
           same = λ n links f named is e lt.
-              let over : drop i (f .path) ≡ [] = ap (drop i) (is .path-is) ∙ mapped-end hopAt entries i end in
-              let nothing = ap (λ l. together (entriesAt (hopAt e) (model.entries (tableOf n links queues) f sum l)) (figureAt sums e)) over in
+              let nothing = ap (λ l. together (entriesAt (hopAt e) l) (figureAt sums e)) (entries-end is n links queues sum i end) in
               sym (entries-nothing (hopAt e) (figureAt sums e)) ∙ sym nothing ∙ so-far .left n links f named is e lt;
           below = λ bound b j. omega (arith, so-far .below bound b j, so-far .within);
         }
@@ -84,15 +81,6 @@ module _ (rate burst frame : ℕ) (queues entries before : List ℕ) where
         entry : model.Entry
         entry = record { hop = hopAt x; adds = record { rate = rate; burst = burstAtHop rate burst sum; frame = frame } }
 
-        -- What was left is this hop's entry and what is left then.
-        left-next : model.entries t f sum (drop i (f .path)) ≡ entry ∷ rest
-        unfolding model.entries t rest entry
-        left-next =
-            let hops : drop i (f .path) ≡ hopAt x ∷ drop (i + 1) (f .path)
-            = ap (drop i) (is .path-is) ∙ mapped-next hopAt entries i 0 more ∙ ap (λ l. hopAt x ∷ drop (i + 1) l) (sym (is .path-is)) in
-            ap (model.entries t f sum) hops
-            ∙ rw (threshold-named n links x (all-at (λ e. isQueue n links e ≡ true) entries i named more) queues, is .rate-is, is .burst-is, is .frame-is)
-
         step : (e : ℕ) → Dec (e ≡ x)
             → together (entriesAt (hopAt e) rest) (figureAt sums′ e) ≡ together (entriesAt (hopAt e) (entry ∷ rest)) (figureAt sums e)
         unfolding entry
@@ -107,10 +95,10 @@ module _ (rate burst frame : ℕ) (queues entries before : List ℕ) where
         next-left : (e : ℕ) → e < 512
             → together (entriesAt (hopAt e) (model.entries t f (sum + getD queues (2 * x) 0) (drop (i + 1) (f .path)))) (figureAt sums′ e)
             ≡ together (model.aggregateAt t (f ∷ []) (hopAt e)) (figureAt before e)
-        unfolding t rest
+        unfolding t rest entry
         next-left e lt =
             step e (ℕ-discrete e x)
-            ∙ ap (λ l. together (entriesAt (hopAt e) l) (figureAt sums e)) (sym left-next)
+            ∙ ap (λ l. together (entriesAt (hopAt e) l) (figureAt sums e)) (sym (entries-next is n links queues sum i named more))
             ∙ so-far .left n links f named is e lt
 
       pub adding-next : Adding rate burst frame queues entries before sums′ (sum + getD queues (2 * x) 0) (i + 1)

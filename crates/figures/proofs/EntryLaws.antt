@@ -1,26 +1,27 @@
 -- A hop entry's queue in the table, and a path taken hop by hop.
 -- Assumes nothing.
 use Prim.Native.Nat.{ℕ, zero, suc, _+_, _*_, _^_, _/_, _%_, _≤_, _<_}
-use mathlib.Core.Path.{_≡_, refl, ap, _∙_}
+use mathlib.Core.Path.{_≡_, refl, sym, ap, _∙_}
 use mathlib.Core.Bool.{Bool, true, false}
 use mathlib.Core.List.{List, [], _∷_}
 use mathlib.Core.Option.{some}
 use native.Mathlib.Nat.{div-add-mod, mod-lt, mul-le-mul}
 use native.Mathlib.Omega.{arith}
 use lib.Arith.{digits-div, digits-mod}
-use lib.ListN.{length, getD}
+use lib.ListN.{length, getD, drop}
 use lib.Dec.{ltb}
 use borrow.Author.Tests.{ltb-true}
 use Rattle.model.specs.Formula.{burstAtHop}
 use Rattle.model.specs.Laws.Formula.{ceilDiv-le}
 use Rattle.model.specs.Aggregates as model
 use Rattle.model.specs.Schedulable.{All}
-use Rattle.model.specs.Orders.{Hop}
+use Rattle.model.specs.Orders.{Hop, Flow}
 use Rattle.model.specs.Laws.Aggregates.{same-hop}
 use Rattle.model.specs.Laws.Test.{and-both}
 use Rattle.queue_table.specs.View.{queueAt, levelsAt, tableOf, hopAt, isQueue}
-use Rattle.figures.specs.View.{Hops}
+use Rattle.figures.specs.View.{Hops, FlowOf}
 use Rattle.queue_table.proofs.LookupLaws.{queue-found}
+use Rattle.link_check.proofs.Laws.{mapped-next, mapped-end}
 
 -- Two entries that name one queue are equal.
 pub other-entry : (d e : ℕ) → (d ≡ e → ⊥) → model.sameHop (hopAt d) (hopAt e) ≡ false
@@ -70,6 +71,26 @@ module _ (P : ℕ → Type 0) where
 pub hop-at : {queues entries : List ℕ} → Hops queues entries → (i : ℕ) → i < length entries
     → (getD entries i 0 < 512) × (getD queues (2 * getD entries i 0) 0 ≤ 100000)
 hop-at {queues} {entries} hops i h = all-at (λ e. (e < 512) × (getD queues (2 * e) 0 ≤ 100000)) entries i (hops .each) h
+
+-- What the hops of a path from `i` on add, where the thresholds before them sum to `sum`.
+module _ {rate burst frame : ℕ} {entries : List ℕ} {f : Flow} (is : FlowOf rate burst frame entries f) (n : ℕ) (links queues : List ℕ) (sum i : ℕ) where
+  -- The entry of the hop at `i`, and those after it.
+  pub entries-next : All (λ e. isQueue n links e ≡ true) entries → i < length entries
+      → let x : ℕ = getD entries i 0 in
+      model.entries (tableOf n links queues) f sum (drop i (f .path))
+      ≡ record { hop = hopAt x; adds = record { rate = rate; burst = burstAtHop rate burst sum; frame = frame } }
+      ∷ model.entries (tableOf n links queues) f (sum + getD queues (2 * x) 0) (drop (i + 1) (f .path))
+  unfolding model.entries
+  entries-next named more =
+      let x : ℕ = getD entries i 0 in
+      let hops : drop i (f .path) ≡ hopAt x ∷ drop (i + 1) (f .path)
+      = ap (drop i) (is .path-is) ∙ mapped-next hopAt entries i 0 more ∙ ap (λ l. hopAt x ∷ drop (i + 1) l) (sym (is .path-is)) in
+      ap (model.entries (tableOf n links queues) f sum) hops
+      ∙ rw (threshold-named n links x (all-at (λ e. isQueue n links e ≡ true) entries i named more) queues, is .rate-is, is .burst-is, is .frame-is)
+
+  pub entries-end : length entries ≤ i → model.entries (tableOf n links queues) f sum (drop i (f .path)) ≡ []
+  unfolding model.entries
+  entries-end end = ap (model.entries (tableOf n links queues) f sum) (ap (drop i) (is .path-is) ∙ mapped-end hopAt entries i end)
 
 -- A burst at a hop, in the ranges of document 01.
 pub burst-small : (rate burst sum : ℕ) → rate ≤ 10000000 → burst ≤ 1000000 → sum ≤ 1200000 → burstAtHop rate burst sum ≤ 2 ^ 31

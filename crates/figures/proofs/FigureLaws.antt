@@ -65,23 +65,37 @@ module _ (sums : List ℕ) (e : ℕ) (a : Aggregate) where
 pub sum-fits : (sums : List ℕ) (k more : ℕ) → Below (2 ^ 63) sums → more ≤ 2 ^ 31 → getD sums k 0 + more < 2 ^ 64
 sum-fits sums k more below small = omega (arith, below k)
 
--- The stores that count a flow in: the largest frame is stored only where it grows.
-module _ (sums : List ℕ) (e rate burst frame : ℕ) where
+-- The stores at a queue, one after the other.
+module _ (sums : List ℕ) (e rate burst : ℕ) where
   abbrev sumsStored : List ℕ
-  sumsStored = set (set sums (3 * e) (getD sums (3 * e) 0 + rate)) (3 * e + 1) (getD sums (3 * e + 1) 0 + burst)
+  sumsStored = set (set sums (3 * e) rate) (3 * e + 1) burst
 
-  counted-in : (largest : ℕ) → max (getD sums (3 * e + 2) 0) frame ≡ largest
-      → set sumsStored (3 * e + 2) largest ≡ figureStored sums e (withFlow (figureAt sums e) rate burst frame)
-  unfolding figureStored figureAt withFlow
-  counted-in largest most = rw most (simp (add-one, add-two))
+  pub frame-stored : (frame : ℕ) → set sumsStored (3 * e + 2) frame ≡ figureStored sums e (record { rate = rate; burst = burst; frame = frame })
+  unfolding figureStored
+  frame-stored frame = simp (add-one, add-two)
+
+  -- The largest frame isn't stored where it stays as it was.
+  pub frame-kept : sumsStored ≡ figureStored sums e (record { rate = rate; burst = burst; frame = getD sums (3 * e + 2) 0 })
+  frame-kept =
+      let same : getD sumsStored (3 * e + 2) 0 ≡ getD sums (3 * e + 2) 0
+      = getD-set-other (set sums (3 * e) rate) (3 * e + 1) (3 * e + 2) burst 0 (omega arith)
+      ∙ getD-set-other sums (3 * e) (3 * e + 2) rate 0 (omega arith) in
+      sym (set-getD sumsStored (3 * e + 2) 0) ∙ ap (set sumsStored (3 * e + 2)) same ∙ frame-stored (getD sums (3 * e + 2) 0)
+
+-- The stores that count a flow in.
+module _ (sums : List ℕ) (e rate burst frame : ℕ) where
+  abbrev sumsMore : List ℕ
+  sumsMore = sumsStored sums e (getD sums (3 * e) 0 + rate) (getD sums (3 * e + 1) 0 + burst)
+
+  more-stored : (largest : ℕ) → largest ≡ max (getD sums (3 * e + 2) 0) frame
+      → figureStored sums e (record { rate = getD sums (3 * e) 0 + rate; burst = getD sums (3 * e + 1) 0 + burst; frame = largest })
+      ≡ figureStored sums e (withFlow (figureAt sums e) rate burst frame)
+  unfolding figureAt withFlow
+  more-stored largest most = rw most
 
   pub frame-grows : getD sums (3 * e + 2) 0 < frame
-      → set sumsStored (3 * e + 2) frame ≡ figureStored sums e (withFlow (figureAt sums e) rate burst frame)
-  frame-grows lt = counted-in frame (omega arith)
+      → set sumsMore (3 * e + 2) frame ≡ figureStored sums e (withFlow (figureAt sums e) rate burst frame)
+  frame-grows lt = frame-stored sums e _ _ frame ∙ more-stored frame (omega arith)
 
-  pub frame-stays : frame ≤ getD sums (3 * e + 2) 0 → sumsStored ≡ figureStored sums e (withFlow (figureAt sums e) rate burst frame)
-  frame-stays le =
-      let same : getD sumsStored (3 * e + 2) 0 ≡ getD sums (3 * e + 2) 0
-      = getD-set-other (set sums (3 * e) (getD sums (3 * e) 0 + rate)) (3 * e + 1) (3 * e + 2) (getD sums (3 * e + 1) 0 + burst) 0 (omega arith)
-      ∙ getD-set-other sums (3 * e) (3 * e + 2) (getD sums (3 * e) 0 + rate) 0 (omega arith) in
-      sym (set-getD sumsStored (3 * e + 2) 0) ∙ ap (set sumsStored (3 * e + 2)) same ∙ counted-in (getD sums (3 * e + 2) 0) (omega arith)
+  pub frame-stays : frame ≤ getD sums (3 * e + 2) 0 → sumsMore ≡ figureStored sums e (withFlow (figureAt sums e) rate burst frame)
+  frame-stays le = frame-kept sums e _ _ ∙ more-stored (getD sums (3 * e + 2) 0) (omega arith)

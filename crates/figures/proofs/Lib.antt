@@ -1,6 +1,8 @@
 pub mod FigureLaws
 pub mod EntryLaws
 pub mod AddLaws
+pub mod RemoveLaws
+pub mod RaiseLaws
 pub mod LoadLaws
 pub mod BoundLaws
 pub mod LinkLaws

@@ -1,5 +1,5 @@
 -- What the columns and answers of this crate say in the terms of the model.
-use Prim.Native.Nat.{ℕ, _+_, _*_, _/_, _%_, _^_, _≤_, _<_}
+use Prim.Native.Nat.{ℕ, _+_, _*_, _/_, _%_, _^_, _≤_, _<_, max}
 use mathlib.Core.Path.{_≡_}
 use mathlib.Core.Bool.{Bool, true, false}
 use mathlib.Core.List.{List, [], _∷_, map}
@@ -8,7 +8,7 @@ use lib.ListN.{length, getD, set}
 use lib.Seq.{sets}
 use Rattle.model.specs.Formula.{Aggregate}
 use Rattle.model.specs.QueueTable.{Table}
-use Rattle.model.specs.Orders.{Flow}
+use Rattle.model.specs.Orders.{Hop, Flow}
 use Rattle.model.specs.Aggregates.{aggregateAt}
 use Rattle.model.specs.LinkCheck.{linkFinding}
 use Rattle.model.specs.Schedulable.{All, Named, LinkMeets}
@@ -62,6 +62,59 @@ pub record PathAdded (rate burst frame : ℕ) (queues entries sums sums′ : Lis
   pub same : (n : ℕ) (links : List ℕ) (f : Flow) → All (λ e. isQueue n links e ≡ true) entries → FlowOf rate burst frame entries f
       → (e : ℕ) → e < 512 → figureAt sums′ e ≡ together (aggregateAt (tableOf n links queues) (f ∷ []) (hopAt e)) (figureAt sums e)
   pub below : (bound : ℕ) → Below bound sums → Below (bound + 2 ^ 35) sums′
+
+-- The figures are those of some flows and of a flow with this path, so that it can be taken out.
+pub record PathCounted (rate burst frame : ℕ) (queues entries sums : List ℕ) : Type 0 where
+  pub n : ℕ
+  pub links : List ℕ
+  pub f : Flow
+  pub fs : List Flow
+  pub named : All (λ e. isQueue n links e ≡ true) entries
+  pub is : FlowOf rate burst frame entries f
+  pub figures : Figures (tableOf n links queues) (f ∷ fs) sums
+
+-- A queue whose rate sum is 0 has no largest frame.
+abbrev pub Carried : Table → List Flow → Type 0
+Carried t fs = (q : Hop) → aggregateAt t fs q .rate ≡ 0 → aggregateAt t fs q .frame ≡ 0
+
+-- What a queue's largest frame becomes once a flow with the frame `frame` is taken out there and the rate sum is `rate`: 0
+-- where no flow is left and where the flow's own may have been the largest, which `again` says.
+pub data FrameLeft (rate frame largest left : ℕ) (again : Bool) : Type 0 where
+  no-flow : rate ≡ 0 → left ≡ 0 → FrameLeft rate frame largest left again
+  unknown : again ≡ true → left ≡ 0 → FrameLeft rate frame largest left again
+  another : frame < largest → left ≡ largest → FrameLeft rate frame largest left again
+
+-- A flow is taken out at queue `e`, with its burst there.
+pub record HopRemoved (rate burst frame : ℕ) (sums : List ℕ) (e : ℕ) (sums′ : List ℕ) (again : Bool) : Type 0 where
+  pub left : Aggregate
+  pub stored : sums′ ≡ figureStored sums e left
+  pub rate-left : left .rate + rate ≡ figureAt sums e .rate
+  pub burst-left : left .burst + burst ≡ figureAt sums e .burst
+  pub frame-left : FrameLeft (left .rate) frame (figureAt sums e .frame) (left .frame) again
+
+-- The figures `a` of a queue are right (`b`), but that its largest frame may be too small where `again` says so.
+pub record Left (again : Bool) (a b : Aggregate) : Type 0 where
+  pub rate : a .rate ≡ b .rate
+  pub burst : a .burst ≡ b .burst
+  pub low : a .frame ≤ b .frame
+  pub frame : again ≡ false → a .frame ≡ b .frame
+
+-- What the path added at each queue is taken out; where a rate sum is 0 then, no flow may be left.
+pub record PathRemoved (rate burst frame : ℕ) (queues entries sums sums′ : List ℕ) (again : Bool) : Type 0 where
+  pub long : length sums′ ≡ 1536
+  pub left : (n : ℕ) (links : List ℕ) (f : Flow) (fs : List Flow) → All (λ e. isQueue n links e ≡ true) entries → FlowOf rate burst frame entries f
+      → Figures (tableOf n links queues) (f ∷ fs) sums → 1 ≤ rate → Carried (tableOf n links queues) fs
+      → (e : ℕ) → e < 512 → Left again (figureAt sums′ e) (aggregateAt (tableOf n links queues) fs (hopAt e))
+
+-- Figures with a largest frame of at least this.
+unfoldable pub raised : Aggregate → (frame : ℕ) → Aggregate
+raised a frame = record { rate = a .rate; burst = a .burst; frame = max (a .frame) frame }
+
+-- The largest frame of a flow on this path is counted in at its queues; rate and burst sums stay.
+pub record FrameRaised (frame : ℕ) (entries sums sums′ : List ℕ) : Type 0 where
+  pub long : length sums′ ≡ 1536
+  pub same : (t : Table) (f : Flow) → f .frame ≡ frame → f .path ≡ map hopAt entries → (e : ℕ) → e < 512
+      → figureAt sums′ e ≡ raised (figureAt sums e) (aggregateAt t (f ∷ []) (hopAt e) .frame)
 
 -- The figures of a consistent registry stay below these numbers: a delay that passed bounds the burst sum.
 pub record Bounded (sums : List ℕ) : Type 0 where

@@ -13,9 +13,10 @@ ghost use lib.Dec.{eqb};
 ghost use Rattle.model.specs.WithFlow.{withFlow};
 ghost use Rattle.model.specs.LinkCheck.{linkFinding};
 ghost use Rattle.model.specs.Reference.{linkCause};
+ghost use Rattle.model.specs.Schedulable.{All};
 ghost use Rattle.queue_table.specs.View.{upTo, queueAt, Columns};
 ghost use Rattle.link_check.specs.Levels.{aggregateOf, aggregatesOf, queuesOf, findingOf};
-ghost use Rattle.figures.specs.View.{figureAt, levelFigures, levelsWith, Below, figureStored, Hops, PathAdded, Bounded, Speeds, causeOf, PathChecked, codeAt, LinkSpeeds, LinksMet};
+ghost use Rattle.figures.specs.View.{figureAt, levelFigures, levelsWith, Below, figureStored, Hops, PathAdded, PathCounted, HopRemoved, PathRemoved, FrameRaised, Bounded, Speeds, causeOf, PathChecked, codeAt, LinkSpeeds, LinksMet};
 use link_check::Aggregate;
 use link_check::Finding;
 use link_check::LEVELS;
@@ -205,6 +206,75 @@ pub fn add_path(
         let there = burst_at_hop(rate, burst, Micros(sum));
         add_hop(e, rate, there, frame, sums);
         sum += queues[2 * e] as u64;
+        i += 1;
+    }
+}
+
+// Takes a flow out at queue e, with its burst there. Answers whether the largest frame, 0 then, must be worked out anew.
+fn remove_hop(e: usize, rate: Rate, burst: Bytes, frame: Bytes, sums: &mut [u64]) -> bool
+    requires { ⌜ (e < 512) × (length (now sums) ≡ 1536) ⌝ }
+    requires { ⌜ (rate .0 ≤ figureAt (now sums) e .rate) × (burst .0 ≤ figureAt (now sums) e .burst) ⌝ }
+    ensures { λ r. ⌜ HopRemoved (rate .0) (burst .0) (frame .0) (now (sums .entry)) e (now (sums .exit)) r ⌝ }
+{
+    let first = 3 * e;
+    let rates = sums[first] - rate.0;
+    let bursts = sums[first + 1] - burst.0;
+    let largest = sums[first + 2];
+    sums[first] = rates;
+    sums[first + 1] = bursts;
+    if rates == 0 {
+        sums[first + 2] = 0;
+        return false;
+    }
+    if frame.0 < largest {
+        return false;
+    }
+    sums[first + 2] = 0;
+    true
+}
+
+// Takes a flow out at each queue of its path. Answers whether a queue may hold too small a largest frame then: one that
+// was the flow's own is 0 until the frames are raised again.
+pub fn remove_path(
+    rate: Rate,
+    burst: Bytes,
+    frame: Bytes,
+    queues: &[u32],
+    entries: &[u32],
+    sums: &mut [u64],
+) -> bool
+    requires { ⌜ (rate .0 ≤ 10000000) × ((burst .0 ≤ 1000000) × (frame .0 ≤ 1542)) ⌝ }
+    requires { ⌜ Hops (now queues) (now entries) ⌝ }
+    requires { ⌜ PathCounted (rate .0) (burst .0) (frame .0) (now queues) (now entries) (now sums) ⌝ }
+    ensures { λ r. ⌜ PathRemoved (rate .0) (burst .0) (frame .0) (now (queues .entry)) (now (entries .entry)) (now (sums .entry)) (now (sums .exit)) r ⌝ }
+{
+    let mut sum: u64 = 0;
+    let mut again = false;
+    let mut i = 0;
+    while i < entries.len() {
+        let e = entries[i] as usize;
+        let there = burst_at_hop(rate, burst, Micros(sum));
+        let own = remove_hop(e, rate, there, frame, sums);
+        sum += queues[2 * e] as u64;
+        i += 1;
+        if own {
+            again = true;
+        }
+    }
+    again
+}
+
+// Raises the largest frame at each queue of a path to at least this one.
+pub fn raise_path(frame: Bytes, entries: &[u32], sums: &mut [u64])
+    requires { ⌜ All (λ e. e < 512) (now entries) × (length (now sums) ≡ 1536) ⌝ }
+    ensures { λ _. ⌜ FrameRaised (frame .0) (now (entries .entry)) (now (sums .entry)) (now (sums .exit)) ⌝ }
+{
+    let mut i = 0;
+    while i < entries.len() {
+        let at = 3 * (entries[i] as usize) + 2;
+        if sums[at] < frame.0 {
+            sums[at] = frame.0;
+        }
         i += 1;
     }
 }

@@ -1,1 +1,2 @@
 pub mod RecountLaws
+pub mod FrameLaws

@@ -56,13 +56,42 @@ figures-none t sums long below =
     none-at : (j : ℕ) → getD sums j 0 ≡ 0
     none-at j = omega (arith, below j)
 
-module _ (queues slots pool : List ℕ) where
-  abbrev flowIn : (i : ℕ) → Flow
+-- Slot i counted too.
+pub counts-one : (slots : List ℕ) (i : ℕ) → countsFrom i 0 slots + countAt slots i ≡ countsFrom (i + 1) 0 slots
+unfolding countsFrom
+counts-one slots i = sym (counts-split slots i 1 0 ∙ rw (zero-add i) (omega arith))
+
+module _ (slots pool : List ℕ) where
+  abbrev pub flowIn : (i : ℕ) → Flow
   flowIn i = flowAt slots i (entriesIn slots pool i)
 
-  abbrev rest : (i : ℕ) → List Slot
+  abbrev pub rest : (i : ℕ) → List Slot
   rest i = slotsFrom (256 - i) i slots (drop (countsFrom i 0 slots) pool)
 
+  -- Slot i, and those after it.
+  rest-next : (i : ℕ) → i < 256 → rest i ≡ slotOf (countAt slots i) (flowIn i) ∷ rest (i + 1)
+  unfolding slotsFrom countsFrom
+  rest-next i h =
+      let m : 256 - i ≡ suc (256 - (i + 1)) = omega arith in
+      let c : ℕ = countAt slots i in
+      let k : ℕ = countsFrom i 0 slots in
+      ap (λ (n : ℕ). slotsFrom n i slots (drop k pool)) m
+      ∙ ap (λ (p : List ℕ). slotOf c (flowIn i) ∷ slotsFrom (256 - (i + 1)) (suc i) slots p) (drop-drop c k pool ∙ ap (λ (n : ℕ). drop n pool) (counts-one slots i))
+      ∙ ap (λ (n : ℕ). slotOf c (flowIn i) ∷ slotsFrom (256 - (i + 1)) n slots (drop (countsFrom (i + 1) 0 slots) pool)) (sym (add-one i))
+
+  pub flows-free : (i : ℕ) → i < 256 → countAt slots i ≡ 0 → heldFlows (rest i) ≡ heldFlows (rest (i + 1))
+  unfolding slotOf heldFlows
+  flows-free i h free =
+      let f : Flow = flowIn i in
+      ap heldFlows (rest-next i h) ∙ ap (λ (count : ℕ). heldFlows (slotOf count f ∷ rest (i + 1))) free
+
+  pub flows-held : (i : ℕ) → i < 256 → 1 ≤ countAt slots i → heldFlows (rest i) ≡ flowIn i ∷ heldFlows (rest (i + 1))
+  unfolding slotOf heldFlows
+  flows-held i h held =
+      let f : Flow = flowIn i in
+      ap heldFlows (rest-next i h) ∙ ap (λ (b : Bool). heldFlows (cond b none (some f) ∷ rest (i + 1))) (ne-eqb (countAt slots i) 0 (λ e. omega arith))
+
+module _ (queues slots pool : List ℕ) where
   pub counted-none : (sums : List ℕ) → length sums ≡ 1536 → Below 0 sums → Counted queues slots pool sums 256
   unfolding slotsFrom heldFlows
   counted-none sums long below =
@@ -72,37 +101,13 @@ module _ (queues slots pool : List ℕ) where
   unfolding slotsOf countsFrom
   counted-all sums all = record { same = all .same }
 
-  -- Slot i, and those after it.
-  rest-next : (i : ℕ) → i < 256 → rest i ≡ slotOf (countAt slots i) (flowIn i) ∷ rest (i + 1)
-  unfolding slotsFrom countsFrom
-  rest-next i h =
-      let m : 256 - i ≡ suc (256 - (i + 1)) = omega arith in
-      let c : ℕ = countAt slots i in
-      let k : ℕ = countsFrom i 0 slots in
-      let e : k + c ≡ countsFrom (i + 1) 0 slots = sym (counts-split slots i 1 0 ∙ rw (zero-add i) (omega arith)) in
-      ap (λ (n : ℕ). slotsFrom n i slots (drop k pool)) m
-      ∙ ap (λ (p : List ℕ). slotOf c (flowIn i) ∷ slotsFrom (256 - (i + 1)) (suc i) slots p) (drop-drop c k pool ∙ ap (λ (n : ℕ). drop n pool) e)
-      ∙ ap (λ (n : ℕ). slotOf c (flowIn i) ∷ slotsFrom (256 - (i + 1)) n slots (drop (countsFrom (i + 1) 0 slots) pool)) (sym (add-one i))
-
-  flows-free : (i : ℕ) → i < 256 → countAt slots i ≡ 0 → heldFlows (rest i) ≡ heldFlows (rest (i + 1))
-  unfolding slotOf heldFlows
-  flows-free i h free =
-      let f : Flow = flowIn i in
-      ap heldFlows (rest-next i h) ∙ ap (λ (count : ℕ). heldFlows (slotOf count f ∷ rest (i + 1))) free
-
-  flows-held : (i : ℕ) → i < 256 → 1 ≤ countAt slots i → heldFlows (rest i) ≡ flowIn i ∷ heldFlows (rest (i + 1))
-  unfolding slotOf heldFlows
-  flows-held i h held =
-      let f : Flow = flowIn i in
-      ap heldFlows (rest-next i h) ∙ ap (λ (b : Bool). heldFlows (cond b none (some f) ∷ rest (i + 1))) (ne-eqb (countAt slots i) 0 (λ e. omega arith))
-
   module _ (i : ℕ) (inside : i < 256) {sums : List ℕ} (so-far : Counted queues slots pool sums (i + 1)) where
     pub counted-free : countAt slots i ≡ 0 → Counted queues slots pool sums i
     counted-free free =
         record {
           long = so-far .long;
           below = λ j. omega (arith, so-far .below j);
-          same = λ n links on. rw (flows-free i inside free) (so-far .same n links on);
+          same = λ n links on. rw (flows-free slots pool i inside free) (so-far .same n links on);
         }
 
     pub counted-held : {sums′ : List ℕ} → 1 ≤ countAt slots i
@@ -110,12 +115,12 @@ module _ (queues slots pool : List ℕ) where
         → Counted queues slots pool sums′ i
     unfolding flowAt
     counted-held held added =
-        let is : FlowOf (getD slots (6 * i + 1) 0) (getD slots (6 * i + 2) 0) (getD slots (6 * i + 3) 0) (entriesIn slots pool i) (flowIn i)
+        let is : FlowOf (getD slots (6 * i + 1) 0) (getD slots (6 * i + 2) 0) (getD slots (6 * i + 3) 0) (entriesIn slots pool i) (flowIn slots pool i)
         = record { rate-is = refl; burst-is = refl; frame-is = refl; path-is = refl } in
         record {
           long = added .long;
           below = λ j. omega (arith, added .below ((256 - (i + 1)) * 2 ^ 35) (so-far .below) j);
-          same = λ n links on. rw (flows-held i inside held) (figures-added n links (flowIn i) (on i inside) is added (so-far .same n links on));
+          same = λ n links on. rw (flows-held slots pool i inside held) (figures-added n links (flowIn slots pool i) (on i inside) is added (so-far .same n links on));
         }
 
 -- Two columns with the figures of the same flows are equal.

@@ -6,9 +6,11 @@ use mathlib.Core.List.{List}
 use lib.ListN.{length, getD, take, drop}
 use Rattle.model.specs.Reference.{heldFlows}
 use Rattle.model.specs.Schedulable.{All}
-use Rattle.queue_table.specs.View.{tableOf, isQueue}
+use Rattle.model.specs.QueueTable.{Table}
+use Rattle.model.specs.Aggregates.{aggregateAt}
+use Rattle.queue_table.specs.View.{tableOf, hopAt, isQueue}
 use Rattle.flow_store.specs.View.{Store, countAt, countsFrom, slotsFrom, slotsOf}
-use Rattle.figures.specs.View.{Below, Figures, Hops}
+use Rattle.figures.specs.View.{figureAt, Below, Figures, Hops, raised}
 
 -- The hop entries of slot i.
 abbrev pub entriesIn : (slots pool : List ℕ) (i : ℕ) → List ℕ
@@ -42,3 +44,9 @@ pub record Counted (queues slots pool sums : List ℕ) (i : ℕ) : Type 0 where
 -- The column holds the figures of all held flows.
 pub record Recounted (queues slots pool sums : List ℕ) : Type 0 where
   pub same : (n : ℕ) (links : List ℕ) → OnQueues n links slots pool → Figures (tableOf n links queues) (heldFlows (slotsOf slots pool)) sums
+
+-- Each queue's largest frame is at least that of the held flows; rate and burst sums stay.
+pub record FramesRaised (slots pool sums sums′ : List ℕ) : Type 0 where
+  pub long : length sums′ ≡ 1536
+  pub same : (t : Table) (e : ℕ) → e < 512
+      → figureAt sums′ e ≡ raised (figureAt sums e) (aggregateAt t (heldFlows (slotsOf slots pool)) (hopAt e) .frame)

@@ -1,13 +1,15 @@
 // Works out anew the figures of the held flows (document 01, "The book"), so that a registry whose figures don't match
-// its flows is found out (42).
+// its flows is found out (42); and the largest frames alone, which a release can't take out of the figures.
 //
 // The columns are those of `queue_table` (queues), `flow_store` (slots, pool) and `figures` (sums).
 ghost use mathlib.Core.Path.{_≡_};
 ghost use mathlib.Core.Bool.{true, false};
-ghost use Prim.Native.Nat.{_+_, _<_};
+ghost use Prim.Native.Nat.{ℕ, _+_, _<_};
 ghost use lib.ListN.{length};
+ghost use Rattle.model.specs.Schedulable.{All};
+ghost use Rattle.flow_store.specs.View.{Store};
 ghost use Rattle.figures.specs.View.{Below};
-ghost use Rattle.recount.specs.View.{Countable, Counted, Recounted};
+ghost use Rattle.recount.specs.View.{entriesIn, Countable, Counted, Recounted, FramesRaised};
 use units::Bytes;
 use units::Rate;
 
@@ -51,6 +53,23 @@ pub fn recount(queues: &[u32], slots: &[u32], pool: &[u32], sums: &mut [u64])
     while 0 < slot {
         slot -= 1;
         count_slot(slot, queues, slots, pool, sums);
+    }
+}
+
+// Raises each queue's largest frame to that of the held flows. A free slot has no entries, so it raises none.
+pub fn raise_frames(slots: &[u32], pool: &[u32], sums: &mut [u64])
+    requires { ⌜ Store (now slots) (now pool) × (length (now sums) ≡ 1536) ⌝ }
+    requires { ⌜ ((i : ℕ) → i < 256 → All (λ e. e < 512) (entriesIn (now slots) (now pool) i)) ⌝ }
+    ensures { λ _. ⌜ FramesRaised (now (slots .entry)) (now (pool .entry)) (now (sums .entry)) (now (sums .exit)) ⌝ }
+{
+    let mut at = 0;
+    let mut slot = 0;
+    while slot < 256 {
+        let frame = Bytes(slots[6 * slot + 3] as u64);
+        let end = at + slots[6 * slot + 5] as usize;
+        figures::raise_path(frame, &pool[at..end], sums);
+        at = end;
+        slot += 1;
     }
 }
 

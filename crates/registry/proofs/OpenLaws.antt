@@ -20,7 +20,8 @@ use Rattle.queue_table.specs.declared.Verdict.the-variants.{Accepted, Refused}
 use Rattle.queue_table.specs.View.{tableOf, textOf, linksIn, Columns, TableFilled, upTo, hopAt}
 use Rattle.flow_store.specs.View.{Store, slotsOf, slotsFrom, slotOf, countAt, countsFrom}
 use Rattle.figures.specs.View.{Figures, figureAt}
-use Rattle.registry.specs.View.{stateOf, Kept, OpensOn}
+use Rattle.admission.specs.View.{stateOf, Kept}
+use Rattle.registry.specs.View.{OpensOn}
 
 zeros : (m j : ℕ) → getD {A = ℕ} (replicate m 0) j 0 ≡ 0
 zeros zero j = refl

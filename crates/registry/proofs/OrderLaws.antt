@@ -31,7 +31,7 @@ use Rattle.flow_store.specs.View.{Store, slotsOf}
 use Rattle.flow_store.proofs.ViewLaws.{length-slots, held-hops}
 use Rattle.flow_check.specs.Findings.{flowAlone}
 use Rattle.figures.specs.View.{Figures, LinkSpeeds}
-use Rattle.registry.specs.View.{stateOf, Kept}
+use Rattle.admission.specs.View.{stateOf, Kept}
 
 module _ (t : Table) (fs : List Flow) where
   alone-rules : ((link : ℕ) → LinkMeets t fs link) → (f : Flow) → flowAlone t fs f ≡ true → FlowRules t fs f
@@ -47,13 +47,6 @@ module _ (t : Table) (fs : List Flow) where
         deadline = rest .0;
         links = member-all (λ (h : Hop). LinkMeets t fs (h .link)) (f .path) (λ h on. meets (h .link));
       }
-
-  rules-alone : (f : Flow) → FlowRules t fs f → flowAlone t fs f ≡ true
-  unfolding flowAlone isNone
-  rules-alone f r =
-      both-and (both-and (r .range) (le-leb _ _ (r .number)))
-      (rw (applies-none (lineFindings t f ++ deadlineFinding t f ∷ [])
-      (all-append (λ x. x ≡ none) (lineFindings t f) (deadlineFinding t f ∷ []) (r .line) (r .deadline, tt))))
 
 module _ (n : ℕ) (links queues slots pool : List ℕ) where
   abbrev t : Table
@@ -86,10 +79,6 @@ module _ (n : ℕ) (links queues slots pool : List ℕ) where
       each g e =
           let causes = and-both (flowInRange g && leb (withNumber (g .number) held) 1) _ e .1 in
           named t [] (g .path) (none-applies (lineFindings t g ++ deadlineFinding t g ∷ []) (is-none _ causes) .1 .0)
-
-  module _ (k : StateRules (stateOf n links queues slots pool)) where
-    pub kept-alone : every (flowAlone t held) held ≡ true
-    kept-alone = all-every (flowAlone t held) held (all-imp held (rules-alone t held) (k .flows .flows))
 
   pub kept : {sums : List ℕ} → Columns n links queues → Store slots pool → tableConsistent t ≡ true → every (flowAlone t held) held ≡ true
       → Figures t held sums

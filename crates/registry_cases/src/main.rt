@@ -1,12 +1,14 @@
 // Opens a registry on each table text, the files t00, t01, .. beside it until one is missing, hands it the lines of o00,
 // o01, .. one by one and prints what each is answered: code in 3 columns, slot in 4, link in 4 and level in 2.
 //
-// A line that starts with x isn't handed on: it sets one number of the registry. Column 2-3 (0 the number of links, 1 links,
-// 2 queues, 3 slots, 4 hop entries, 5 figures), index 4-8, the number 9-17.
+// What follows an r at a line's start is handed to `release`, every other line to `register`. A line that starts with x isn't
+// handed on: it sets one number of the registry. Column 2-3 (0 the number of links, 1 links, 2 queues, 3 slots, 4 hop
+// entries, 5 figures), index 4-8, the number 9-17.
+use admission::Answer;
 use columns::Field;
 use columns::NextLine;
 use libc::STDOUT_FILENO;
-use registry::Answer;
+use registry::Kind;
 use registry::Registry;
 
 fn show(code: u32, slot: u32, link: u32, level: u32) {
@@ -63,8 +65,8 @@ fn change(registry: Registry, column: u32, index: usize, n: u32) -> Registry {
     }
 }
 
-fn call(registry: Registry, line: &[u8]) -> Registry {
-    let called = registry::register(registry, line);
+fn call(registry: Registry, kind: Kind, line: &[u8]) -> Registry {
+    let called = registry::apply(registry, kind, line);
     let answer = called.answer;
     match answer {
         Answer::Done(slot) => show(0, slot, 0, 0),
@@ -74,8 +76,14 @@ fn call(registry: Registry, line: &[u8]) -> Registry {
 }
 
 fn step(registry: Registry, line: &[u8]) -> Registry {
-    if line.len() == 0 || line[0] != b'x' {
-        return call(registry, line);
+    if line.len() == 0 {
+        return call(registry, Kind::Register, line);
+    }
+    if line[0] == b'r' {
+        return call(registry, Kind::Release, &line[1..]);
+    }
+    if line[0] != b'x' {
+        return call(registry, Kind::Register, line);
     }
     let column = number(columns::read_at(line, 2, 3));
     let index = number(columns::read_at(line, 4, 8)) as usize;
@@ -88,7 +96,7 @@ fn walk(text: &[u8], empty: Registry) {
     let mut at = 0;
     while at < text.len() {
         let NextLine::Ended(end) = columns::next_line(text, at) else {
-            call(registry, &text[at..]);
+            step(registry, &text[at..]);
             return;
         };
         let next = end + 1;

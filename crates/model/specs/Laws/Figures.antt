@@ -86,6 +86,11 @@ module _ (q : Hop) where
   unfolding entriesAt total largest addsAt together
   entries-here x es a e = rw e (together-moved (x .adds) (entriesAt q es) a)
 
+-- An entry and those after it, of which none has the rate 0, add no rate, so that they add no frame.
+none-here : (b : Bool) (rate frame : ℕ) {rates frames : ℕ} → 1 ≤ rate → (rates ≡ 0 → frames ≡ 0) → cond b rate 0 + rates ≡ 0 → max (cond b frame 0) frames ≡ 0
+none-here true rate frame one later z = absurd (omega arith)
+none-here false rate frame one later z = omega (arith, later (omega arith))
+
 module _ (t : Table) where
   pub aggregate-alone : (f : Flow) (q : Hop) → aggregateAt t (f ∷ []) q ≡ entriesAt q (entries t f 0 (f .path))
   unfolding aggregateAt allEntries entriesAt
@@ -98,6 +103,23 @@ module _ (t : Table) where
   -- The new flow's own aggregate and that of the others.
   pub aggregate-more : (f : Flow) (fs : List Flow) (q : Hop) → aggregateAt t (f ∷ fs) q ≡ together (aggregateAt t (f ∷ []) q) (aggregateAt t fs q)
   aggregate-more f fs q = added f fs q ∙ ap (λ (a : Aggregate). together a (aggregateAt t fs q)) (sym (aggregate-alone f q))
+
+  -- The hops of a flow whose rate isn't 0 are at other queues, where they add no rate.
+  pub entries-carried : (f : Flow) → 1 ≤ f .rate → (q : Hop) (sum : ℕ) (path : List Hop)
+      → entriesAt q (entries t f sum path) .rate ≡ 0 → entriesAt q (entries t f sum path) .frame ≡ 0
+  unfolding entries entriesAt total largest addsAt
+  entries-carried f one q sum [] z = refl
+  entries-carried f one q sum (h ∷ path) z =
+      none-here (sameHop q h) (f .rate) (f .frame) one (entries-carried f one q (sum + thresholdOf (queueAt t h)) path) z
+
+  -- A queue whose rate sum is 0 has no largest frame, since no flow has the rate 0.
+  pub carried : (fs : List Flow) → All (λ f. 1 ≤ f .rate) fs → (q : Hop) → aggregateAt t fs q .rate ≡ 0 → aggregateAt t fs q .frame ≡ 0
+  unfolding aggregateAt allEntries total largest together
+  carried [] a q z = refl
+  carried (f ∷ fs) a q z =
+      let rates = ap (λ (a : Aggregate). a .rate) (added f fs q) in
+      let frames = ap (λ (a : Aggregate). a .frame) (added f fs q) in
+      omega (arith, frames, entries-carried f (a .0) q 0 (f .path) (omega (arith, rates)), carried fs (a .1) q (omega (arith, rates)))
 
   entries-off : (f : Flow) (sum : ℕ) (q : Hop) (path : List Hop) → crosses (q .link) path ≡ false → entriesAt q (entries t f sum path) ≡ noFlow
   unfolding entriesAt noFlow

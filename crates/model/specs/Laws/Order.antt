@@ -83,3 +83,25 @@ only-line kind (first ∷ second ∷ more) = inl refl
 pub call-readable : (c : Call) → Readable (kindNumber (c .kind)) (callOrder c)
 unfolding callOrder
 call-readable c = only-line (kindNumber (c .kind)) (lines (c .bytes))
+
+-- A registration's numbers are in their ranges.
+abbrev pub Ranged : Order → Type 0
+Ranged (register f) = flowInRange f ≡ true
+Ranged (release n) = Unit {0}
+Ranged (rejected code) = Unit {0}
+
+ranged : (kind : ℕ) (o : Order) → Readable kind o → Ranged o
+ranged kind (register f) r = r .1
+ranged kind (release n) r = tt
+ranged kind (rejected code) r = tt
+
+pub call-ranged : (kind : ℕ) (l : List Line) → Ranged (onlyLine kind l)
+call-ranged kind l = ranged kind (onlyLine kind l) (only-line kind l)
+
+pub line-ranged : (line : List ℕ) → Ranged (readOrder line)
+unfolding readOrder orderOfKind
+line-ranged line = go (fieldAt 1 2 line)
+  where
+    go : (o : Option ℕ) → Ranged (orderOfKind line o)
+    go none = tt
+    go (some kind) = ranged kind (orderOfKind line (some kind)) (kind-readable kind line)

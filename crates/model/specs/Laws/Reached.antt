@@ -89,7 +89,7 @@ register-keeps s f range m r =
         (number-new (heldFlows (s .slots)) f (m .others .number))
         new
 
-clear-keeps : (s : State) (i : ℕ) → StateRules s → StateRules (fill s i none .next)
+pub clear-keeps : (s : State) (i : ℕ) → StateRules s → StateRules (fill s i none .next)
 unfolding fill
 clear-keeps s i r =
     record {

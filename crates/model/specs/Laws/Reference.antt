@@ -12,13 +12,13 @@ use lib.Seq.{getD-set-same, getD-set-other}
 use borrow.Author.Tests.{eqb-true, eqb-false, ltb-false, leb-false}
 use Rattle.model.specs.Orders.{Flow, Order, register, release, rejected}
 use Rattle.model.specs.Schedulable.{All}
-use Rattle.model.specs.Reference.{Slot, State, Cause, heldFlows, heldHops, withNumber, hopEntries, isNone, isHeld, every, holds, firstIndex, firstCause, whole, numberFinding, lineFindings, deadlineFinding, roomFindings, linkFindings, registerFindings, findings, refuse, fill, perform, decide, apply}
+use Rattle.model.specs.Reference.{Slot, State, Cause, heldFlows, heldHops, withNumber, hopEntries, isNone, isHeld, every, holds, firstIndex, firstCause, whole, numberFinding, lineFindings, deadlineFinding, roomFindings, linkFindings, registerFindings, findings, refuse, fill, perform, decide, apply, Call, callOrder, kindNumber, step}
 use Rattle.model.specs.Laws.All.{all-append, append-all}
 use Rattle.model.specs.Outcomes.{NoneApplies, NoneOthers, Refused, Replaced, Admitted, Released}
 use Rattle.model.specs.Laws.Finding.{first-listed, none-applies, applies-none, Coded, whole-coded, hop-coded, first-coded, whole-none, is-none}
 use Rattle.model.specs.Laws.LinkMeets.{findings-coded}
 use Rattle.model.specs.Laws.Slot.{index-below, index-found, index-first, number-found}
-use Rattle.model.specs.Laws.Order.{Readable}
+use Rattle.model.specs.Laws.Order.{Readable, call-readable}
 
 pub refused : (s : State) (o : Order) → (apply s o .answer .code ≡ 0 → ⊥) → Refused s o
 unfolding apply decide perform fill findings firstCause whole
@@ -35,25 +35,26 @@ pub performed : (s : State) (o : Order) → NoneApplies (findings s o) → apply
 unfolding apply decide
 performed s o a = ap (decide s o) (applies-none (findings s o) a)
 
-register-coded : (P : ℕ → Type 0) → ((n : ℕ) → 1 ≤ n → P n) → (s : State) (f : Flow) → All (Coded P) (registerFindings s f)
+-- Every cause has a code from 1 to 31.
+register-coded : (P : ℕ → Type 0) → ((n : ℕ) → 1 ≤ n → n ≤ 31 → P n) → (s : State) (f : Flow) → All (Coded P) (registerFindings s f)
 unfolding registerFindings numberFinding lineFindings deadlineFinding roomFindings
 register-coded P h s f = (
-  whole-coded P 12 _ (h 12 (omega arith)),
+  whole-coded P 12 _ (h 12 (omega arith) (omega arith)),
   (
-    whole-coded P 17 _ (h 17 (omega arith)),
+    whole-coded P 17 _ (h 17 (omega arith) (omega arith)),
     (
-      hop-coded P 14 _ [] (f .path) (h 14 (omega arith)),
+      hop-coded P 14 _ [] (f .path) (h 14 (omega arith) (omega arith)),
       (
-        hop-coded P 16 _ [] (f .path) (h 16 (omega arith)),
+        hop-coded P 16 _ [] (f .path) (h 16 (omega arith) (omega arith)),
         (
-          hop-coded P 15 _ [] (f .path) (h 15 (omega arith)),
+          hop-coded P 15 _ [] (f .path) (h 15 (omega arith) (omega arith)),
           (
-            whole-coded P 20 _ (h 20 (omega arith)),
+            whole-coded P 20 _ (h 20 (omega arith) (omega arith)),
             (
-              whole-coded P 30 _ (h 30 (omega arith)),
+              whole-coded P 30 _ (h 30 (omega arith) (omega arith)),
               (
-                whole-coded P 31 _ (h 31 (omega arith)),
-                findings-coded (s .table) _ P (λ n low high. h n low) (f .path),
+                whole-coded P 31 _ (h 31 (omega arith) (omega arith)),
+                findings-coded (s .table) _ P (λ n low high. h n low (omega arith)) (f .path),
               ),
             ),
           ),
@@ -63,19 +64,38 @@ register-coded P h s f = (
   ),
 )
 
-findings-nonzero : (s : State) (o : Order) (kind : ℕ) → Readable kind o → All (Coded (λ n. 1 ≤ n)) (findings s o)
+order-coded : (P : ℕ → Type 0) → ((n : ℕ) → 1 ≤ n → n ≤ 31 → P n) → (s : State) (o : Order) (kind : ℕ) → Readable kind o
+    → All (Coded P) (findings s o)
 unfolding findings
-findings-nonzero s (register f) kind r = register-coded (λ n. 1 ≤ n) (λ n h. h) s f
-findings-nonzero s (release n) kind r = (whole-coded _ 13 _ (omega arith), tt)
-findings-nonzero s (rejected code) kind r = (whole-coded _ code true (⊎-elim (λ e. omega arith) (λ e. omega arith) r), tt)
+order-coded P h s (register f) kind r = register-coded P h s f
+order-coded P h s (release n) kind r = (whole-coded P 13 _ (h 13 (omega arith) (omega arith)), tt)
+order-coded P h s (rejected code) kind r =
+    (whole-coded P code true (⊎-elim (λ e. h code (omega arith) (omega arith)) (λ e. h code (omega arith) (omega arith)) r), tt)
 
 pub no-cause : (s : State) (o : Order) (kind : ℕ) → Readable kind o → apply s o .answer .code ≡ 0 → NoneApplies (findings s o)
 unfolding apply decide refuse
-no-cause s o kind r z = go (firstCause (findings s o)) refl (first-coded (λ n. 1 ≤ n) (findings s o) (findings-nonzero s o kind r)) z
+no-cause s o kind r z =
+    go (firstCause (findings s o)) refl (first-coded (λ n. 1 ≤ n) (findings s o) (order-coded (λ n. 1 ≤ n) (λ n low high. low) s o kind r)) z
   where
     go : (x : Option Cause) → firstCause (findings s o) ≡ x → Coded (λ n. 1 ≤ n) x → decide s o x .answer .code ≡ 0 → NoneApplies (findings s o)
     go none e c z = none-applies (findings s o) e
     go (some cause) e c z = absurd (omega arith)
+
+code-at-most : (s : State) (o : Order) (kind : ℕ) → Readable kind o → apply s o .answer .code ≤ 31
+unfolding apply decide perform refuse fill
+code-at-most s o kind r =
+    go o r (firstCause (findings s o)) (first-coded (λ n. n ≤ 31) (findings s o) (order-coded (λ n. n ≤ 31) (λ n low high. high) s o kind r))
+  where
+    go : (o : Order) → Readable kind o → (x : Option Cause) → Coded (λ n. n ≤ 31) x → decide s o x .answer .code ≤ 31
+    go o r (some cause) c = c
+    go (register f) r none c = omega arith
+    go (release n) r none c = omega arith
+    go (rejected code) r none c = ⊎-elim (λ e. omega arith) (λ e. omega arith) r
+
+-- 42 isn't among its answers, on any state.
+pub never-spoilt : (s : State) (c : Call) → step s c .answer .code ≡ 42 → ⊥
+unfolding step
+never-spoilt s c e = omega (arith, code-at-most s (callOrder c) (kindNumber (c .kind)) (call-readable c))
 
 -- No cause against a registration, group by group.
 pub record RegisterRules (s : State) (f : Flow) : Type 0 where

@@ -16,9 +16,9 @@ use Rattle.flow_store.specs.View.{Store, slotsOf}
 use Rattle.flow_check.specs.Findings.{flowAlone}
 use Rattle.figures.specs.View.{Figures}
 use Rattle.recount.specs.View.{OnQueues}
-use Rattle.registry.proofs.KeptLaws.{bounded}
-use Rattle.registry.proofs.OrderLaws.{columns-of, speeds-of, alone-named, kept-alone, kept}
-use Rattle.registry.proofs.HeldLaws.{on-queues, countable}
+use Rattle.admission.proofs.KeptLaws.{bounded}
+use Rattle.registry.proofs.OrderLaws.{columns-of, speeds-of, alone-named, kept}
+use Rattle.admission.proofs.HeldLaws.{on-queues, countable, kept-alone}
 use Rattle.registry.proofs.in_order.Statement.{statement}
 use Rattle.registry.proofs.in_order.Tie as tie
 
@@ -75,7 +75,7 @@ held-flows-requires c κs = (columns c, store c)
 returns-3 : tie.Need-returns-3
 returns-3 c = (
   λ e. absurd (false≢true e),
-  λ e k. true≢false (sym (kept-alone _ _ _ _ _ (state-rules _ (k .in-order))) ∙ sym (c .before .held-flows .ensures) ∙ not-true _ (c .if3 .taken)),
+  λ e k. true≢false (sym (kept-alone _ (state-rules _ (k .in-order))) ∙ sym (c .before .held-flows .ensures) ∙ not-true _ (c .if3 .taken)),
 )
 
 figures-right-requires : tie.Need-figures-right-requires

@@ -32,14 +32,14 @@ returns c = tt
 add-next : tie.Need-add-next Inv-loop μ-loop
 add-next c = omega (arith, within (c .before) .1, c .before .before .before .before .before .before .before .good)
 
-sub-step : tie.Need-sub-step Inv-loop μ-loop
-sub-step c = with-LF (c .before) .0
+sub-step-2 : tie.Need-sub-step-2 Inv-loop μ-loop
+sub-step-2 c = with-LF (c .before) .0
 
-part-step-start : tie.Need-part-step-start Inv-loop μ-loop
-part-step-start c = with-LF (c .before) .0
+part-step-start-2 : tie.Need-part-step-start-2 Inv-loop μ-loop
+part-step-start-2 c = with-LF (c .before) .0
 
-part-step-end : tie.Need-part-step-end Inv-loop μ-loop
-part-step-end c = with-LF (c .before) .1
+part-step-end-2 : tie.Need-part-step-end-2 Inv-loop μ-loop
+part-step-end-2 c = with-LF (c .before) .1
 
 loop-less : tie.Need-loop-less Inv-loop μ-loop
 loop-less c = omega (arith, within (c .before .before .before), c .before .before .before .before .before .before .loop-test .taken)
@@ -53,4 +53,4 @@ returns-2 c = tt
 pub walk-spec : {M : Type 1} → statement M
 walk-spec =
     tie.close
-    (tie.spec Inv-loop μ-loop loop-holds (λ c κs. search needs) (λ c. search needs) (λ c. search needs) (λ c. search needs) (λ c. search needs) (λ c. search needs) (λ c κs. search needs) returns add-next sub-step part-step-start part-step-end (λ c κs. search needs) loop-less loop-again returns-2)
+    (tie.spec Inv-loop μ-loop loop-holds (λ c κs. search needs) (λ c. search needs) (λ c. search needs) (λ c. search needs) (λ c. search needs) (λ c. search needs) (λ c κs. search needs) returns add-next sub-step-2 part-step-start-2 part-step-end-2 (λ c κs. search needs) loop-less loop-again returns-2)

@@ -1,0 +1,114 @@
+-- Held flows that are each right by themselves can be recounted.
+-- Assumes nothing.
+use Prim.Native.Nat.{ℕ, zero, suc, _+_, _*_, _/_, _%_, _≤_, _<_}
+use mathlib.Core.Path.{_≡_, refl, sym, ap, ap₂, subst, _∙_}
+use mathlib.Core.Bool.{Bool, true, false, _&&_}
+use mathlib.Core.List.{List, [], _∷_, _++_, map}
+use mathlib.Core.Option.{none, some, Option·some-injective, Option·none-ne-some}
+use native.Mathlib.Nat.{div-add-mod, mod-lt}
+use native.Mathlib.Omega.{arith}
+use lib.ListN.{length, getD, take, drop, length-map, length-drop}
+use lib.Seq.{length-take-le}
+use lib.Dec.{leb, eqb}
+use borrow.Author.Tests.{ne-eqb, eqb-true, le-leb}
+use Rattle.model.specs.Formula.{Aggregate}
+use Rattle.model.specs.QueueTable.{Table}
+use Rattle.model.specs.Orders.{Flow}
+use Rattle.model.specs.Schedulable.{All}
+use Rattle.model.specs.Reference.{Slot, State, heldFlows, withNumber, every, isNone, firstCause, atHop, noQueue, lineFindings, deadlineFinding}
+use Rattle.model.specs.Consistent.{flowInRange, tableConsistent}
+use Rattle.model.specs.Laws.Test.{and-both, both-and, every-all, all-every}
+use Rattle.model.specs.Laws.All.{all-append, all-imp}
+use Rattle.model.specs.Laws.Finding.{none-applies, applies-none, is-none}
+use Rattle.model.specs.Laws.Consistent.{FlowRules}
+use Rattle.model.specs.Laws.Reached.{StateRules}
+use Rattle.queue_table.specs.View.{Columns, tableOf, hopAt, isQueue}
+use Rattle.path_check.proofs.EntryLaws.{all-queues}
+use Rattle.flow_store.specs.View.{Store, slotsOf, slotOf, flowAt, countAt, countsFrom}
+use Rattle.flow_store.proofs.ViewLaws.{slot-at, slot-fits}
+use Rattle.flow_check.specs.Findings.{flowAlone}
+use Rattle.figures.specs.View.{Figures, Hops, figureAt}
+use Rattle.recount.specs.View.{entriesIn, Ranged, Countable, OnQueues}
+use Rattle.admission.proofs.KeptLaws.{Ranges, ranges, hops-ranged}
+
+-- What holds of each held flow holds of the one in a slot.
+in-slot : (P : Flow → Type 0) (slots : List Slot) (i : ℕ) {f : Flow} → All P (heldFlows slots) → getD slots i none ≡ some f → P f
+unfolding heldFlows
+in-slot P [] i a e = absurd (Option·none-ne-some _ e)
+in-slot P (none ∷ slots) zero a e = absurd (Option·none-ne-some _ e)
+in-slot P (none ∷ slots) (suc i) a e = in-slot P slots i a e
+in-slot P (some g ∷ slots) zero a e = subst P (Option·some-injective _ _ e) (a .0)
+in-slot P (some g ∷ slots) (suc i) a e = in-slot P slots i (a .1) e
+
+pub slot-held : (count : ℕ) (f : Flow) → 1 ≤ count → slotOf count f ≡ some f
+unfolding slotOf
+slot-held count f h = rw (ne-eqb count 0 (omega arith))
+
+module _ (n : ℕ) (links queues slots pool : List ℕ) (columns : Columns n links queues) (store : Store slots pool)
+    (table : tableConsistent (tableOf n links queues) ≡ true)
+    (alone : every (flowAlone (tableOf n links queues) (heldFlows (slotsOf slots pool))) (heldFlows (slotsOf slots pool)) ≡ true) where
+  abbrev t : Table
+  t = tableOf n links queues
+
+  abbrev flow : ℕ → Flow
+  flow i = flowAt slots i (entriesIn slots pool i)
+
+  entries-long : (i : ℕ) → i < 256 → length (entriesIn slots pool i) ≡ countAt slots i
+  entries-long i lt =
+      length-take-le (countAt slots i) (drop (countsFrom i 0 slots) pool)
+      (omega (arith, length-drop (countsFrom i 0 slots) pool, slot-fits slots i pool lt store))
+
+  path-long : (i : ℕ) → i < 256 → length (flow i .path) ≡ countAt slots i
+  unfolding flowAt
+  path-long i lt = length-map (entriesIn slots pool i) hopAt ∙ entries-long i lt
+
+  pub by-itself : (i : ℕ) → i < 256 → 1 ≤ countAt slots i → (flowInRange (flow i) ≡ true) × (atHop 14 (noQueue t) [] (flow i .path) ≡ none)
+  unfolding flowAlone lineFindings
+  by-itself i lt held =
+      let found = slot-at slots i pool lt ∙ slot-held (countAt slots i) (flow i) held in
+      let e = in-slot (λ (f : Flow). flowAlone t (heldFlows (slotsOf slots pool)) f ≡ true) (slotsOf slots pool) i (every-all (flowAlone t (heldFlows (slotsOf slots pool))) (heldFlows (slotsOf slots pool)) alone) found in
+      let (e₁, causes) = and-both (flowInRange (flow i) && leb (withNumber (flow i .number) (heldFlows (slotsOf slots pool))) 1) _ e in
+      let (range, number) = and-both (flowInRange (flow i)) _ e₁ in
+      let passed = none-applies (lineFindings t (flow i) ++ deadlineFinding t (flow i) ∷ []) (is-none _ causes) in
+      (range, passed .1 .0)
+
+  held-queues : (i : ℕ) → i < 256 → 1 ≤ countAt slots i → All (λ e. isQueue n links e ≡ true) (entriesIn slots pool i)
+  unfolding flowAt isNone
+  held-queues i lt held = all-queues n links queues (entriesIn slots pool i) (ap isNone (by-itself i lt held .1))
+
+  pub on-queues : OnQueues n links slots pool
+  on-queues i lt = go (countAt slots i) refl
+    where
+      go : (k : ℕ) → countAt slots i ≡ k → All (λ e. isQueue n links e ≡ true) (entriesIn slots pool i)
+      go zero e = rw e tt
+      go (suc k) e = held-queues i lt (omega arith)
+
+  pub countable : Countable queues slots pool
+  unfolding flowAt
+  countable =
+      record {
+        store = store;
+        queues-long = columns .queues-long;
+        each = λ i lt held.
+            let range : Ranges (flow i) = ranges (flow i) (by-itself i lt held .0) in
+            let few : countAt slots i ≤ 12 = omega (arith, range .few, path-long i lt) in
+            record {
+              few = few;
+              rate = range .rate;
+              burst = range .burst;
+              frame = range .frame;
+              hops = hops-ranged n links queues columns table (entriesIn slots pool i) (held-queues i lt held) (omega (arith, few, entries-long i lt));
+            };
+      }
+
+rules-alone : (t : Table) (fs : List Flow) (f : Flow) → FlowRules t fs f → flowAlone t fs f ≡ true
+unfolding flowAlone isNone
+rules-alone t fs f r =
+    both-and (both-and (r .range) (le-leb _ _ (r .number)))
+    (rw (applies-none (lineFindings t f ++ deadlineFinding t f ∷ [])
+    (all-append (λ x. x ≡ none) (lineFindings t f) (deadlineFinding t f ∷ []) (r .line) (r .deadline, tt))))
+
+-- The held flows of a consistent state are each right by themselves.
+pub kept-alone : (s : State) → StateRules s → every (flowAlone (s .table) (heldFlows (s .slots))) (heldFlows (s .slots)) ≡ true
+kept-alone s k =
+    all-every (flowAlone (s .table) (heldFlows (s .slots))) (heldFlows (s .slots)) (all-imp (heldFlows (s .slots)) (rules-alone (s .table) (heldFlows (s .slots))) (k .flows .flows))

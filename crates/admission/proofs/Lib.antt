@@ -1,0 +1,5 @@
+pub mod StepLaws
+pub mod KeptLaws
+pub mod HeldLaws
+pub mod ReadLaws
+pub mod ReleaseLaws

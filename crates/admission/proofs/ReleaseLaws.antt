@@ -1,0 +1,199 @@
+-- A release: the flow in a held slot was counted in at its queues, and the registry without it is consistent again.
+-- Assumes nothing.
+use Prim.Native.Nat.{ℕ, zero, suc, _+_, _*_, _≤_, _<_, max}
+use mathlib.Core.Path.{_≡_, refl, sym, ap, subst, _∙_}
+use mathlib.Core.Bool.{Bool, true, false, cond, false≢true}
+use mathlib.Core.List.{List, [], _∷_}
+use mathlib.Core.Option.{none, some}
+use native.Mathlib.Omega.{arith}
+use lib.ListN.{length, getD, set}
+use lib.Dec.{leb}
+use borrow.Author.Tests.{leb-true, leb-false, lt-ltb, le-ltb, eq-eqb, ne-eqb}
+use Rattle.model.specs.Formula.{Aggregate}
+use Rattle.model.specs.QueueTable.{Table}
+use Rattle.model.specs.Orders.{Flow, release}
+use Rattle.model.specs.Schedulable.{All}
+use Rattle.model.specs.Aggregates.{aggregateAt}
+use Rattle.model.specs.Reference.{Slot, State, Outcome, heldFlows, withNumber, firstIndex, holds, firstCause, findings, whole, fill, perform, decide, apply}
+use Rattle.model.specs.Laws.All.{all-imp}
+use Rattle.model.specs.Laws.Figures.{carried}
+use Rattle.model.specs.Laws.Slot.{index-found, number-index}
+use Rattle.model.specs.Laws.Reached.{StateRules, state-rules, rules-state, clear-keeps}
+use Rattle.queue_table.specs.View.{tableOf, hopAt, isQueue}
+use Rattle.flow_store.specs.View.{Store, slotsOf, slotOf, flowAt, countAt}
+use Rattle.flow_store.proofs.ViewLaws.{length-slots, slot-at}
+use Rattle.figures.specs.View.{Figures, FlowOf, PathCounted, Carried, Left, PathRemoved, figureAt, raised}
+use Rattle.figures.proofs.EntryLaws.{queue-low}
+use Rattle.recount.specs.View.{entriesIn, Ranged, OnQueues, FramesRaised}
+use Rattle.admission.specs.declared.Answer.the-variants.{Done}
+use Rattle.admission.specs.View.{stateOf, answerOf, Kept, Stepped}
+use Rattle.admission.proofs.StepLaws.{figures-cleared}
+use Rattle.admission.proofs.KeptLaws.{ranges, filled}
+use Rattle.admission.proofs.HeldLaws.{slot-held, by-itself, on-queues, countable, kept-alone}
+
+-- A queue's figures that only lack their largest frame, once that is raised.
+raised-right : {again : Bool} (a b : Aggregate) → Left again a b → raised a (b .frame) ≡ b
+unfolding raised
+raised-right a b l = λ i. record { rate = l .rate i; burst = l .burst i; frame = frame i }
+  where
+    frame : max (a .frame) (b .frame) ≡ b .frame
+    frame = omega (arith, l .low)
+
+left-right : (a b : Aggregate) → Left false a b → a ≡ b
+left-right a b l = λ i. record { rate = l .rate i; burst = l .burst i; frame = l .frame refl i }
+
+module _ (n : ℕ) (links queues slots pool sums : List ℕ) (k : Kept n links queues slots pool sums) where
+  abbrev t : Table
+  t = tableOf n links queues
+
+  rules : StateRules (stateOf n links queues slots pool)
+  rules = state-rules (stateOf n links queues slots pool) (k .in-order)
+
+  pub on : OnQueues n links slots pool
+  on = on-queues n links queues slots pool (k .columns) (k .store) (rules .table) (kept-alone (stateOf n links queues slots pool) rules)
+
+  -- Every hop entry is one of the 512.
+  pub entries-low : (i : ℕ) → i < 256 → All (λ e. e < 512) (entriesIn slots pool i)
+  entries-low i lt = all-imp (entriesIn slots pool i) (λ e q. queue-low n links e q (k .columns .few)) (on i lt)
+
+  module _ (slot : ℕ) (inside : slot < 256) (held : 1 ≤ countAt slots slot) where
+    abbrev entries : List ℕ
+    entries = entriesIn slots pool slot
+
+    abbrev flow : Flow
+    flow = flowAt slots slot entries
+
+    abbrev left : List Flow
+    left = heldFlows (set (slotsOf slots pool) slot none)
+
+    found : getD (slotsOf slots pool) slot none ≡ some flow
+    found = slot-at slots slot pool inside ∙ slot-held (countAt slots slot) flow held
+
+    pub ranged : Ranged queues slots pool slot
+    ranged = countable n links queues slots pool (k .columns) (k .store) (rules .table) (kept-alone (stateOf n links queues slots pool) rules) .each slot inside held
+
+    some-rate : 1 ≤ getD slots (6 * slot + 1) 0
+    unfolding flowAt
+    some-rate =
+        ranges flow (by-itself n links queues slots pool (k .columns) (k .store) (rules .table) (kept-alone (stateOf n links queues slots pool) rules) slot inside held .0) .some-rate
+
+    is : FlowOf (getD slots (6 * slot + 1) 0) (getD slots (6 * slot + 2) 0) (getD slots (6 * slot + 3) 0) entries flow
+    unfolding flowAt
+    is = record { rate-is = refl; burst-is = refl; frame-is = refl; path-is = refl }
+
+    with-flow : Figures t (flow ∷ left) sums
+    with-flow =
+        record {
+          long = k .figures .long;
+          same = λ e lt. k .figures .same e lt ∙ figures-cleared t (hopAt e) (slotsOf slots pool) slot found;
+        }
+
+    pub counted : PathCounted (getD slots (6 * slot + 1) 0) (getD slots (6 * slot + 2) 0) (getD slots (6 * slot + 3) 0) queues entries sums
+    counted =
+        record { n = n; links = links; f = flow; fs = left; named = on slot inside; is = is; figures = with-flow }
+
+    -- The slot is empty.
+    module _ {slots′ pool′ : List ℕ} (view : slotsOf slots′ pool′ ≡ set (slotsOf slots pool) slot none) (store : Store slots′ pool′) where
+      rules′ : StateRules (stateOf n links queues slots′ pool′)
+      unfolding fill
+      rules′ =
+          subst (λ (l : List Slot). StateRules (record { table = t; slots = l })) (sym view)
+          (clear-keeps (stateOf n links queues slots pool) slot rules)
+
+      carries : Carried t left
+      carries =
+          carried t left
+          (subst (λ (l : List Slot). All (λ f. 1 ≤ f .rate) (heldFlows l)) view
+          (all-imp (heldFlows (slotsOf slots′ pool′)) (λ f r. ranges f (r .range) .some-rate) (rules′ .flows .flows)))
+
+      kept-again : {sums′ : List ℕ} → Figures t left sums′ → Kept n links queues slots′ pool′ sums′
+      kept-again {sums′} figures =
+          record {
+            columns = k .columns;
+            store = store;
+            in-order = rules-state (stateOf n links queues slots′ pool′) rules′;
+            figures = subst (λ (l : List Slot). Figures t (heldFlows l) sums′) (sym view) figures;
+          }
+
+      pub entries-low-left : (i : ℕ) → i < 256 → All (λ e. e < 512) (entriesIn slots′ pool′ i)
+      entries-low-left i lt =
+          all-imp (entriesIn slots′ pool′ i) (λ e q. queue-low n links e q (k .columns .few))
+          (on-queues n links queues slots′ pool′ (k .columns) store (rules′ .table) (kept-alone (stateOf n links queues slots′ pool′) rules′) i lt)
+
+      module _ {again : Bool} {sums′ : List ℕ} (removed : PathRemoved (getD slots (6 * slot + 1) 0) (getD slots (6 * slot + 2) 0) (getD slots (6 * slot + 3) 0) queues entries sums sums′ again) where
+        at-queue : (e : ℕ) → e < 512 → Left again (figureAt sums′ e) (aggregateAt t left (hopAt e))
+        at-queue = removed .left n links flow left (on slot inside) is with-flow some-rate carries
+
+        pub kept-left : again ≡ false → Kept n links queues slots′ pool′ sums′
+        kept-left known =
+            kept-again (record {
+              long = removed .long;
+              same = λ e lt. left-right _ _ (subst (λ (b : Bool). Left b (figureAt sums′ e) (aggregateAt t left (hopAt e))) known (at-queue e lt));
+            })
+
+        pub kept-raised : {sums″ : List ℕ} → FramesRaised slots′ pool′ sums′ sums″ → Kept n links queues slots′ pool′ sums″
+        kept-raised raise =
+            kept-again (record {
+              long = raise .long;
+              same = λ e lt.
+                  raise .same t e lt
+                  ∙ ap (λ (l : List Slot). raised (figureAt sums′ e) (aggregateAt t (heldFlows l) (hopAt e) .frame)) view
+                  ∙ raised-right _ _ (at-queue e lt);
+            })
+
+module _ (number : ℕ) where
+  index-most : (l : List Slot) → firstIndex (holds number) l ≤ length l
+  unfolding firstIndex
+  index-most [] = omega arith
+  index-most (x ∷ l) = go (holds number x) (index-most l)
+    where
+      go : (b : Bool) → firstIndex (holds number) l ≤ length l → cond b 0 (suc (firstIndex (holds number) l)) ≤ suc (length l)
+      go true h = omega arith
+      go false h = omega arith
+
+  held-count : (count : ℕ) (f : Flow) → holds number (slotOf count f) ≡ true → 1 ≤ count
+  unfolding slotOf holds
+  held-count zero f e = absurd (false≢true e)
+  held-count (suc count) f e = omega arith
+
+  module _ (slots pool : List ℕ) (slot : ℕ) (found : slot ≡ firstIndex (holds number) (slotsOf slots pool)) where
+    -- 13: no slot holds the number.
+    pub not-held : (t : Table) → slot ≡ 256
+        → firstCause (findings (record { table = t; slots = slotsOf slots pool }) (release number)) ≡ some (record { code = 13; link = 0; level = 0 })
+    unfolding findings firstCause whole
+    not-held t none-holds =
+        let none-held : leb 1 (withNumber number (heldFlows (slotsOf slots pool))) ≡ false
+        = number-index number (slotsOf slots pool) ∙ le-ltb (firstIndex (holds number) (slotsOf slots pool)) (length (slotsOf slots pool)) (omega (arith, found, length-slots slots pool)) in
+        let zero-held : withNumber number (heldFlows (slotsOf slots pool)) ≡ 0 = omega (arith, leb-false 1 (withNumber number (heldFlows (slotsOf slots pool))) none-held) in
+        rw (eq-eqb (withNumber number (heldFlows (slotsOf slots pool))) 0 zero-held)
+
+    module _ (known : slot ≡ 256 → ⊥) where
+      pub slot-inside : slot < 256
+      slot-inside = omega (arith, found, index-most (slotsOf slots pool), length-slots slots pool, known)
+
+      pub slot-count : 1 ≤ countAt slots slot
+      slot-count =
+          held-count (countAt slots slot) _
+          (ap (holds number) (sym (slot-at slots slot pool slot-inside))
+          ∙ ap (λ (i : ℕ). holds number (getD (slotsOf slots pool) i none)) found
+          ∙ index-found (holds number) none (slotsOf slots pool) (omega (arith, sym found, slot-inside, length-slots slots pool)))
+
+      nothing : (t : Table) → firstCause (findings (record { table = t; slots = slotsOf slots pool }) (release number)) ≡ none
+      unfolding findings firstCause whole
+      nothing t =
+          let some-held : leb 1 (withNumber number (heldFlows (slotsOf slots pool))) ≡ true
+          = number-index number (slotsOf slots pool) ∙ lt-ltb (firstIndex (holds number) (slotsOf slots pool)) (length (slotsOf slots pool)) (omega (arith, sym found, slot-inside, length-slots slots pool)) in
+          rw (ne-eqb (withNumber number (heldFlows (slotsOf slots pool))) 0 (λ z. omega (arith, leb-true 1 (withNumber number (heldFlows (slotsOf slots pool))) some-held)))
+
+      -- The slot of the flow with the number is empty, and that slot is answered.
+      pub stepped-released : {n : ℕ} {links queues slots′ pool′ sums′ : List ℕ} → slotsOf slots′ pool′ ≡ set (slotsOf slots pool) slot none → Kept n links queues slots′ pool′ sums′
+          → Stepped (release number) n links queues slots pool slots′ pool′ sums′ (Done (slot + 1))
+      unfolding apply decide perform fill
+      stepped-released {n} {links} {queues} view kept =
+          let s : State = stateOf n links queues slots pool in
+          let done : apply s (release number) ≡ fill s (firstIndex (holds number) (slotsOf slots pool)) none = ap (decide s (release number)) (nothing (tableOf n links queues)) in
+          record {
+            answer = ap (λ (i : ℕ). answerOf (Done (i + 1))) found ∙ filled s (firstIndex (holds number) (slotsOf slots pool)) none ∙ sym (ap (λ (out : Outcome). out .answer) done);
+            next = ap (λ (l : List Slot). record { table = tableOf n links queues; slots = l }) (view ∙ ap (λ (i : ℕ). set (slotsOf slots pool) i none) found) ∙ sym (ap (λ (out : Outcome). out .next) done);
+            kept = kept;
+          }

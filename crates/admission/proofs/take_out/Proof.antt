@@ -1,0 +1,103 @@
+-- `admission::take_out` meets its contract: the flow was counted in, so that its path can be taken out, and what is left is right.
+-- Assumes nothing.
+use borrow.Author.Needs.{needs, length-unmapped}
+use Prim.Native.Nat.{ℕ, _+_, _*_, _≤_}
+use mathlib.Core.Path.{_≡_, refl, sym}
+use mathlib.Core.Bool.{Bool}
+use mathlib.Core.List.{List}
+use mathlib.Core.Option.{none}
+use native.Mathlib.Omega.{arith}
+use lib.ListN.{length, getD, set, take}
+use lib.Seq.{length-take-le}
+use Rattle.flow_store.specs.View.{Store, slotsOf, countAt}
+use Rattle.figures.specs.View.{PathRemoved}
+use Rattle.recount.specs.View.{entriesIn, Ranged}
+use Rattle.admission.specs.View.{Kept}
+use Rattle.admission.proofs.ReleaseLaws as released
+use Rattle.admission.proofs.take_out.Statement.{statement}
+use Rattle.admission.proofs.take_out.Tie as tie
+
+-- The flow in the slot.
+module _ (c : tie.Start) where
+  ranged : Ranged (c .args .queues .now) (c .args .slots .now) (c .args .pool .now) (c .args .slot)
+  ranged = released.ranged _ _ _ _ _ _ (c .pre .0) (c .args .slot) (c .pre .1 .0) (c .pre .1 .1)
+
+-- Its path, copied out.
+module _ (c : tie.After-path-into) where
+  abbrev start : tie.Start
+  start = c .before .before .before .before .before .before .before .before .before .before .before .before
+
+  abbrev copied : List ℕ
+  copied = c .path-into .last .1 .1 .1 .0
+
+  abbrev hops : ℕ
+  hops = c .path-into .result
+
+  path : take hops copied ≡ entriesIn (start .args .slots .now) (start .args .pool .now) (start .args .slot)
+  path = c .path-into .ensures .1
+
+  long : length copied ≡ 12
+  long = search (needs, length-unmapped)
+
+  few : hops ≤ 12
+  few = omega (arith, c .path-into .ensures .0, ranged start .few)
+
+-- What taking the path out left.
+module _ (c : tie.After-remove-path) where
+  abbrev at : tie.Start
+  at = start (c .before .before .before .before .before .before .before .before .before .before .before)
+
+  removed : PathRemoved (getD (at .args .slots .now) (6 * at .args .slot + 1) 0) (getD (at .args .slots .now) (6 * at .args .slot + 2) 0) (getD (at .args .slots .now) (6 * at .args .slot + 3) 0) (at .args .queues .now) (entriesIn (at .args .slots .now) (at .args .pool .now) (at .args .slot)) (at .args .sums .now) (c .remove-path .last .1 .1 .1 .1 .1 .0) (c .remove-path .result)
+  removed = rw (path (c .before .before .before .before .before .before .before .before .before .before .before)) at (c .remove-path .ensures)
+
+cast-t18 : tie.Need-cast-t18
+cast-t18 c = omega (arith, ranged (c .before .before .before .before .before .before) .rate)
+
+cast-t18-2 : tie.Need-cast-t18-2
+cast-t18-2 c = omega (arith, ranged (c .before .before .before .before .before .before .before) .burst)
+
+cast-t18-3 : tie.Need-cast-t18-3
+cast-t18-3 c = omega (arith, ranged (c .before .before .before .before .before .before .before .before) .frame)
+
+path-into-requires : tie.Need-path-into-requires
+path-into-requires c κs = let at = c .before .before .before .before .before .before .before .before .before .before .before in (at .pre .0 .store, at .pre .1 .0, ranged at .few, refl)
+
+array-share-prefix-entries : tie.Need-array-share-prefix-entries
+array-share-prefix-entries c = omega (arith, long (c .before .before .before .before .before .before .before .before), few (c .before .before .before .before .before .before .before .before))
+
+slice-aggregate-remove-path : tie.Need-slice-aggregate-remove-path
+slice-aggregate-remove-path c =
+    let p = c .before .before .before .before .before .before .before .before .before in sym (length-take-le (hops p) (copied p) (omega (arith, long p, few p)))
+
+remove-path-requires : tie.Need-remove-path-requires
+remove-path-requires c κs =
+    let p = c .before .before .before .before .before .before .before .before .before .before in
+    let at = start p in
+    let r = ranged at in
+    ((r .rate, (r .burst, r .frame)), (rw (path p) (r .hops), rw (path p) (released.counted _ _ _ _ _ _ (at .pre .0) (at .args .slot) (at .pre .1 .0) (at .pre .1 .1))))
+
+raise-frames-requires : tie.Need-raise-frames-requires
+raise-frames-requires c κs =
+    let e = c .before .before .before .before .before .before in
+    let s = at e in
+    let gone = c .before .before .before .before .before .before .before .before .before .before .before .before .before .remove .ensures in
+    ((gone .1, e .remove-path .ensures .long), released.entries-low-left _ _ _ _ _ _ (s .pre .0) (s .args .slot) (s .pre .1 .0) (s .pre .1 .1) (gone .0) (gone .1))
+
+returns : tie.Need-returns
+returns c =
+    let e = c .before .before .before .before .before .before .before .before .before in
+    let s = at e in
+    let gone = c .before .before .before .before .before .before .before .before .before .before .before .before .before .before .before .before .remove .ensures in
+    (gone .0, released.kept-raised _ _ _ _ _ _ (s .pre .0) (s .args .slot) (s .pre .1 .0) (s .pre .1 .1) (gone .0) (gone .1) (removed e) (c .before .before .raise-frames .ensures))
+
+returns-2 : tie.Need-returns-2
+returns-2 c =
+    let e = c .before .before .before in
+    let s = at e in
+    let gone = c .before .before .before .before .before .before .before .before .before .before .remove .ensures in
+    (gone .0, released.kept-left _ _ _ _ _ _ (s .pre .0) (s .args .slot) (s .pre .1 .0) (s .pre .1 .1) (gone .0) (gone .1) (removed e) (c .if1 .left))
+
+pub take-out-spec : {M : Type 1} → statement M
+take-out-spec =
+    tie.close
+    (tie.spec (λ c. search needs) (λ c. search needs) (λ c. search needs) (λ c. search needs) cast-t18 (λ c. search needs) (λ c. search needs) (λ c. search needs) cast-t18-2 (λ c. search needs) (λ c. search needs) (λ c. search needs) cast-t18-3 (λ c. search needs) path-into-requires (λ c κs. search needs) array-share-prefix-entries slice-aggregate-remove-path remove-path-requires raise-frames-requires (λ c. search needs) (λ c. search needs) (λ c. search needs) returns (λ c. search needs) (λ c. search needs) (λ c. search needs) returns-2)
