@@ -3,3 +3,4 @@ pub mod KeptLaws
 pub mod HeldLaws
 pub mod ReadLaws
 pub mod ReleaseLaws
+pub mod OpenLaws

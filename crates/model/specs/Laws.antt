@@ -5,6 +5,7 @@ pub mod Total
 pub mod Test
 pub mod Formula
 pub mod Columns
+pub mod Answers
 pub mod LinkCheck
 pub mod LinkSteps
 pub mod Aggregates

@@ -9,6 +9,8 @@ pub mod HandSums
 pub mod Aggregates
 pub mod Schedulable
 pub mod Reference
+pub mod Answers
+pub mod Batch
 pub mod Consistent
 pub mod Admissible
 pub mod Outcomes
