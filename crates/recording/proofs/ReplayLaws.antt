@@ -1,0 +1,69 @@
+-- The table stays through all calls, so that the registry left behind still holds the one that the verdict speaks of. Assumes nothing.
+use Prim.Native.Nat.{ℕ, zero, suc, _+_, _*_, _/_, _≤_}
+use mathlib.Core.Path.{_≡_, refl, sym, ap, _∙_}
+use mathlib.Core.List.{List, [], _∷_}
+use mathlib.Core.Option.{Option, none, some}
+use native.Mathlib.Omega.{arith}
+use lib.ListN.{length, drop}
+use Rattle.model.specs.QueueTable.{readTable, accepted}
+use Rattle.model.specs.Orders.{Order, register, release, rejected}
+use Rattle.model.specs.Reference as model
+use Rattle.model.specs.Reference.{State, Cause, Call, apply, decide, perform, refuse, fill, firstCause, findings, callOrder, step, opened, final}
+use Rattle.queue_table.specs.declared.Verdict.{Verdict}
+use Rattle.queue_table.specs.declared.Verdict.the-variants.{Accepted, Refused}
+use Rattle.queue_table.specs.View.{linkAt, tableOf, textOf}
+use Rattle.queue_table.proofs.ViewLaws.{length-up}
+use Rattle.registry.specs.declared.Registry.{Registry}
+use Rattle.registry.specs.View.{stateIn}
+use Rattle.recording.specs.Calls.{firstCall, listed, callsIn}
+use Rattle.recording.specs.Replay.{madeCalls, Replays}
+use Rattle.recording.specs.declared.Replayed.{Replayed}
+
+decided-table : (s : State) (o : Order) (c : Option Cause) → decide s o c .next .table ≡ s .table
+unfolding decide perform refuse fill
+decided-table s (register f) none = refl
+decided-table s (release n) none = refl
+decided-table s (rejected code) none = refl
+decided-table s (register f) (some c) = refl
+decided-table s (release n) (some c) = refl
+decided-table s (rejected code) (some c) = refl
+
+final-table : (s : State) (calls : List Call) → final s calls .table ≡ s .table
+unfolding final step apply
+final-table s [] = refl
+final-table s (c ∷ calls) = final-table (step s c .next) calls ∙ decided-table s (callOrder c) (firstCause (findings s (callOrder c)))
+
+table-long : (n : ℕ) (links queues : List ℕ) → length (tableOf n links queues) ≡ n
+unfolding tableOf
+table-long n links queues = length-up n (linkAt links queues)
+
+-- What a verdict says of the columns goes by the table that they hold.
+pub same-verdict : (text : List ℕ) (calls : List Call) (v : Verdict) (links queues : List ℕ) (last : Registry)
+    → textOf v links queues ≡ readTable text → stateIn last ≡ final (opened text) calls
+    → textOf v (last .links) (last .queues) ≡ readTable text
+unfolding opened model.tableOf
+same-verdict text calls (Refused code line) links queues last read held = read
+same-verdict text calls (Accepted n) links queues last read held = ap accepted same ∙ read
+  where
+    table : tableOf (last .count) (last .links) (last .queues) ≡ tableOf n links queues
+    table = ap (λ (s : State). s .table) held ∙ final-table (opened text) calls ∙ ap model.tableOf (sym read)
+
+    count : last .count ≡ n
+    count = sym (table-long (last .count) (last .links) (last .queues)) ∙ ap length table ∙ table-long n links queues
+
+    same : tableOf n (last .links) (last .queues) ≡ tableOf n links queues
+    same = ap (λ (k : ℕ). tableOf k (last .links) (last .queues)) (sym count) ∙ table
+
+-- No more calls are made than the area has room to answer.
+few-listed : (n : ℕ) (o : Option Call) (more : Call → List Call) → ((c : Call) → length (more c) ≤ n) → length (listed o more) ≤ suc n
+few-listed n none more h = omega arith
+few-listed n (some c) more h = omega (arith, h c)
+
+few-made : (most : ℕ) (bytes : List ℕ) → length (callsIn most bytes) ≤ most
+unfolding callsIn
+few-made zero bytes = omega arith
+few-made (suc n) bytes = few-listed n (firstCall bytes) _ (λ c. few-made n (drop (9 + length (c .bytes)) bytes))
+
+pub count-fits : {table calls area area′ : List ℕ} {r : Replayed} → Replays table calls area area′ r → 14 * r .count ≤ length area
+unfolding madeCalls
+count-fits {calls = calls} {area = area} p = omega (arith, p .count, few-made (length area / 14) calls)

@@ -1,0 +1,3 @@
+pub mod Calls
+pub mod Reading
+pub mod Replay

@@ -1,0 +1,163 @@
+// A recorded list of calls on a registry, and its replay.
+ghost use mathlib.Core.Path.{_≡_};
+ghost use mathlib.Core.List.{_∷_, _++_};
+ghost use Prim.Native.Nat.{_≤_};
+ghost use lib.ListN.{length, drop};
+ghost use Rattle.model.specs.Columns.{fieldAt, andThen};
+ghost use Rattle.model.specs.Answers.{answerColumns};
+ghost use Rattle.admission.specs.View.{answerOf};
+ghost use Rattle.registry.specs.View.{kindOf, callOf, Performs};
+ghost use Rattle.recording.specs.Replay.{Runs, Replays};
+ghost use Rattle.recording.specs.Calls.{kindOfNumber, header};
+ghost use Rattle.recording.specs.Reading.{kindIn, headerOf, FirstCall};
+use columns::Field;
+use queue_table::Verdict;
+use registry::Called;
+use registry::Kind;
+use registry::Registry;
+
+const LF: u8 = 10;
+
+// The bytes of a header line with its LF.
+const HEADER: usize = 9;
+
+// The bytes of an answer line with its LF.
+pub const ANSWER: usize = 14;
+
+// What the calls of a list leave behind: how many there were, and where the last one ends.
+struct Ran {
+    registry: Registry,
+    count: usize,
+    end: usize,
+}
+
+// What a replay gives: the table's verdict too.
+pub struct Replayed {
+    pub verdict: Verdict,
+    pub registry: Registry,
+    pub count: usize,
+    pub end: usize,
+}
+
+enum KindRead {
+    Is(Kind),
+    // Malformed, or another call.
+    Other,
+}
+
+// A header line: which call it is, and the number of bytes that it is given.
+enum Recorded {
+    Call(Kind, usize),
+    Broken,
+}
+
+fn read_kind(bytes: &[u8]) -> KindRead
+    ensures { λ r. ⌜ kindIn r ≡ andThen (fieldAt 1 2 (now (bytes .entry))) kindOfNumber ⌝ }
+{
+    let Field::Number(number) = columns::read_at(bytes, 1, 2) else {
+        return KindRead::Other;
+    };
+    if number == 1 {
+        return KindRead::Is(Kind::Register);
+    }
+    if number == 2 {
+        return KindRead::Is(Kind::Release);
+    }
+    KindRead::Other
+}
+
+// The header line that the bytes start with.
+fn read_header(bytes: &[u8]) -> Recorded
+    ensures { λ r. ⌜ headerOf r ≡ header (now (bytes .entry)) ⌝ }
+{
+    let KindRead::Is(kind) = read_kind(bytes) else {
+        return Recorded::Broken;
+    };
+    let Field::Number(size) = columns::read_at(bytes, 3, 8) else {
+        return Recorded::Broken;
+    };
+    if bytes.len() < HEADER {
+        return Recorded::Broken;
+    }
+    if bytes[8] != LF {
+        return Recorded::Broken;
+    }
+    Recorded::Call(kind, size as usize)
+}
+
+// The call that the bytes start with, whose bytes are all there.
+fn first_call(bytes: &[u8]) -> Recorded
+    ensures { λ r. ⌜ FirstCall (now (bytes .entry)) r ⌝ }
+{
+    let Recorded::Call(kind, size) = read_header(bytes) else {
+        return Recorded::Broken;
+    };
+    if bytes.len() < size {
+        return Recorded::Broken;
+    }
+    if bytes.len() - size < HEADER {
+        return Recorded::Broken;
+    }
+    Recorded::Call(kind, size)
+}
+
+// One call, and its answer line at the start of `part`.
+fn answer_call(registry: Registry, kind: Kind, bytes: &[u8], part: &mut [u8]) -> Called
+    requires { ⌜ 14 ≤ length (now part) ⌝ }
+    ensures { λ r. ⌜ Performs registry (callOf (kindOf kind) (now (bytes .entry))) r ⌝ }
+    ensures { λ r. ⌜ now (part .exit) ≡ answerColumns (answerOf (r .answer)) ++ (10 ∷ drop 14 (now (part .entry))) ⌝ }
+{
+    let called = registry::apply(registry, kind, bytes);
+    let answer = called.answer;
+    answer_line::write_answer(answer, part);
+    part[13] = LF;
+    called
+}
+
+// Call after call, up to the first that isn't whole, as many as the area has room to answer.
+fn run(first: Registry, calls: &[u8], answers: &mut [u8]) -> Ran
+    ensures { λ r. ⌜ Runs first (now (calls .entry)) (now (answers .entry)) (now (answers .exit)) r ⌝ }
+{
+    let most = answers.len() / ANSWER;
+    let mut registry = first;
+    let mut at = 0;
+    let mut count = 0;
+    while count < most {
+        let Recorded::Call(kind, size) = first_call(&calls[at..]) else {
+            return Ran {
+                registry,
+                count,
+                end: at,
+            };
+        };
+        let start = at + HEADER;
+        let end = start + size;
+        let line = ANSWER * count;
+        let called = answer_call(registry, kind, &calls[start..end], &mut answers[line..]);
+        registry = called.registry;
+        at = end;
+        count += 1;
+    }
+    Ran {
+        registry,
+        count,
+        end: at,
+    }
+}
+
+// Opens a registry on the table text and makes the recorded calls on it, one after the other, as many as the area has room to answer.
+pub fn replay(table: &[u8], calls: &[u8], answers: &mut [u8]) -> Replayed
+    ensures { λ r. ⌜ Replays (now (table .entry)) (now (calls .entry)) (now (answers .entry)) (now (answers .exit)) r ⌝ }
+{
+    let opened = registry::open(table);
+    let verdict = opened.verdict;
+    let empty = opened.registry;
+    let ran = run(empty, calls, answers);
+    let registry = ran.registry;
+    Replayed {
+        verdict,
+        registry,
+        count: ran.count,
+        end: ran.end,
+    }
+}

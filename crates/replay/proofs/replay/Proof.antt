@@ -1,0 +1,35 @@
+-- `replay::replay` is safe: there are at most as many answers as the area has room for, and the registry left behind is in order.
+-- Assumes nothing.
+use borrow.Author.Needs.{needs}
+use Prim.Native.Nat.{ℕ, _*_, _≤_}
+use mathlib.Core.Path.{_≡_, sym, subst}
+use native.Mathlib.Omega.{arith}
+use lib.ListN.{length, replicate, length-replicate}
+use lib.Seq.{length-take-le}
+use Rattle.recording.proofs.ReplayLaws.{count-fits}
+use Rattle.replay.proofs.replay.Statement.{statement}
+use Rattle.replay.proofs.replay.Tie as tie
+
+under : (n k : ℕ) → k ≤ length {A = ℕ} (replicate n 0) → k ≤ n
+under n k h = subst (λ (m : ℕ). k ≤ m) (length-replicate {A = ℕ} n 0) h
+
+few : (c : tie.After-replay) → 14 * c .replay .result .count ≤ 311122
+few c = under 311122 (14 * c .replay .result .count) (count-fits (c .replay .ensures))
+
+long : (c : tie.After-show-verdict) → length (c .before .before .before .before .replay .last .1 .1 .0) ≡ 311122
+long c = search needs
+
+mul-end : tie.Need-mul-end
+mul-end c = omega (arith, few (c .before .before .before))
+
+array-share-prefix-answers : tie.Need-array-share-prefix-answers
+array-share-prefix-answers c = omega (arith, few (c .before .before .before .before), long c)
+
+slice-aggregate-write-all : tie.Need-slice-aggregate-write-all
+slice-aggregate-write-all c = sym (length-take-le _ _ (array-share-prefix-answers (c .before)))
+
+pub replay-spec : {M : Type 1} → statement M
+replay-spec =
+    tie.close
+    (tie.spec (λ c. search needs) (λ c κs. search needs) mul-end (λ c κs. search needs) array-share-prefix-answers slice-aggregate-write-all
+    (λ c κs. search needs) (λ c κs. search needs) (λ c κs. search needs) (λ c. search needs))
