@@ -39,7 +39,7 @@ use Rattle.flow_store.proofs.ScanLaws.{free-count}
 use Rattle.flow_check.specs.Findings as judged
 use Rattle.flow_check.specs.Findings.{lineFlow}
 use Rattle.figures.specs.View.{Figures, Below, Bounded, Hops, Speeds, OnTable, FlowOf, PathAdded, figureAt}
-use Rattle.figures.proofs.EntryLaws.{queue-within, queue-low, queue-named, threshold-named}
+use Rattle.queue_table.proofs.EntryLaws.{queue-within, queue-low, queue-named, threshold-named}
 use Rattle.figures.proofs.AddLaws.{figures-added}
 use Rattle.admission.specs.View.{stateOf, answerOf, causeIn, LineRead, Kept, Stepped}
 use Rattle.admission.specs.declared.Answer.{Answer}

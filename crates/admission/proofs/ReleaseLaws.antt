@@ -23,7 +23,7 @@ use Rattle.queue_table.specs.View.{tableOf, hopAt, isQueue}
 use Rattle.flow_store.specs.View.{Store, slotsOf, slotOf, flowAt, countAt}
 use Rattle.flow_store.proofs.ViewLaws.{length-slots, slot-at}
 use Rattle.figures.specs.View.{Figures, FlowOf, PathCounted, Carried, Left, PathRemoved, figureAt, raised}
-use Rattle.figures.proofs.EntryLaws.{queue-low}
+use Rattle.queue_table.proofs.EntryLaws.{queue-low}
 use Rattle.recount.specs.View.{entriesIn, Ranged, OnQueues, FramesRaised}
 use Rattle.admission.specs.declared.Answer.the-variants.{Done}
 use Rattle.admission.specs.View.{stateOf, answerOf, Kept, Stepped}

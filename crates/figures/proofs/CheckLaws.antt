@@ -25,7 +25,8 @@ use Rattle.link_check.proofs.Laws.{mapped-next, mapped-end}
 use Rattle.figures.specs.declared.PathFinding.{PathFinding}
 use Rattle.figures.specs.declared.PathFinding.the-variants.{Fits}
 use Rattle.figures.specs.View.{levelsWith, Figures, FlowOf, OnTable, causeOf, PathChecked}
-use Rattle.figures.proofs.EntryLaws.{all-at, queue-named, threshold-named}
+use Rattle.queue_table.proofs.EntryLaws.{queue-named, threshold-named}
+use Rattle.figures.proofs.EntryLaws.{all-at}
 use Rattle.figures.proofs.LinkLaws.{hop-cause}
 
 -- The links before hop `i` pass, and `sum` is the sum of the thresholds of the hops before it.

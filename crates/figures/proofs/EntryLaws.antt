@@ -1,26 +1,22 @@
--- A hop entry's queue in the table, and a path taken hop by hop.
+-- Hop entries told apart, and a path taken hop by hop.
 -- Assumes nothing.
 use Prim.Native.Nat.{ℕ, zero, suc, _+_, _*_, _^_, _/_, _%_, _≤_, _<_}
 use mathlib.Core.Path.{_≡_, refl, sym, ap, _∙_}
 use mathlib.Core.Bool.{Bool, true, false}
 use mathlib.Core.List.{List, [], _∷_}
-use mathlib.Core.Option.{some}
-use native.Mathlib.Nat.{div-add-mod, mod-lt, mul-le-mul}
+use native.Mathlib.Nat.{div-add-mod, mul-le-mul}
 use native.Mathlib.Omega.{arith}
 use lib.Arith.{digits-div, digits-mod}
 use lib.ListN.{length, getD, drop}
-use lib.Dec.{ltb}
-use borrow.Author.Tests.{ltb-true}
 use Rattle.model.specs.Formula.{burstAtHop}
 use Rattle.model.specs.Laws.Formula.{ceilDiv-le}
 use Rattle.model.specs.Aggregates as model
 use Rattle.model.specs.Schedulable.{All}
 use Rattle.model.specs.Orders.{Hop, Flow}
 use Rattle.model.specs.Laws.Aggregates.{same-hop}
-use Rattle.model.specs.Laws.Test.{and-both}
-use Rattle.queue_table.specs.View.{queueAt, levelsAt, tableOf, hopAt, isQueue}
+use Rattle.queue_table.specs.View.{tableOf, hopAt, isQueue}
 use Rattle.figures.specs.View.{Hops, FlowOf}
-use Rattle.queue_table.proofs.LookupLaws.{queue-found}
+use Rattle.queue_table.proofs.EntryLaws.{threshold-named}
 use Rattle.link_check.proofs.Laws.{mapped-next, mapped-end}
 
 -- Two entries that name one queue are equal.
@@ -40,26 +36,6 @@ unfolding hopAt
 entry-hop link p h =
     let e : 8 * link + p ≡ link * 8 + p = omega arith in
     rw e (λ i. record { link = digits-div link h i + 1; level = digits-mod link h i + 1 })
-
-module _ (n : ℕ) (links : List ℕ) (e : ℕ) (named : isQueue n links e ≡ true) where
-  pub queue-within : (e / 8 < n) × (e % 8 < levelsAt links (e / 8))
-  unfolding isQueue
-  queue-within =
-      let (link, level) = and-both (ltb (e / 8) n) (ltb (e % 8) (levelsAt links (e / 8))) named in
-      (ltb-true (e / 8) n link, ltb-true (e % 8) (levelsAt links (e / 8)) level)
-
-  pub queue-low : n ≤ 64 → e < 512
-  queue-low few = omega (arith, queue-within .0, div-add-mod e 8, mod-lt e {m = 8} (omega arith))
-
-  pub queue-named : (queues : List ℕ) → model.queueAt (tableOf n links queues) (hopAt e) ≡ some (queueAt queues (e / 8) (e % 8))
-  unfolding hopAt
-  queue-named queues = queue-found n links queues (e / 8) (e % 8) (queue-within .0) (queue-within .1)
-
-  pub threshold-named : (queues : List ℕ) → model.thresholdOf (model.queueAt (tableOf n links queues) (hopAt e)) ≡ getD queues (2 * e) 0
-  unfolding model.thresholdOf queueAt
-  threshold-named queues =
-      let place : 16 * (e / 8) + 2 * (e % 8) ≡ 2 * e = omega (arith, div-add-mod e 8) in
-      ap model.thresholdOf (queue-named queues) ∙ ap (λ (k : ℕ). getD queues k 0) place
 
 -- What holds of each entry of a path holds of the one at `i`.
 module _ (P : ℕ → Type 0) where

@@ -24,7 +24,8 @@ use Rattle.queue_table.specs.View.{upTo, queueAt, levelsAt, linkAt, tableOf, ho
 use Rattle.queue_table.proofs.ViewLaws.{length-up, up-same}
 use Rattle.queue_table.proofs.LookupLaws.{link-found, link-missing, queue-no-level}
 use Rattle.figures.specs.View.{figureAt, levelFigures, levelsWith, codeAt, Figures}
-use Rattle.figures.proofs.EntryLaws.{entry-hop, queue-within, queue-low}
+use Rattle.queue_table.proofs.EntryLaws.{queue-within, queue-low}
+use Rattle.figures.proofs.EntryLaws.{entry-hop}
 
 up-split : {A : Type 0} (m k : ℕ) (f : ℕ → A) → upTo (m + k) f ≡ upTo m f ++ upTo k (λ p. f (m + p))
 unfolding upTo

@@ -4,7 +4,7 @@ use Prim.Native.Nat.{ℕ, _+_, _-_, _*_, _/_, _%_, _≤_, _<_}
 use mathlib.Core.Path.{_≡_, refl, sym, ap, ap₂, _∙_}
 use mathlib.Core.Bool.{Bool, true, false, not, _&&_, _||_}
 use mathlib.Core.List.{List, [], _∷_, map}
-use mathlib.Core.Option.{none, some}
+use mathlib.Core.Option.{none}
 use native.Mathlib.Omega.{arith}
 use borrow.Author.Tests.{ltb-true, ltb-false, lt-ltb}
 use lib.ListN.{getD}
@@ -15,10 +15,11 @@ use Rattle.model.specs.Schedulable.{All}
 use Rattle.model.specs.Laws.All.{all-imp}
 use Rattle.model.specs.Aggregates as model
 use Rattle.model.specs.Reference.{atHop, isNone, start, end, every, noQueue, crosses, startsElsewhere, thresholdSum}
-use Rattle.model.specs.Laws.Test.{and-both, both-and, every-all}
-use Rattle.queue_table.specs.View.{tableOf, levelsAt, linkAt, queueAt, hopAt, isQueue}
+use Rattle.model.specs.Laws.Test.{both-and, every-all}
+use Rattle.queue_table.specs.View.{tableOf, levelsAt, linkAt, hopAt, isQueue}
 use Rattle.queue_table.proofs.LookupLaws.{link-found, queue-found, queue-no-link, queue-no-level, queue-link-zero, queue-level-zero}
 use Rattle.queue_table.proofs.ViewLaws.{same-test}
+use Rattle.queue_table.proofs.EntryLaws.{queue-within, queue-low, threshold-named}
 use Rattle.path_check.specs.Causes.{AllQueues}
 
 -- Link i + 1 is crossed, one entry at a time.
@@ -27,20 +28,8 @@ unfolding crosses hopAt
 crosses-entry i e path = ap (λ (b : Bool). b || crosses (i + 1) path) (same-test (e / 8 + 1) (i + 1) (e / 8) i (λ e. omega arith) (λ e. omega arith))
 
 module _ (n : ℕ) (links : List ℕ) where
-  -- The link of a queue is one of the n, its level one of the link's.
-  pub queue-link : (e : ℕ) → isQueue n links e ≡ true → e / 8 < n
-  unfolding isQueue
-  queue-link e q = ltb-true _ _ (and-both (ltb (e / 8) n) _ q .0)
-
-  pub queue-level : (e : ℕ) → isQueue n links e ≡ true → e % 8 < levelsAt links (e / 8)
-  unfolding isQueue
-  queue-level e q = ltb-true _ _ (and-both (ltb (e / 8) n) _ q .1)
-
-  pub queue-below : (e : ℕ) → isQueue n links e ≡ true → e < 8 * n
-  queue-below e q = omega (arith, queue-link e q)
-
   pub all-below : (entries : List ℕ) → n ≤ 64 → AllQueues n links entries → All (λ e. e < 512) entries
-  all-below entries few a = all-imp entries (λ e q. omega (arith, queue-below e q)) a
+  all-below entries few a = all-imp entries (λ e q. queue-low n links e q few) a
 
   -- The entry of link and level, counted from 1.
   pub entry-names : (link level : ℕ) → 1 ≤ link → 1 ≤ level → link - 1 < n → level ≤ levelsAt links (link - 1) → levelsAt links (link - 1) ≤ 8
@@ -79,11 +68,6 @@ module _ (n : ℕ) (links : List ℕ) where
       rw (e, e′) at (queue-no-level n links queues (link - 1) (level - 1) h (omega arith))
 
   module _ (queues : List ℕ) where
-    -- The queue of an entry.
-    pub queue-at : (e : ℕ) → isQueue n links e ≡ true → model.queueAt (tableOf n links queues) (hopAt e) ≡ some (queueAt queues (e / 8) (e % 8))
-    unfolding hopAt
-    queue-at e q = queue-found n links queues (e / 8) (e % 8) (queue-link e q) (queue-level e q)
-
     -- 14 of an entry of any value.
     pub no-queue : (earlier : List Hop) (e : ℕ) → noQueue (tableOf n links queues) earlier (hopAt e) ≡ not (isQueue n links e)
     unfolding noQueue isNone hopAt isQueue
@@ -116,17 +100,11 @@ module _ (n : ℕ) (links : List ℕ) where
         → startsElsewhere (tableOf n links queues) (hopAt before ∷ earlier) (hopAt here)
         ≡ not (eqb (getD links (4 * (here / 8)) 0) (getD links (4 * (before / 8) + 1) 0))
     unfolding startsElsewhere hopAt start end linkAt
-    starts-elsewhere earlier before here p q = rw (link-found n links queues (here / 8) (queue-link here q), link-found n links queues (before / 8) (queue-link before p))
+    starts-elsewhere earlier before here p q = rw (link-found n links queues (here / 8) (queue-within n links here q .0), link-found n links queues (before / 8) (queue-within n links before p .0))
 
-    -- The threshold of an entry, and their sum.
-    threshold-at : (e : ℕ) → isQueue n links e ≡ true → model.thresholdOf (model.queueAt (tableOf n links queues) (hopAt e)) ≡ getD queues (2 * e) 0
-    unfolding model.thresholdOf queueAt
-    threshold-at e q =
-        let same : 16 * (e / 8) + 2 * (e % 8) ≡ 2 * e = omega arith in
-        ap model.thresholdOf (queue-at e q) ∙ ap (λ (k : ℕ). getD queues k 0) same
-
+    -- The thresholds of the entries, summed.
     pub threshold-entries : (entries : List ℕ) → AllQueues n links entries
         → thresholdSum (tableOf n links queues) (map hopAt entries) ≡ total (λ e. getD queues (2 * e) 0) entries
     unfolding thresholdSum total
     threshold-entries [] a = refl
-    threshold-entries (e ∷ entries) a = ap₂ (λ (x y : ℕ). x + y) (threshold-at e (a .0)) (threshold-entries entries (a .1))
+    threshold-entries (e ∷ entries) a = ap₂ (λ (x y : ℕ). x + y) (threshold-named n links e (a .0) queues) (threshold-entries entries (a .1))

@@ -3,3 +3,4 @@ pub mod StoreLaws
 pub mod TurnLaws
 pub mod LookupLaws
 pub mod ConsistentLaws
+pub mod EntryLaws
