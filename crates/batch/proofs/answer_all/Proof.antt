@@ -1,0 +1,82 @@
+-- `batch::answer_all` meets its contract. The invariant: what stands written, what the lines left say and the untouched rest are the area in the end.
+-- Assumes nothing.
+use borrow.Author.Needs.{needs}
+use Prim.Native.Nat.{_+_, _-_, _≤_}
+use mathlib.Core.Path.{sym, ap, _∙_}
+use native.Mathlib.Omega.{arith}
+use lib.ListN.{length}
+use borrow.Rule.Slice.PartMut.{putMid}
+use Rattle.model.specs.Columns.{lines}
+use Rattle.model.specs.Answers.{answerLine}
+use Rattle.model.specs.Batch.{doneBatch}
+use Rattle.admission.specs.View.{stateOf, answerOf}
+use Rattle.batch.proofs.AnswerLaws.{Answering, line-put, part-long, answering-first, room-left, answering-next, answering-last}
+use Rattle.batch.proofs.answer_all.Statement.{statement}
+use Rattle.batch.proofs.answer_all.Tie as tie
+
+abbrev Inv-loop : tie.InvT-loop
+Inv-loop orders n links queues slots₀ pool₀ sums₀ answers₀ at₀ number₀ place₀ slots pool sums answers at number place =
+    Answering (doneBatch (stateOf n links queues slots₀ pool₀) (lines orders) answers₀ .area) orders n links queues slots pool sums (length answers₀) answers at number place
+
+abbrev μ-loop : tie.MeasureT-loop
+μ-loop orders n links queues slots₀ pool₀ sums₀ answers₀ at₀ number₀ place₀ slots pool sums answers at number place = length orders - at
+
+-- There is room for the line that was answered.
+room : (c : tie.After-answer-next Inv-loop μ-loop)
+    → (c .before .before .before .before .before .loop .place + 20 ≤ length (c .before .before .before .before .before .loop .answers)) × (c .before .before .before .before .before .loop .number + 1 ≤ 2000)
+room c = room-left (c .before .before .before .before .before .loop .inv) (c .answer-next .ensures)
+
+loop-holds : tie.Need-loop-holds Inv-loop μ-loop
+loop-holds c =
+    let start = c .before .before .before .before .before .before .before in
+    answering-first (start .args .orders .now) (start .args .n) (start .args .links .now) (start .args .queues .now) (start .args .slots .now) (start .args .pool .now) (start .args .sums .now) (start .args .answers .now) (start .pre .0) (start .pre .1)
+
+answer-next-requires : tie.Need-answer-next-requires Inv-loop μ-loop
+answer-next-requires c κs = (c .before .before .before .loop-test .taken, c .before .before .before .before .loop .inv .kept)
+
+add-number : tie.Need-add-number Inv-loop μ-loop
+add-number c = omega (arith, room (c .before .before .before .before .before .before) .1)
+
+sub-write-line : tie.Need-sub-write-line Inv-loop μ-loop
+sub-write-line c = omega (arith, room (c .before .before .before .before .before .before) .0)
+
+part-write-line-start : tie.Need-part-write-line-start Inv-loop μ-loop
+part-write-line-start c = omega (arith, room (c .before .before .before .before .before .before) .0)
+
+write-line-requires : tie.Need-write-line-requires Inv-loop μ-loop
+write-line-requires c κs = let at = c .before .before .before .before .before .before .before .before .before .before .before .before .loop in part-long (at .answers) (at .place) (room (c .before .before .before .before .before .before .before) .0)
+
+add-place : tie.Need-add-place Inv-loop μ-loop
+add-place c = omega (arith, room (c .before .before .before .before .before .before .before .before .before .before) .0, c .before .before .before .before .before .before .before .before .before .before .before .before .before .before .before .loop .inv .same-size, c .before .before .before .before .before .before .before .before .before .before .before .before .before .before .before .before .before .before .before .before .before .before .before .good)
+
+loop-less : tie.Need-loop-less Inv-loop μ-loop
+loop-less c = omega (arith, c .before .before .before .before .before .before .before .before .before .before .answer-next .ensures .on, c .before .before .before .before .before .before .before .before .before .before .before .before .before .before .loop-test .taken)
+
+loop-again : tie.Need-loop-again Inv-loop μ-loop
+loop-again c =
+    let at = c .before .before .before .before .before .before .before .before .before .before .before .before .before .before .before .loop in
+    let next = c .before .before .before .before .before .before .before .before .before .before in
+    let line = answerLine (at .number + 1) (answerOf (next .answer-next .result .answer)) in
+    answering-next (at .inv) (next .answer-next .ensures) _
+    (ap (putMid (at .place) (length (at .answers) - at .place) (at .answers)) (c .before .before .write-line .ensures) ∙ line-put (at .answers) line (at .place) (room next .0))
+
+same-length : tie.Need-same-length Inv-loop μ-loop
+same-length c = c .before .loop .inv .kept .store .slots-long ∙ sym (c .before .before .before .before .before .before .before .before .before .pre .0 .store .slots-long)
+
+same-length-2 : tie.Need-same-length-2 Inv-loop μ-loop
+same-length-2 c = c .before .loop .inv .kept .store .pool-long ∙ sym (c .before .before .before .before .before .before .before .before .before .pre .0 .store .pool-long)
+
+same-length-3 : tie.Need-same-length-3 Inv-loop μ-loop
+same-length-3 c = c .before .loop .inv .kept .figures .long ∙ sym (c .before .before .before .before .before .before .before .before .before .pre .0 .figures .long)
+
+same-length-4 : tie.Need-same-length-4 Inv-loop μ-loop
+same-length-4 c = c .before .loop .inv .same-size
+
+returns : tie.Need-returns Inv-loop μ-loop
+returns c = answering-last (c .before .loop .inv) (c .loop-test .left)
+
+pub answer-all-spec : {M : Type 1} → statement M
+answer-all-spec =
+    tie.close
+    (tie.spec Inv-loop μ-loop loop-holds answer-next-requires add-number sub-write-line part-write-line-start (λ c. search needs)
+    write-line-requires add-place loop-less loop-again same-length same-length-2 same-length-3 same-length-4 returns)

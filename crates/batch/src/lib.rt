@@ -1,0 +1,179 @@
+// A batch over byte areas (document 01, "A batch is table text, order text and an answer area"): what a host links.
+//
+// The registry stands in local columns, those of `queue_table`, `flow_store` and `figures`. It was made here, so that it is
+// consistent and 42 isn't looked for.
+ghost use mathlib.Core.Path.{_≡_};
+ghost use Prim.Native.Nat.{_<_};
+ghost use lib.ListN.{length};
+ghost use Rattle.model.specs.Columns.{lines};
+ghost use Rattle.admission.specs.View.{Kept};
+ghost use Rattle.batch.specs.View.{noFlows, noHops, noSums, LineDone, Room, Answered, Judged, Batched};
+use admission::Answer;
+use columns::NextLine;
+use queue_table::Verdict;
+
+const LF: u8 = 10;
+
+// What a batch returns: 0 and the count of order lines, or a code and a line.
+#[repr(C)]
+pub struct BatchResult {
+    pub code: u32,
+    pub line: u32,
+}
+
+// The answer to a line, and the place after it.
+struct Advance {
+    answer: Answer,
+    next: usize,
+}
+
+// How many lines a text has. Each LF before the last byte ends one, and the last byte belongs to one more.
+fn count_lines(text: &[u8]) -> usize
+    ensures { λ r. ⌜ r ≡ length (lines (now (text .entry))) ⌝ }
+{
+    let size = text.len();
+    if size == 0 {
+        return 0;
+    }
+    let last = size - 1;
+    let mut count = 0;
+    let mut i = 0;
+    while i < last {
+        if text[i] == LF {
+            count += 1;
+        }
+        i += 1;
+    }
+    count + 1
+}
+
+// Carries out the order of the line that starts at `at`.
+fn answer_next(
+    orders: &[u8],
+    at: usize,
+    n: usize,
+    links: &[u32],
+    queues: &[u32],
+    slots: &mut [u32],
+    pool: &mut [u32],
+    sums: &mut [u64],
+) -> Advance
+    requires { ⌜ (at < length (now orders)) × Kept n (now links) (now queues) (now slots) (now pool) (now sums) ⌝ }
+    ensures { λ r. ⌜ LineDone (now (orders .entry)) at n (now (links .entry)) (now (queues .entry)) (now (slots .entry)) (now (pool .entry)) (now (slots .exit)) (now (pool .exit)) (now (sums .exit)) r ⌝ }
+{
+    let NextLine::Ended(end) = columns::next_line(orders, at) else {
+        return Advance {
+            answer: Answer::Refused(10, 0, 0),
+            next: orders.len(),
+        };
+    };
+    let line = orders::read_order(&orders[at..end]);
+    let order = line.order;
+    let hop_links = line.links;
+    let hop_levels = line.levels;
+    let answer = admission::perform(
+        order,
+        &hop_links,
+        &hop_levels,
+        n,
+        links,
+        queues,
+        slots,
+        pool,
+        sums,
+    );
+    Advance {
+        answer,
+        next: end + 1,
+    }
+}
+
+// Answers each order line in 20 bytes, order after order.
+fn answer_all(
+    orders: &[u8],
+    n: usize,
+    links: &[u32],
+    queues: &[u32],
+    slots: &mut [u32],
+    pool: &mut [u32],
+    sums: &mut [u64],
+    answers: &mut [u8],
+)
+    requires { ⌜ Kept n (now links) (now queues) (now slots) (now pool) (now sums) ⌝ }
+    requires { ⌜ Room (now orders) (now answers) ⌝ }
+    ensures { λ _. ⌜ Answered (now (orders .entry)) n (now (links .entry)) (now (queues .entry)) (now (slots .entry)) (now (pool .entry)) (now (answers .entry)) (now (answers .exit)) ⌝ }
+{
+    let mut at = 0;
+    let mut number: u32 = 0;
+    let mut place = 0;
+    while at < orders.len() {
+        let advance = answer_next(orders, at, n, links, queues, slots, pool, sums);
+        let answer = advance.answer;
+        number += 1;
+        answer_line::write_line(number, answer, &mut answers[place..]);
+        place += 20;
+        at = advance.next;
+    }
+}
+
+// The answers to the orders on an empty registry.
+fn run(orders: &[u8], n: usize, links: &[u32], queues: &[u32], answers: &mut [u8])
+    requires { ⌜ Kept n (now links) (now queues) noFlows noHops noSums ⌝ }
+    requires { ⌜ Room (now orders) (now answers) ⌝ }
+    ensures { λ _. ⌜ Answered (now (orders .entry)) n (now (links .entry)) (now (queues .entry)) noFlows noHops (now (answers .entry)) (now (answers .exit)) ⌝ }
+{
+    let mut slots = [0u32; 1536];
+    let mut pool = [0u32; 1024];
+    let mut sums = [0u64; 1536];
+    answer_all(
+        orders,
+        n,
+        links,
+        queues,
+        &mut slots,
+        &mut pool,
+        &mut sums,
+        answers,
+    );
+}
+
+// 41, then 40, then the orders, on a table that was accepted.
+fn judge_orders(
+    orders: &[u8],
+    n: usize,
+    links: &[u32],
+    queues: &[u32],
+    answers: &mut [u8],
+) -> BatchResult
+    requires { ⌜ Kept n (now links) (now queues) noFlows noHops noSums ⌝ }
+    ensures { λ r. ⌜ Judged n (now (links .entry)) (now (queues .entry)) (now (orders .entry)) (now (answers .entry)) (now (answers .exit)) r ⌝ }
+{
+    if 60_000 < orders.len() {
+        return BatchResult { code: 41, line: 0 };
+    }
+    let count = count_lines(orders);
+    if 2000 < count {
+        return BatchResult { code: 41, line: 0 };
+    }
+    if answers.len() < 20 * count {
+        return BatchResult { code: 40, line: 0 };
+    }
+    run(orders, n, links, queues, answers);
+    BatchResult {
+        code: 0,
+        line: count as u32,
+    }
+}
+
+// A batch over byte areas. Refused, it writes nothing; done, it writes 20 bytes per order line and leaves the rest as it was.
+#[no_mangle]
+pub extern "C" fn devvonur_batch(table: &[u8], orders: &[u8], answers: &mut [u8]) -> BatchResult
+    ensures { λ r. ⌜ Batched (now (table .entry)) (now (orders .entry)) (now (answers .entry)) (now (answers .exit)) r ⌝ }
+{
+    let mut links = [0u32; 256];
+    let mut queues = [0u32; 1024];
+    match queue_table::read_into(table, &mut links, &mut queues) {
+        Verdict::Accepted(n) => judge_orders(orders, n, &links, &queues, answers),
+        Verdict::Refused(code, line) => BatchResult { code, line },
+    }
+}
