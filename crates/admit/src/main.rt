@@ -1,0 +1,44 @@
+// Runs the batch of table.txt and orders.txt in the current folder and prints its answers, or for a refused batch one line:
+// code in 3 columns, line in 6. A file that can't be opened counts as empty. What stands past the bytes read here makes no
+// difference: a table of 18,945 bytes is refused for its size, and so are orders of 60,001.
+ghost use Rattle.io.specs.Counts.{Counts};
+use libc::STDOUT_FILENO;
+
+// How many bytes of the file stand at the start of `text`.
+fn read_file(name: &[u8], text: &mut [u8]) -> usize
+    ensures { λ r. ⌜ Counts r (now (text .exit)) ⌝ }
+{
+    let fd = os::open_read(name);
+    if fd < 0 {
+        return 0;
+    }
+    let n = io::read_full(fd, text);
+    libc::close(fd);
+    n
+}
+
+fn print_refusal(code: u32, line: u32) {
+    let mut out = *b"         \n";
+    columns::write_at(&mut out, 1, 3, columns::wide(code));
+    columns::write_at(&mut out, 4, 9, columns::wide(line));
+    io::write_all(STDOUT_FILENO, &out);
+}
+
+fn run(table: &[u8], orders: &[u8]) {
+    let mut answers = [0u8; 40000];
+    let result = batch::devvonur_batch(table, orders, &mut answers);
+    let code = result.code;
+    let line = result.line;
+    if code != 0 {
+        return print_refusal(code, line);
+    }
+    io::write_all(STDOUT_FILENO, &answers[..20 * line as usize]);
+}
+
+fn main() {
+    let mut table = [0u8; 18945];
+    let mut orders = [0u8; 60001];
+    let table_size = read_file(b"table.txt", &mut table);
+    let orders_size = read_file(b"orders.txt", &mut orders);
+    run(&table[..table_size], &orders[..orders_size]);
+}
