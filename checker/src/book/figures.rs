@@ -1,0 +1,165 @@
+//! The figures of the queues, and 21, 22 and 23.
+//!
+//! 64 bits are enough. A burst at a hop is below 2^31 and 256 flows meet at a link at most, so burst
+//! sums and Y together stay below 2^40; a rate sum that passed 21 is at most 10,000,000. Then
+//! 8000 × (Y + burst sum) and rate sum × Y are below 2^64.
+
+use super::{Queue, Slot, Table, LEVELS, QUEUES};
+use crate::answer::Answer;
+
+/// Rate sum, burst sum and largest frame of a queue; all 0 where it carries no flow.
+#[derive(Clone, Copy, Debug, PartialEq)]
+pub struct Aggregate {
+    pub rate: u64,
+    pub burst: u64,
+    pub frame: u64,
+}
+
+impl Aggregate {
+    pub const NONE: Aggregate = Aggregate {
+        rate: 0,
+        burst: 0,
+        frame: 0,
+    };
+
+    /// With a flow counted in, which has this burst here.
+    #[inline]
+    fn with_flow(self, flow: &Slot, burst: u64) -> Aggregate {
+        Aggregate {
+            rate: self.rate + u64::from(flow.rate),
+            burst: self.burst + burst,
+            frame: self.frame.max(u64::from(flow.frame)),
+        }
+    }
+}
+
+/// The hops of a path as queue numbers, each with the flow's burst there.
+#[inline(always)]
+fn bursts<'a>(
+    flow: &'a Slot,
+    path: &'a [u32],
+    queues: &'a [Queue; QUEUES],
+) -> impl Iterator<Item = (usize, u64)> + 'a {
+    let mut earlier = 0;
+    path.iter().map(move |&entry| {
+        let burst = u64::from(flow.burst) + (u64::from(flow.rate) * earlier).div_ceil(8000);
+        earlier += u64::from(queues[entry as usize].threshold);
+        (entry as usize, burst)
+    })
+}
+
+/// 21, 22 or 23 at a link with these figures, and the level named.
+#[inline]
+fn check_link(
+    speed: u32,
+    queues: &[Queue],
+    levels: &[Aggregate; LEVELS],
+) -> Result<(), (u32, u32)> {
+    let mut residual = 1000 * u64::from(speed);
+    if residual <= levels.iter().map(|level| level.rate).sum() {
+        return Err((21, 0));
+    }
+    let mut below = [0; LEVELS];
+    for p in (1..LEVELS).rev() {
+        below[p - 1] = below[p].max(levels[p].frame);
+    }
+    let mut above = 0;
+    for ((number, own), (queue, below)) in (1..).zip(levels).zip(queues.iter().zip(below)) {
+        if own.frame == 0 {
+            continue;
+        }
+        let y = above + below + own.frame;
+        let delay = (8000 * (y + own.burst)).div_ceil(residual);
+        if u64::from(queue.threshold) < delay {
+            return Err((22, number));
+        }
+        let backlog = own.burst + (own.rate * y).div_ceil(residual);
+        if u64::from(queue.buffer) < backlog {
+            return Err((23, number));
+        }
+        residual -= own.rate;
+        above += own.burst;
+    }
+    Ok(())
+}
+
+/// 21, 22 and 23 link by link along a path, with the flow counted in.
+#[inline]
+pub fn check_path(
+    flow: &Slot,
+    path: &[u32],
+    table: &Table,
+    sums: &[Aggregate; QUEUES],
+) -> Result<(), Answer> {
+    let (links, _) = sums.as_chunks::<LEVELS>();
+    for (entry, burst) in bursts(flow, path, &table.queues) {
+        let (link, level) = (entry / LEVELS, entry % LEVELS);
+        let mut levels = links[link];
+        levels[level] = levels[level].with_flow(flow, burst);
+        let queues = &table.queues[LEVELS * link..LEVELS * (link + 1)];
+        match check_link(table.links[link].speed, queues, &levels) {
+            Ok(()) => {}
+            Err((21, _)) => return Err(Answer::plain(21)),
+            Err((code, level)) => return Err(Answer::at(code, link as u32 + 1, level)),
+        }
+    }
+    Ok(())
+}
+
+/// Counts a flow in at each queue of its path.
+#[inline]
+pub fn add_path(
+    flow: &Slot,
+    path: &[u32],
+    queues: &[Queue; QUEUES],
+    sums: &mut [Aggregate; QUEUES],
+) {
+    for (entry, burst) in bursts(flow, path, queues) {
+        sums[entry] = sums[entry].with_flow(flow, burst);
+    }
+}
+
+/// Takes a flow out at each queue of its path. True where a queue that still carries flows may have
+/// lost its largest frame, which is 0 then until the frames are raised again.
+#[inline]
+pub fn remove_path(
+    flow: &Slot,
+    path: &[u32],
+    queues: &[Queue; QUEUES],
+    sums: &mut [Aggregate; QUEUES],
+) -> bool {
+    let mut again = false;
+    for (entry, burst) in bursts(flow, path, queues) {
+        let own = &mut sums[entry];
+        own.rate -= u64::from(flow.rate);
+        own.burst -= burst;
+        if own.rate == 0 {
+            own.frame = 0;
+        } else if own.frame <= u64::from(flow.frame) {
+            own.frame = 0;
+            again = true;
+        }
+    }
+    again
+}
+
+/// Raises the largest frame at each queue of a path to at least this one.
+#[inline]
+pub fn raise_path(frame: u32, path: &[u32], sums: &mut [Aggregate; QUEUES]) {
+    for &entry in path {
+        let own = &mut sums[entry as usize];
+        if own.frame < u64::from(frame) {
+            own.frame = u64::from(frame);
+        }
+    }
+}
+
+/// Whether every link meets 21 to 23 with these figures, which are those of flows in range.
+pub fn links_meet(table: &Table, sums: &[Aggregate; QUEUES]) -> bool {
+    let (levels, _) = sums.as_chunks::<LEVELS>();
+    table.links[..table.count]
+        .iter()
+        .zip(table.queues.chunks_exact(LEVELS))
+        .zip(levels)
+        .all(|((link, queues), levels)| check_link(link.speed, queues, levels).is_ok())
+}

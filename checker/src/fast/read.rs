@@ -1,0 +1,251 @@
+//! Fixed columns read in place: fields, table lines and order lines.
+
+use super::{Registry, HOPS, LEVELS, LINKS};
+
+/// No field has more than nine columns, so no number comes near.
+const MALFORMED: u32 = u32::MAX;
+
+/// The number in the W columns from `at`, or MALFORMED. A LF among them makes it malformed.
+#[inline(always)]
+fn field<const W: usize>(text: &[u8], at: usize) -> u32 {
+    let Some(columns) = text.get(at..at + W) else {
+        return MALFORMED;
+    };
+    let mut start = 0;
+    while start < W - 1 && columns[start] == b' ' {
+        start += 1;
+    }
+    let mut value = 0u32;
+    let mut wrong = columns[start] == b'0' && start < W - 1;
+    for &byte in &columns[start..] {
+        let digit = byte.wrapping_sub(b'0');
+        wrong |= digit > 9;
+        value = value.wrapping_mul(10).wrapping_add(u32::from(digit));
+    }
+    if wrong {
+        MALFORMED
+    } else {
+        value
+    }
+}
+
+/// The offset after the first LF at or after `at`; the text ends in one.
+#[inline(always)]
+fn next_line(text: &[u8], at: usize) -> usize {
+    let mut end = at;
+    while text[end] != b'\n' {
+        end += 1;
+    }
+    end + 1
+}
+
+/// The number of LFs. Blocks short enough to be counted in bytes let the compiler use wide additions.
+pub fn line_ends(text: &[u8]) -> usize {
+    const BLOCK: usize = 192;
+    let mut found = 0;
+    for block in text.chunks(BLOCK) {
+        let mut within = 0u8;
+        for &byte in block {
+            within += u8::from(byte == b'\n');
+        }
+        found += usize::from(within);
+    }
+    found
+}
+
+const TABLE_LINE: usize = 37;
+const MOST_TABLE_BYTES: usize = 18_944;
+
+/// Reads the table into a registry without queues; code and line of the first fault, or 0 and 0.
+pub fn table(registry: &mut Registry, text: &[u8]) -> (u32, u32) {
+    if text.len() > MOST_TABLE_BYTES {
+        return (5, 0);
+    }
+    for (index, line) in text.chunks(TABLE_LINE).enumerate() {
+        let code = table_line(registry, line);
+        if code != 0 {
+            registry.links = 0;
+            return (code, index as u32 + 1);
+        }
+    }
+    (0, 0)
+}
+
+fn table_line(registry: &mut Registry, line: &[u8]) -> u32 {
+    if line.len() != TABLE_LINE || line[TABLE_LINE - 1] != b'\n' {
+        return 1;
+    }
+    let link = field::<4>(line, 0);
+    let from = field::<4>(line, 4);
+    let to = field::<4>(line, 8);
+    let speed = field::<6>(line, 12);
+    let level = field::<2>(line, 18);
+    let threshold = field::<7>(line, 20);
+    let buffer = field::<9>(line, 27);
+    // Only MALFORMED has the highest bit.
+    if (link | from | to | speed | level | threshold | buffer) >> 31 != 0 {
+        return 1;
+    }
+    if !link_in_range(from, to, speed) || !limits_in_range(threshold, buffer) {
+        return 2;
+    }
+    let links = registry.links as usize;
+    let same = links > 0
+        && link == links as u32
+        && level == registry.levels[links - 1] + 1
+        && level <= LEVELS as u32;
+    let next = link == links as u32 + 1 && level == 1 && link <= LINKS as u32;
+    if !same && !next {
+        return 3;
+    }
+    if from == to {
+        return 4;
+    }
+    let index = link as usize - 1;
+    if next {
+        registry.links = link;
+        registry.from[index] = from;
+        registry.to[index] = to;
+        registry.speed[index] = speed;
+    }
+    if (
+        registry.from[index],
+        registry.to[index],
+        registry.speed[index],
+    ) != (from, to, speed)
+    {
+        return 4;
+    }
+    registry.levels[index] = level;
+    registry.threshold[index][level as usize - 1] = threshold;
+    registry.buffer[index][level as usize - 1] = buffer;
+    0
+}
+
+/// Code 2's ranges of a link.
+#[inline(always)]
+pub fn link_in_range(from: u32, to: u32, speed: u32) -> bool {
+    (from.wrapping_sub(1) < 9_999) & (to.wrapping_sub(1) < 9_999) & (speed.wrapping_sub(1) < 10_000)
+}
+
+/// Code 2's ranges of a level.
+#[inline(always)]
+pub fn limits_in_range(threshold: u32, buffer: u32) -> bool {
+    (threshold.wrapping_sub(1) < 100_000) & (buffer.wrapping_sub(1) < 16_777_215)
+}
+
+/// A registration's fields; of the hops only the first `count` mean anything.
+pub struct Flow {
+    pub number: u32,
+    pub rate: u32,
+    pub burst: u32,
+    pub frame: u32,
+    pub deadline: u32,
+    pub count: usize,
+    pub link: [u32; HOPS],
+    pub level: [u32; HOPS],
+}
+
+impl Flow {
+    pub const EMPTY: Flow = Flow {
+        number: 0,
+        rate: 0,
+        burst: 0,
+        frame: 0,
+        deadline: 0,
+        count: 0,
+        link: [0; HOPS],
+        level: [0; HOPS],
+    };
+}
+
+pub enum Order {
+    Register,
+    Release(u32),
+    Refused(u32),
+}
+
+/// Reads the first line of a text that ends in LF; the registration's flow goes into `flow`. Gives
+/// the order and the offset of the next line.
+#[inline(always)]
+pub fn order(text: &[u8], flow: &mut Flow) -> (Order, usize) {
+    match field::<2>(text, 0) {
+        1 => registration(text, flow),
+        2 => release(text),
+        MALFORMED => (Order::Refused(10), next_line(text, 0)),
+        _ => (Order::Refused(11), next_line(text, 2)),
+    }
+}
+
+/// A direct call's line: exactly one, ended, of the called kind.
+pub fn call(kind: u32, text: &[u8], flow: &mut Flow) -> Order {
+    if text.last() != Some(&b'\n') || next_line(text, 0) != text.len() {
+        return Order::Refused(10);
+    }
+    match field::<2>(text, 0) {
+        MALFORMED => Order::Refused(10),
+        found if found != kind => Order::Refused(11),
+        _ => order(text, flow).0,
+    }
+}
+
+#[inline(always)]
+fn release(text: &[u8]) -> (Order, usize) {
+    let number = field::<6>(text, 2);
+    if number == MALFORMED || text.get(8) != Some(&b'\n') {
+        return (Order::Refused(10), next_line(text, 2));
+    }
+    if number.wrapping_sub(1) < 65_535 {
+        (Order::Release(number), 9)
+    } else {
+        (Order::Refused(11), 9)
+    }
+}
+
+#[inline(always)]
+fn registration(text: &[u8], flow: &mut Flow) -> (Order, usize) {
+    flow.number = field::<6>(text, 2);
+    flow.rate = field::<9>(text, 8);
+    flow.burst = field::<8>(text, 17);
+    flow.frame = field::<5>(text, 25);
+    flow.deadline = field::<8>(text, 30);
+    let count = field::<3>(text, 38);
+    if (flow.number | flow.rate | flow.burst | flow.frame | flow.deadline | count) >> 31 != 0 {
+        return (Order::Refused(10), next_line(text, 2));
+    }
+    if count.wrapping_sub(1) >= HOPS as u32 {
+        return (Order::Refused(11), next_line(text, 41));
+    }
+    flow.count = count as usize;
+    let mut together = 0;
+    for hop in 0..flow.count {
+        flow.link[hop] = field::<4>(text, 41 + 6 * hop);
+        flow.level[hop] = field::<2>(text, 45 + 6 * hop);
+        together |= flow.link[hop] | flow.level[hop];
+    }
+    let end = 41 + 6 * flow.count;
+    if together >> 31 != 0 || text.get(end) != Some(&b'\n') {
+        return (Order::Refused(10), next_line(text, 41));
+    }
+    if flow_in_range(
+        flow.number,
+        flow.rate,
+        flow.burst,
+        flow.frame,
+        flow.deadline,
+    ) {
+        (Order::Register, end + 1)
+    } else {
+        (Order::Refused(11), end + 1)
+    }
+}
+
+/// Code 11's ranges, the hop count apart.
+#[inline(always)]
+pub fn flow_in_range(number: u32, rate: u32, burst: u32, frame: u32, deadline: u32) -> bool {
+    (number.wrapping_sub(1) < 65_535)
+        & (rate.wrapping_sub(1) < 10_000_000)
+        & (burst.wrapping_sub(84) <= 1_000_000 - 84)
+        & (frame.wrapping_sub(84) <= 1_542 - 84)
+        & (deadline.wrapping_sub(1) < 10_000_000)
+}

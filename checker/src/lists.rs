@@ -1,0 +1,234 @@
+//! A program that makes a recorded list of direct calls, the proved `replay` for one: run as a
+//! process beside the plain version and the others, for its answers and for its time.
+
+use crate::book;
+use crate::calls::{call_bytes, Calls};
+use crate::clock::children_time;
+use crate::compare::{BOOK, FAST, PROVED};
+use crate::fast;
+use crate::gen::{input, loads};
+use crate::plain::columns::lines;
+use crate::plain::orders::{REGISTER, RELEASE};
+use crate::plain::programs::{put_calls, put_refusal, put_state, replay, write_call};
+use crate::plain::registry::Answer;
+use crate::rng::Rng;
+use crate::rounds::{report, Bars, Measured, Round};
+use std::fs;
+use std::io;
+use std::path::{Path, PathBuf};
+use std::process::{Command, Stdio};
+
+/// The command word with which this program replays a list on a version's registry.
+pub const VERSION_REPLAY: &str = "version-replay";
+
+/// What `replay` prints, from a version's registry; every call makes the 42 check.
+pub fn version_replay<R: Calls>(table: &[u8], calls: &[u8]) -> Vec<u8> {
+    let mut printed = Vec::new();
+    let mut registry = Box::new(R::EMPTY);
+    let (code, line) = registry.open(table);
+    if code != 0 {
+        put_refusal(&mut printed, u64::from(code), u64::from(line));
+    }
+    put_calls(&mut printed, calls, |kind, given| {
+        let answer = registry.call(kind as u32, given);
+        Answer {
+            code: u64::from(answer.code),
+            slot: u64::from(answer.slot),
+            link: u64::from(answer.link),
+            level: u64::from(answer.level),
+        }
+    });
+    let seen = registry.view();
+    put_state(&mut printed, &seen.queues, &seen.stored, &seen.slots);
+    printed
+}
+
+/// What is printed for a table and a list of calls.
+pub type Replay = fn(&[u8], &[u8]) -> Vec<u8>;
+
+/// What `replay` prints, from each version's registry.
+pub const REPLAYS: [(&str, Replay); 2] = [
+    (BOOK, version_replay::<book::Registry>),
+    (FAST, version_replay::<fast::Registry>),
+];
+
+/// A folder of its own for a program's files; it goes when this does.
+struct Folder(PathBuf);
+
+impl Folder {
+    fn with(name: &str, table: &[u8], calls: &[u8]) -> io::Result<Folder> {
+        let path = std::env::temp_dir().join(format!("checker-{}-{name}", std::process::id()));
+        fs::create_dir_all(&path)?;
+        let folder = Folder(path);
+        fs::write(folder.0.join("table.txt"), table)?;
+        fs::write(folder.0.join("calls.txt"), calls)?;
+        Ok(folder)
+    }
+}
+
+impl Drop for Folder {
+    fn drop(&mut self) {
+        // A folder left behind in the temporary one does no harm.
+        let _ = fs::remove_dir_all(&self.0);
+    }
+}
+
+/// A program and the words it is started with.
+struct Program {
+    path: PathBuf,
+    words: Vec<&'static str>,
+}
+
+impl Program {
+    fn printed_in(&self, folder: &Path) -> io::Result<Vec<u8>> {
+        let done = Command::new(&self.path)
+            .args(&self.words)
+            .current_dir(folder)
+            .stdin(Stdio::null())
+            .output()?;
+        if !done.status.success() {
+            return Err(io::Error::other(format!("ended with {}", done.status)));
+        }
+        Ok(done.stdout)
+    }
+}
+
+/// Runs so many lists of calls through the program; the first difference from the plain version
+/// ends the run. Gives the number of calls.
+pub fn compare(program: &Path, seed: u64, count: u64) -> Result<u64, String> {
+    let program = Program {
+        path: program.canonicalize().map_err(|error| error.to_string())?,
+        words: Vec::new(),
+    };
+    let mut made = 0;
+    for index in 0..count {
+        let mut rng = Rng::new(seed, index);
+        let (table, list, calls) = random_list(&mut rng);
+        let expected = replay(&table, &list);
+        let printed = Folder::with("compare", &table, &list)
+            .and_then(|folder| program.printed_in(&folder.0))
+            .map_err(|error| format!("seed {seed} list {index}: {error}"))?;
+        if printed != expected {
+            return Err(format!("seed {seed} list {index}: what is printed differs"));
+        }
+        made += calls;
+    }
+    Ok(made)
+}
+
+/// A table and a batch's orders as calls, some of them to the other call, cut or doubled; now and
+/// then the list itself is cut.
+fn random_list(rng: &mut Rng) -> (Vec<u8>, Vec<u8>, u64) {
+    let given = input(rng, false);
+    let faulty = rng.once_in(2);
+    let mut list = Vec::new();
+    let mut calls = 0;
+    for line in lines(&given.orders).iter().take(400) {
+        let release = line.bytes.starts_with(b" 2") != (faulty && rng.once_in(20));
+        let kind = if release { RELEASE } else { REGISTER };
+        list.extend(write_call(kind, &call_bytes(rng, line.bytes, faulty)));
+        calls += 1;
+    }
+    if rng.once_in(5) {
+        list.truncate(rng.index(list.len() + 1));
+    }
+    (given.table, list, calls)
+}
+
+/// How often each list is timed.
+const TURNS: usize = 31;
+
+/// The program's time for a direct call, 42 check included, beside the other versions'. All are
+/// timed as processes in turn, by their processor time, on the first calls of a list up to four cuts;
+/// the difference of two cuts is the time of the calls between. False where an answer differs.
+pub fn bench(program: &Path, most: f64, bars: &mut Bars) -> io::Result<bool> {
+    let programs = programs(program)?;
+    for load in loads::call_lists(1) {
+        let title = format!("direct calls by processes, {}, 42 checked", load.name);
+        let cuts = Cuts::of(&load)?;
+        let whole = &cuts.folders[cuts.folders.len() - 1].0;
+        let expected = programs[0].1.printed_in(whole)?;
+        for (_, program) in &programs[1..] {
+            if program.printed_in(whole)? != expected {
+                println!("{title}: answers differ");
+                return Ok(false);
+            }
+        }
+        let mut found: Vec<Measured> = Vec::new();
+        for (name, _) in &programs {
+            found.push(Measured {
+                name,
+                rounds: Vec::new(),
+            });
+        }
+        for _ in 0..TURNS {
+            for (round, measured) in cuts.round(&programs)?.into_iter().zip(&mut found) {
+                measured.rounds.push(round);
+            }
+        }
+        println!("{title}: {} calls, {TURNS} rounds", load.steady.len());
+        report(&title, "call", &found, most, bars);
+    }
+    Ok(true)
+}
+
+/// The program named, and this one for each version.
+fn programs(program: &Path) -> io::Result<[(&'static str, Program); 3]> {
+    let named = Program {
+        path: program.canonicalize()?,
+        words: Vec::new(),
+    };
+    let version = |name| -> io::Result<Program> {
+        Ok(Program {
+            path: std::env::current_exe()?,
+            words: vec![VERSION_REPLAY, name],
+        })
+    };
+    Ok([
+        (PROVED, named),
+        (BOOK, version(BOOK)?),
+        (FAST, version(FAST)?),
+    ])
+}
+
+/// A folder for the calls up to each cut: both ends of the steady part's first and last tenth.
+struct Cuts {
+    calls: usize,
+    tenth: usize,
+    folders: Vec<Folder>,
+}
+
+impl Cuts {
+    fn of(load: &loads::Load) -> io::Result<Cuts> {
+        let (start, end) = (load.steady.start, load.steady.end);
+        let tenth = load.steady.len() / 10;
+        let mut folders = Vec::new();
+        for calls in [start, start + tenth, end - tenth, end] {
+            let name = format!("cut-{calls}");
+            folders.push(Folder::with(&name, &load.table, &load.text(calls))?);
+        }
+        Ok(Cuts {
+            calls: load.steady.len(),
+            tenth,
+            folders,
+        })
+    }
+
+    /// One round of all programs, each cut with one after the other.
+    fn round(&self, programs: &[(&str, Program)]) -> io::Result<Vec<Round>> {
+        let mut times = vec![[0.0; 4]; programs.len()];
+        for (cut, folder) in self.folders.iter().enumerate() {
+            for ((_, program), times) in programs.iter().zip(&mut times) {
+                let before = children_time();
+                program.printed_in(&folder.0)?;
+                times[cut] = children_time() - before;
+            }
+        }
+        let figures = |times: &[f64; 4]| Round {
+            whole: (times[3] - times[0]) / self.calls as f64,
+            first_tenth: (times[1] - times[0]) / self.tenth as f64,
+            last_tenth: (times[3] - times[2]) / self.tenth as f64,
+        };
+        Ok(times.iter().map(figures).collect())
+    }
+}

@@ -1,0 +1,125 @@
+//! The checker's commands.
+
+use checker::{bench, compare, lists, simulate, vectors};
+use std::io::Write;
+use std::path::Path;
+use std::process::ExitCode;
+
+const USAGE: &str = "usage:
+  checker admit                     (table.txt and orders.txt of the current folder)
+  checker replay                    (table.txt and calls.txt)
+  checker vectors DIR
+  checker compare --seed S --count N [--long]
+  checker simulate --seed S --count N
+  checker compare-replay PROGRAM --seed S --count N
+  checker bench [--seconds S] [--replay PROGRAM] [--bars]";
+
+fn main() -> ExitCode {
+    let arguments: Vec<String> = std::env::args().skip(1).collect();
+    let words: Vec<&str> = arguments.iter().map(String::as_str).collect();
+    let passed = match words.as_slice() {
+        ["admit"] => Some(print(&vectors::admit_in(Path::new(".")))),
+        ["replay"] => Some(print(&vectors::replay_in(Path::new(".")))),
+        ["vectors", folder] => Some(report(folder, vectors::run(Path::new(folder)))),
+        [lists::VERSION_REPLAY, version] => version_replay(version),
+        ["compare", options @ ..] => run_compare(options),
+        ["compare-replay", program, options @ ..] => run_compare_replay(program, options),
+        ["simulate", options @ ..] => run_simulate(options),
+        ["bench", options @ ..] => Some(run_bench(options)),
+        _ => None,
+    };
+    match passed {
+        Some(true) => ExitCode::SUCCESS,
+        Some(false) => ExitCode::FAILURE,
+        None => {
+            eprintln!("{USAGE}");
+            ExitCode::from(2)
+        }
+    }
+}
+
+/// The word after an option's name.
+fn word<'a>(options: &[&'a str], name: &str) -> Option<&'a str> {
+    let at = options.iter().position(|&word| word == name)?;
+    options.get(at + 1).copied()
+}
+
+/// The number after an option's name.
+fn number(options: &[&str], name: &str) -> Option<u64> {
+    word(options, name)?.parse().ok()
+}
+
+fn run_bench(options: &[&str]) -> bool {
+    let seconds = number(options, "--seconds").unwrap_or(3);
+    let replay = word(options, "--replay").map(Path::new);
+    bench::run(seconds, replay, options.contains(&"--bars"))
+}
+
+fn print(text: &[u8]) -> bool {
+    std::io::stdout().write_all(text).is_ok()
+}
+
+/// What a version's registry makes of the current folder's list of calls.
+fn version_replay(version: &str) -> Option<bool> {
+    let (_, replay) = lists::REPLAYS.iter().find(|(name, _)| *name == version)?;
+    let file = |name| vectors::text(Path::new("."), name);
+    Some(print(&replay(&file("table.txt"), &file("calls.txt"))))
+}
+
+/// Whether it passed; an error is shown with the name of what was read or run.
+fn report(name: &str, outcome: std::io::Result<bool>) -> bool {
+    outcome.unwrap_or_else(|error| {
+        eprintln!("{name}: {error}");
+        false
+    })
+}
+
+fn run_compare_replay(program: &str, options: &[&str]) -> Option<bool> {
+    let seed = number(options, "--seed")?;
+    let count = number(options, "--count")?;
+    match lists::compare(Path::new(program), seed, count) {
+        Err(what) => {
+            println!("differs: {what}");
+            Some(false)
+        }
+        Ok(calls) => {
+            println!("lists: {count}, calls: {calls}");
+            Some(calls > 0)
+        }
+    }
+}
+
+fn run_compare(options: &[&str]) -> Option<bool> {
+    let seed = number(options, "--seed")?;
+    let count = number(options, "--count")?;
+    match compare::run(seed, count, options.contains(&"--long")) {
+        Err(what) => {
+            println!("differs: {what}");
+            Some(false)
+        }
+        Ok(report) => {
+            report.print();
+            let (codes, kinds) = (report.missing(), report.missing_kinds());
+            let complete = codes.is_empty() && kinds.is_empty();
+            if !complete {
+                println!("never met: {codes:?} {kinds:?}");
+            }
+            Some(complete)
+        }
+    }
+}
+
+fn run_simulate(options: &[&str]) -> Option<bool> {
+    let seed = number(options, "--seed")?;
+    let count = number(options, "--count")?;
+    match simulate::run(seed, count) {
+        Err(what) => {
+            println!("failed: {what}");
+            Some(false)
+        }
+        Ok(report) => {
+            report.print();
+            Some(report.halls > 0)
+        }
+    }
+}

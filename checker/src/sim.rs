@@ -1,0 +1,209 @@
+//! Document 01's run, bit by bit: instants are whole µs, a link sends C bits between two of them,
+//! strict priority, first in first out, never idle while a frame waits, never breaking off a frame.
+
+use crate::plain::orders::Flow;
+use crate::plain::table::Queue;
+use crate::rng::Rng;
+use std::collections::VecDeque;
+
+/// A frame that a source adds.
+#[derive(Clone, Copy)]
+pub struct Send {
+    pub instant: u64,
+    pub flow: usize,
+    pub bytes: u64,
+}
+
+struct Frame {
+    flow: usize,
+    hop: usize,
+    bytes: u64,
+    /// The instant it reached the queue.
+    reached: u64,
+}
+
+/// A link's sender; its queues have the indices from `first` on, level 1 first.
+struct Port {
+    speed: u64,
+    first: usize,
+    levels: usize,
+    /// The queue of the frame under way and its bits still to send.
+    under_way: Option<(usize, u64)>,
+}
+
+/// The most that was seen of a queue.
+#[derive(Clone, Copy, Default)]
+pub struct Seen {
+    pub stay: u64,
+    pub backlog: u64,
+}
+
+/// A frame late or a buffer exceeded.
+#[derive(Debug, PartialEq)]
+pub enum Fault {
+    Late { queue: usize, instant: u64 },
+    Over { queue: usize, instant: u64 },
+}
+
+/// In which order the frames of one instant reach their queues.
+#[derive(Clone, Copy)]
+pub enum Arrivals {
+    SourcesFirst,
+    SourcesLast,
+    Shuffled,
+}
+
+pub struct Network<'a> {
+    queues: &'a [Queue],
+    ports: Vec<Port>,
+    /// Each flow's path as indices of queues.
+    routes: Vec<Vec<usize>>,
+    waiting: Vec<VecDeque<Frame>>,
+    backlog: Vec<u64>,
+    seen: Vec<Seen>,
+}
+
+impl<'a> Network<'a> {
+    /// Empty queues. The flows' hops are queues of the table.
+    pub fn new(queues: &'a [Queue], flows: &[Flow]) -> Network<'a> {
+        let mut ports: Vec<Port> = Vec::new();
+        for (index, queue) in queues.iter().enumerate() {
+            if queue.level == 1 {
+                ports.push(Port {
+                    speed: queue.speed,
+                    first: index,
+                    levels: 0,
+                    under_way: None,
+                });
+            }
+            if let Some(port) = ports.last_mut() {
+                port.levels += 1;
+            }
+        }
+        let index_of = |link, level| {
+            queues
+                .iter()
+                .position(|queue| queue.link == link && queue.level == level)
+        };
+        let routes = flows
+            .iter()
+            .map(|flow| {
+                flow.hops
+                    .iter()
+                    .filter_map(|hop| index_of(hop.link, hop.level))
+                    .collect()
+            })
+            .collect();
+        Network {
+            queues,
+            ports,
+            routes,
+            waiting: queues.iter().map(|_| VecDeque::new()).collect(),
+            backlog: vec![0; queues.len()],
+            seen: vec![Seen::default(); queues.len()],
+        }
+    }
+
+    /// Runs until every frame has left; `sends` is sorted by instant.
+    pub fn run(
+        mut self,
+        sends: &[Send],
+        arrivals: Arrivals,
+        rng: &mut Rng,
+    ) -> Result<Vec<Seen>, Fault> {
+        let mut next = 0;
+        let mut instant = sends.first().map_or(0, |send| send.instant);
+        let mut arriving: Vec<Frame> = Vec::new();
+        loop {
+            let transit = arriving.len();
+            while next < sends.len() && sends[next].instant == instant {
+                let Send { flow, bytes, .. } = sends[next];
+                arriving.push(Frame {
+                    flow,
+                    hop: 0,
+                    bytes,
+                    reached: instant,
+                });
+                next += 1;
+            }
+            match arrivals {
+                Arrivals::SourcesLast => {}
+                Arrivals::SourcesFirst => arriving.rotate_left(transit),
+                Arrivals::Shuffled => rng.shuffle(&mut arriving),
+            }
+            for frame in arriving.drain(..) {
+                let queue = self.routes[frame.flow][frame.hop];
+                self.backlog[queue] += frame.bytes;
+                self.waiting[queue].push_back(frame);
+            }
+            let busy = self.look(instant)?;
+            if !busy {
+                match sends.get(next) {
+                    None => return Ok(self.seen),
+                    Some(send) => instant = send.instant,
+                }
+                continue;
+            }
+            for port in 0..self.ports.len() {
+                self.send_until(port, instant + 1, &mut arriving);
+            }
+            instant += 1;
+        }
+    }
+
+    /// Compares each queue with its limits at an instant; true if a frame waits anywhere.
+    fn look(&mut self, instant: u64) -> Result<bool, Fault> {
+        let mut busy = false;
+        for (queue, limits) in self.queues.iter().enumerate() {
+            let Some(oldest) = self.waiting[queue].front() else {
+                continue;
+            };
+            busy = true;
+            if instant - oldest.reached >= limits.threshold {
+                return Err(Fault::Late { queue, instant });
+            }
+            if self.backlog[queue] > limits.buffer {
+                return Err(Fault::Over { queue, instant });
+            }
+            self.seen[queue].backlog = self.seen[queue].backlog.max(self.backlog[queue]);
+        }
+        Ok(busy)
+    }
+
+    /// One link from the instant before `end` to `end`; frames that wholly left go on at `end`.
+    fn send_until(&mut self, port: usize, end: u64, arriving: &mut Vec<Frame>) {
+        let port = &mut self.ports[port];
+        let mut left = port.speed;
+        while left > 0 {
+            let (queue, bits) = match port.under_way {
+                Some(frame) => frame,
+                None => {
+                    let mut queues = port.first..port.first + port.levels;
+                    let Some(queue) = queues.find(|&queue| !self.waiting[queue].is_empty()) else {
+                        break;
+                    };
+                    (queue, 8 * self.waiting[queue][0].bytes)
+                }
+            };
+            let sent = left.min(bits);
+            left -= sent;
+            if sent < bits {
+                port.under_way = Some((queue, bits - sent));
+                continue;
+            }
+            port.under_way = None;
+            let Some(frame) = self.waiting[queue].pop_front() else {
+                break;
+            };
+            self.backlog[queue] -= frame.bytes;
+            self.seen[queue].stay = self.seen[queue].stay.max(end - frame.reached);
+            if frame.hop + 1 < self.routes[frame.flow].len() {
+                arriving.push(Frame {
+                    hop: frame.hop + 1,
+                    reached: end,
+                    ..frame
+                });
+            }
+        }
+    }
+}

@@ -1,0 +1,116 @@
+#!/usr/bin/env python3
+"""Runs a program on the stored cases and compares what it prints with printed.txt, byte by byte.
+
+    tests/vectors.py PROGRAM admit|replay
+
+Each case runs in a folder of its own that holds just the case's input files. After the stored cases come some whose files
+are missing, a folder, unended or far too long. The first difference ends the run; no case at all is a failure."""
+import shutil
+import subprocess
+import sys
+import tempfile
+from pathlib import Path
+
+ROOT = Path(__file__).resolve().parent.parent
+STORED = ROOT / "tests" / "vectors"
+EXAMPLES = [ROOT / "examples", ROOT / "examples" / "hall"]
+FOLDER = object()  # stands for a folder in a file's place
+SECONDS = 60
+
+TABLE = b"   1   1   2   100 1    370     2000\n"
+REGISTER = b" 1     7     1000    1542 1542     370  1   1 1\n"
+RELEASE = b" 2     7\n"
+FIGURES = b"   1 1           0              0    0\n"
+
+# name: (files, printed); the expected lines are given by hand.
+ODD = {
+    "admit": {
+        "no files": ({}, b""),
+        "no orders": ({"table.txt": TABLE}, b""),
+        "no table": ({"orders.txt": REGISTER + RELEASE}, b"     1 14   0   1 1\n     2 13   0   0 0\n"),
+        "folders": ({"table.txt": FOLDER, "orders.txt": FOLDER}, b""),
+        "a folder for a table": ({"table.txt": FOLDER, "orders.txt": RELEASE}, b"     1 13   0   0 0\n"),
+        "a last line unended": ({"table.txt": TABLE, "orders.txt": REGISTER + RELEASE[:-1]}, b"     1  0   1   0 0\n     2 10   0   0 0\n"),
+        "a table unended": ({"table.txt": TABLE + TABLE[:-1], "orders.txt": RELEASE}, b"  1     2\n"),
+        "a table of 18,945 bytes": ({"table.txt": b"x" * 18_945, "orders.txt": RELEASE}, b"  5     0\n"),
+        "a table of 30 MB": ({"table.txt": TABLE * 810_811, "orders.txt": RELEASE}, b"  5     0\n"),
+        "orders of 30 MB": ({"table.txt": TABLE, "orders.txt": RELEASE * 3_333_334}, b" 41     0\n"),
+        "both of 30 MB": ({"table.txt": b"\n" * 30_000_000, "orders.txt": b" " * 30_000_000}, b"  5     0\n"),
+    },
+    "replay": {
+        "no files": ({}, b""),
+        "no calls": ({"table.txt": TABLE}, FIGURES),
+        "no table": ({"calls.txt": b" 1    48\n" + REGISTER}, b" 14   0   1 1\n"),
+        "folders": ({"table.txt": FOLDER, "calls.txt": FOLDER}, b""),
+        "a cut call": ({"table.txt": TABLE, "calls.txt": b" 2     9\n" + RELEASE[:-1]}, b"end         0\n" + FIGURES),
+        "a table of 30 MB": ({"table.txt": TABLE * 810_811, "calls.txt": b" 2     9\n" + RELEASE}, b"  5     0\n 13   0   0 0\n"),
+    },
+}
+
+
+def stored(kind):
+    """The stored cases of this kind, and for admit the examples: name, input files, printed.txt."""
+    found = [path for path in sorted(STORED.iterdir()) if path.is_dir() and path.name.startswith("replay") == (kind == "replay")]
+    if found and kind == "admit":
+        found += EXAMPLES
+    for folder in found:
+        inputs = [path for path in folder.glob("*.txt") if path.name != "printed.txt"]
+        yield folder.name, {path.name: path.read_bytes() for path in inputs}, (folder / "printed.txt").read_bytes()
+
+
+def fill(folder, files):
+    for name, content in files.items():
+        if content is FOLDER:
+            (folder / name).mkdir()
+        else:
+            (folder / name).write_bytes(content)
+
+
+def run(program, files):
+    """Code and standard output of the program in a folder that holds these files."""
+    folder = Path(tempfile.mkdtemp(prefix="vectors-"))
+    try:
+        fill(folder, files)
+        done = subprocess.run([program], cwd=folder, stdin=subprocess.DEVNULL, stdout=subprocess.PIPE, timeout=SECONDS)
+        return done.returncode, done.stdout
+    finally:
+        shutil.rmtree(folder)
+
+
+def difference(found, expected):
+    """The first line that differs, for a message."""
+    one, other = found.splitlines(keepends=True), expected.splitlines(keepends=True)
+    at = next((i for i, (a, b) in enumerate(zip(one, other)) if a != b), min(len(one), len(other)))
+    shown = [lines[at] if at < len(lines) else "nothing" for lines in (one, other)]
+    return f"line {at + 1}: printed {shown[0]!r}, expected {shown[1]!r}"
+
+
+def judge(program, name, files, expected):
+    try:
+        code, found = run(program, files)
+    except subprocess.TimeoutExpired:
+        sys.exit(f"vectors: {name}: not done after {SECONDS} s")
+    except OSError as error:
+        sys.exit(f"vectors: {program}: {error.strerror}")
+    if found != expected:
+        sys.exit(f"vectors: {name}: {difference(found, expected)}")
+    if code != 0:
+        sys.exit(f"vectors: {name}: the program ended with {code}")
+
+
+def main(arguments):
+    if len(arguments) != 2 or arguments[1] not in ODD:
+        sys.exit("usage: tests/vectors.py PROGRAM admit|replay")
+    program, kind = str(Path(arguments[0]).resolve()), arguments[1]
+    cases = list(stored(kind))
+    if not cases:
+        sys.exit(f"vectors: no case of {kind} in {STORED}")
+    for name, files, expected in cases:
+        judge(program, name, files, expected)
+    odd = ODD[kind]
+    for name, (files, expected) in odd.items():
+        judge(program, name, files, expected)
+    print(f"vectors: {kind}: {len(cases)} stored cases and {len(odd)} odd files passed")
+
+
+main(sys.argv[1:])
