@@ -11,6 +11,7 @@ pub mod Schedulable
 pub mod Reference
 pub mod Answers
 pub mod Batch
+pub mod WorkedBatch
 pub mod Consistent
 pub mod Admissible
 pub mod Outcomes

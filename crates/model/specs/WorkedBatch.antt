@@ -1,0 +1,55 @@
+-- Document 01, "Whole batch", worked out from the definitions; and batches that show what counts as a line, and which refusal comes first.
+use Prim.Native.Nat.{ℕ, zero, suc}
+use Prim.Native.Char.{code}
+use Prim.Native.String.{String, len, charAt}
+use mathlib.Core.Path.{_≡_, refl}
+use mathlib.Core.List.{List, [], _∷_, map}
+use Rattle.model.specs.Columns.{isDigit, digits, number, field, fieldAt, padded, justified, between, prepend, lines}
+use Rattle.model.specs.QueueTable.{rowFields, row, rowInRange, continues, begins, rowInTurn, sameLink, rowAgrees, rowCause, queueOf, newLink, addLevel, addRow, rowStep, lineStep, readLines, readTable}
+use Rattle.model.specs.Orders.{headFields, hopField, hopFields, pathFields, numberInRange, hopsInRange, headInRange, flowOf, withPath, registrationOf, registration, releaseOf, releaseLine, orderOfKind, readOrder, orderLine}
+use Rattle.model.specs.Total.{total, largest}
+use Rattle.model.specs.Formula.{ceilDiv, burstAtHop, residual, withinRate, delayBound, backlogBound, interference, levelResidual, delay, backlog}
+use Rattle.model.specs.LinkCheck.{isEmpty, levelCode, orElse, levelsFinding, rateCode, linkFinding}
+use Rattle.model.specs.Aggregates.{nth, linkAt, queueAt, thresholdOf, entries, allEntries, sameHop, addsAt, aggregateAt, levelAggregates}
+use Rattle.model.specs.Reference.{slotCount, hopEntries, heldFlows, heldHops, withNumber, crosses, thresholdSum, firstCause, whole, atHop, isNone, start, end, noQueue, metEarlier, startsElsewhere, numberFinding, lineFindings, deadlineFinding, every, isHeld, roomFindings, linkCause, causeAt, linkFindings, registerFindings, findings, firstIndex, holds, refuse, fill, perform, decide, apply, tableOf, opened}
+use Rattle.model.specs.Answers.{answerColumns, answerLine}
+use Rattle.model.specs.Batch.{Batch, lineAnswers, answerText, refusedBatch, doneBatch, tooLong, tooShort, afterTable, batch}
+
+-- The bytes of a text in ASCII.
+bytesFrom : (place count : ℕ) → String → List ℕ
+bytesFrom place zero text = []
+bytesFrom place (suc n) text = code (charAt text place) ∷ bytesFrom (suc place) n text
+
+bytes : String → List ℕ
+bytes text = bytesFrom 0 (len text) text
+
+-- What is worked out, and what document 01 gives for it.
+pub record Worked : Type 0 where
+  pub worked : Batch
+  pub given : Batch
+
+worked : (table orders area : String) (code line : ℕ) (area′ : String) → Worked
+worked table orders area code line area′ =
+    record { worked = batch (bytes table) (bytes orders) (bytes area); given = record { code = code; line = line; area = bytes area′ } }
+
+pub workedBatches : List Worked
+workedBatches =
+    -- the whole batch, in an area four bytes longer than it needs
+    worked
+    "   1   1   2   100 1    370     2000\n   1   1   2   100 2    374     2000\n"
+    " 1     7     1000    1542 1542     370  1   1 1\n 1     8     1000    1542 1542     374  1   1 2\n 2     7\n 1     8     1000    1542 1542     374  1   1 2\n"
+    "...................................................................................."
+    0
+    4
+    "     1  0   1   0 0\n     2 22   0   1 1\n     3  0   1   0 0\n     4  0   1   0 0\n...."
+    -- bytes after the last LF are a line
+    ∷ worked "" "?" "...................." 0 1 "     1 10   0   0 0\n"
+    -- an area too short by a byte
+    ∷ worked "" "?" "..................." 40 0 "..................."
+    -- the table's refusal comes before 40
+    ∷ worked "?" "?" "" 1 1 ""
+    ∷ []
+
+pub worked-batches : map (λ w. w .worked) workedBatches ≡ map (λ w. w .given) workedBatches
+unfolding workedBatches worked bytes bytesFrom isDigit digits number field fieldAt padded justified between prepend lines rowFields row rowInRange continues begins rowInTurn sameLink rowAgrees rowCause queueOf newLink addLevel addRow rowStep lineStep readLines readTable headFields hopField hopFields pathFields numberInRange hopsInRange headInRange flowOf withPath registrationOf registration releaseOf releaseLine orderOfKind readOrder orderLine total largest ceilDiv burstAtHop residual withinRate delayBound backlogBound interference levelResidual delay backlog isEmpty levelCode orElse levelsFinding rateCode linkFinding nth linkAt queueAt thresholdOf entries allEntries sameHop addsAt aggregateAt levelAggregates slotCount hopEntries heldFlows heldHops withNumber crosses thresholdSum firstCause whole atHop isNone start end noQueue metEarlier startsElsewhere numberFinding lineFindings deadlineFinding every isHeld roomFindings linkCause causeAt linkFindings registerFindings findings firstIndex holds refuse fill perform decide apply tableOf opened answerColumns answerLine lineAnswers answerText refusedBatch doneBatch tooLong tooShort afterTable batch
+worked-batches = refl
