@@ -82,7 +82,7 @@ module _ (kind : Kind) {M : Type 1} (𝓤 : URA M) (H : Heap 𝓤) (A : Atoms �
     ensures = λ _ r _. fact 𝓤 (Performs (a .0) (callOf kind (now (a .1 .0))) r);
   }
 
-  abbrev stores : Clauses 𝓤 in-place.ended
+  abbrev pub stores : Clauses 𝓤 in-place.ended
   stores = λ κs a. record {
     ghost = Unit {0};
     requires = λ _. emp 𝓤;
@@ -92,11 +92,14 @@ module _ (kind : Kind) {M : Type 1} (𝓤 : URA M) (H : Heap 𝓤) (A : Atoms �
   abbrev pub ByValue : Contract 𝓤
   ByValue = tripleOf 𝓤 H A by-value.signature (closing 𝓤 H A by-value.ended performs)
 
+  abbrev pub Stores : Contract 𝓤
+  Stores = tripleOf 𝓤 H A in-place.signature (closing 𝓤 H A in-place.ended stores)
+
 -- the machine values of a registry and of an answer
-abbrev rv : Registry → Val
+abbrev pub rv : Registry → Val
 rv = LL.val Re.the-type Re′.the-laws
 
-abbrev av : Answer → Val
+abbrev pub av : Answer → Val
 av = EL.val An.the-type An′.the-laws
 
 -- what whoever holds a call's result knows of its fields

@@ -1,8 +1,10 @@
 // Direct calls that change the registry where it stands (document 01, "Where each form goes"): thin functions over the calls by value.
 ghost use Rattle.model.specs.Reference as model;
-ghost use Rattle.registry.specs.View.{callOf};
+ghost use Rattle.registry.specs.View.{kindOf, callOf, Performs};
 ghost use Rattle.registry_in_place.specs.View.{InPlace};
 use admission::Answer;
+use registry::Called;
+use registry::Kind;
 use registry::Registry;
 
 // Registers the flow of one order line with its LF.
@@ -21,4 +23,15 @@ pub fn release(registry: &mut Registry, bytes: &[u8]) -> Answer
     let called = registry::release(*registry, bytes);
     *registry = called.registry;
     called.answer
+}
+
+// One call of either kind on a registry that is held here and lent, for callers that hold theirs by value.
+pub fn apply(mut registry: Registry, kind: Kind, bytes: &[u8]) -> Called
+    ensures { λ r. ⌜ Performs registry (callOf (kindOf kind) (now (bytes .entry))) r ⌝ }
+{
+    let answer = match kind {
+        Kind::Register => register(&mut registry, bytes),
+        Kind::Release => release(&mut registry, bytes),
+    };
+    Called { answer, registry }
 }
