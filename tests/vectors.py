@@ -1,8 +1,9 @@
 #!/usr/bin/env python3
 """Runs a program on the stored cases and compares what it prints with printed.txt, byte by byte.
 
-    tests/vectors.py PROGRAM admit|replay
+    tests/vectors.py PROGRAM admit|replay [ARGUMENT ..]
 
+The arguments are passed on to the program, which must print the same with them.
 Each case runs in a folder of its own that holds just the case's input files. After the stored cases come some whose files
 are missing, a folder, unended or far too long. The first difference ends the run; no case at all is a failure."""
 import shutil
@@ -66,12 +67,12 @@ def fill(folder, files):
             (folder / name).write_bytes(content)
 
 
-def run(program, files):
-    """Code and standard output of the program in a folder that holds these files."""
+def run(command, files):
+    """Code and standard output of the command in a folder that holds these files."""
     folder = Path(tempfile.mkdtemp(prefix="vectors-"))
     try:
         fill(folder, files)
-        done = subprocess.run([program], cwd=folder, stdin=subprocess.DEVNULL, stdout=subprocess.PIPE, timeout=SECONDS)
+        done = subprocess.run(command, cwd=folder, stdin=subprocess.DEVNULL, stdout=subprocess.PIPE, timeout=SECONDS)
         return done.returncode, done.stdout
     finally:
         shutil.rmtree(folder)
@@ -85,13 +86,13 @@ def difference(found, expected):
     return f"line {at + 1}: printed {shown[0]!r}, expected {shown[1]!r}"
 
 
-def judge(program, name, files, expected):
+def judge(command, name, files, expected):
     try:
-        code, found = run(program, files)
+        code, found = run(command, files)
     except subprocess.TimeoutExpired:
         sys.exit(f"vectors: {name}: not done after {SECONDS} s")
     except OSError as error:
-        sys.exit(f"vectors: {program}: {error.strerror}")
+        sys.exit(f"vectors: {command[0]}: {error.strerror}")
     if found != expected:
         sys.exit(f"vectors: {name}: {difference(found, expected)}")
     if code != 0:
@@ -99,18 +100,19 @@ def judge(program, name, files, expected):
 
 
 def main(arguments):
-    if len(arguments) != 2 or arguments[1] not in ODD:
-        sys.exit("usage: tests/vectors.py PROGRAM admit|replay")
-    program, kind = str(Path(arguments[0]).resolve()), arguments[1]
+    if len(arguments) < 2 or arguments[1] not in ODD:
+        sys.exit("usage: tests/vectors.py PROGRAM admit|replay [ARGUMENT ..]")
+    program, kind, *passed = arguments
+    command = [str(Path(program).resolve()), *passed]
     cases = list(stored(kind))
     if not cases:
         sys.exit(f"vectors: no case of {kind} in {STORED}")
     for name, files, expected in cases:
-        judge(program, name, files, expected)
+        judge(command, name, files, expected)
     odd = ODD[kind]
     for name, (files, expected) in odd.items():
-        judge(program, name, files, expected)
-    print(f"vectors: {kind}: {len(cases)} stored cases and {len(odd)} odd files passed")
+        judge(command, name, files, expected)
+    print(f"vectors: {' '.join([kind, *passed])}: {len(cases)} stored cases and {len(odd)} odd files passed")
 
 
 main(sys.argv[1:])

@@ -24,6 +24,12 @@ const HEADER: usize = 9;
 // The bytes of an answer line with its LF.
 pub const ANSWER: usize = 14;
 
+// How the calls are made: on a registry by value, or on one that is held and lent. The answers are the same.
+pub enum Form {
+    ByValue,
+    InPlace,
+}
+
 // What the calls of a list leave behind: how many there were, and where the last one ends.
 struct Ran {
     registry: Registry,
@@ -101,13 +107,23 @@ fn first_call(bytes: &[u8]) -> Recorded
     Recorded::Call(kind, size)
 }
 
+// One call in either form.
+fn make_call(registry: Registry, form: Form, kind: Kind, bytes: &[u8]) -> Called
+    ensures { λ r. ⌜ Performs registry (callOf (kindOf kind) (now (bytes .entry))) r ⌝ }
+{
+    match form {
+        Form::ByValue => registry::apply(registry, kind, bytes),
+        Form::InPlace => registry_in_place::apply(registry, kind, bytes),
+    }
+}
+
 // One call, and its answer line at the start of `part`.
-fn answer_call(registry: Registry, kind: Kind, bytes: &[u8], part: &mut [u8]) -> Called
+fn answer_call(registry: Registry, form: Form, kind: Kind, bytes: &[u8], part: &mut [u8]) -> Called
     requires { ⌜ 14 ≤ length (now part) ⌝ }
     ensures { λ r. ⌜ Performs registry (callOf (kindOf kind) (now (bytes .entry))) r ⌝ }
     ensures { λ r. ⌜ now (part .exit) ≡ answerColumns (answerOf (r .answer)) ++ (10 ∷ drop 14 (now (part .entry))) ⌝ }
 {
-    let called = registry::apply(registry, kind, bytes);
+    let called = make_call(registry, form, kind, bytes);
     let answer = called.answer;
     answer_line::write_answer(answer, part);
     part[13] = LF;
@@ -115,7 +131,7 @@ fn answer_call(registry: Registry, kind: Kind, bytes: &[u8], part: &mut [u8]) ->
 }
 
 // Call after call, up to the first that isn't whole, as many as the area has room to answer.
-fn run(first: Registry, calls: &[u8], answers: &mut [u8]) -> Ran
+fn run(first: Registry, form: Form, calls: &[u8], answers: &mut [u8]) -> Ran
     ensures { λ r. ⌜ Runs first (now (calls .entry)) (now (answers .entry)) (now (answers .exit)) r ⌝ }
 {
     let most = answers.len() / ANSWER;
@@ -133,7 +149,13 @@ fn run(first: Registry, calls: &[u8], answers: &mut [u8]) -> Ran
         let start = at + HEADER;
         let end = start + size;
         let line = ANSWER * count;
-        let called = answer_call(registry, kind, &calls[start..end], &mut answers[line..]);
+        let called = answer_call(
+            registry,
+            form,
+            kind,
+            &calls[start..end],
+            &mut answers[line..],
+        );
         registry = called.registry;
         at = end;
         count += 1;
@@ -146,13 +168,13 @@ fn run(first: Registry, calls: &[u8], answers: &mut [u8]) -> Ran
 }
 
 // Opens a registry on the table text and makes the recorded calls on it, one after the other, as many as the area has room to answer.
-pub fn replay(table: &[u8], calls: &[u8], answers: &mut [u8]) -> Replayed
+pub fn replay(form: Form, table: &[u8], calls: &[u8], answers: &mut [u8]) -> Replayed
     ensures { λ r. ⌜ Replays (now (table .entry)) (now (calls .entry)) (now (answers .entry)) (now (answers .exit)) r ⌝ }
 {
     let opened = registry::open(table);
     let verdict = opened.verdict;
     let empty = opened.registry;
-    let ran = run(empty, calls, answers);
+    let ran = run(empty, form, calls, answers);
     let registry = ran.registry;
     Replayed {
         verdict,

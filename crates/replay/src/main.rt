@@ -1,4 +1,5 @@
-// Replays a recorded list of calls: reads table.txt and calls.txt, one that can't be opened as empty, and prints
+// Replays a recorded list of calls, by value or, with an argument (`replay in-place`), on a registry that is held and lent.
+// Reads table.txt and calls.txt, one that can't be opened as empty, and prints, the same in either form,
 // - where the table is refused, its code in 3 columns and line in 6;
 // - the answer to each call: code in 3 columns, place in 4, link in 4 and level in 2;
 // - where the list doesn't close with a whole call, `end` and the offset of what follows the last one in 10 columns;
@@ -12,6 +13,7 @@ ghost use Rattle.registry.specs.View.{InOrder};
 use libc::STDOUT_FILENO;
 use queue_table::Verdict;
 use recording::ANSWER;
+use recording::Form;
 use registry::Registry;
 
 // A table text above 18,944 bytes is refused for its length alone.
@@ -173,9 +175,17 @@ fn show_registry(registry: Registry)
     show_slots(&slots, &pool);
 }
 
-fn replay(table: &[u8], calls: &[u8]) {
+// Any argument asks for the calls in place; the first counted is the program's name.
+fn form_asked() -> Form {
+    if 1 < os::arg_count() {
+        return Form::InPlace;
+    }
+    Form::ByValue
+}
+
+fn replay(form: Form, table: &[u8], calls: &[u8]) {
     let mut answers = [0u8; ANSWERS];
-    let replayed = recording::replay(table, calls, &mut answers);
+    let replayed = recording::replay(form, table, calls, &mut answers);
     let verdict = replayed.verdict;
     let registry = replayed.registry;
     let end = ANSWER * replayed.count;
@@ -188,9 +198,10 @@ fn replay(table: &[u8], calls: &[u8]) {
 }
 
 fn main() {
+    let form = form_asked();
     let mut table = [0u8; TABLE];
     let mut calls = [0u8; CALLS];
     let n = read_file(b"table.txt", &mut table);
     let m = read_file(b"calls.txt", &mut calls);
-    replay(&table[..n], &calls[..m]);
+    replay(form, &table[..n], &calls[..m]);
 }

@@ -14,8 +14,8 @@ use Rattle.recording.proofs.answer_call.Tie as tie
 
 returns : tie.Need-returns
 returns c = (
-  c .before .before .before .before .apply .ensures,
-  ap (λ (l : List ℕ). set l 13 10) (c .before .before .write-answer .ensures) ∙ line-ended (answerColumns (answerOf (c .before .before .before .before .apply .result .answer))) (c .before .before .before .before .before .before .before .args .part .now) (columns-length (answerOf (c .before .before .before .before .apply .result .answer))) (c .before .before .before .before .before .before .before .pre),
+  c .before .before .before .before .make-call .ensures,
+  ap (λ (l : List ℕ). set l 13 10) (c .before .before .write-answer .ensures) ∙ line-ended (answerColumns (answerOf (c .before .before .before .before .make-call .result .answer))) (c .before .before .before .before .before .before .before .args .part .now) (columns-length (answerOf (c .before .before .before .before .make-call .result .answer))) (c .before .before .before .before .before .before .before .pre),
 )
 
 pub answer-call-spec : {M : Type 1} → statement M

@@ -13,10 +13,10 @@ use Rattle.recording.proofs.run.Statement.{statement}
 use Rattle.recording.proofs.run.Tie as tie
 
 abbrev Inv-loop : tie.InvT-loop
-Inv-loop calls answers₀ most registry₀ at₀ count₀ answers registry at count = Going registry₀ calls answers₀ most registry at count answers
+Inv-loop form calls answers₀ most registry₀ at₀ count₀ answers registry at count = Going registry₀ calls answers₀ most registry at count answers
 
 abbrev μ-loop : tie.MeasureT-loop
-μ-loop calls answers₀ most registry₀ at₀ count₀ answers registry at count = most - count
+μ-loop form calls answers₀ most registry₀ at₀ count₀ answers registry at count = most - count
 
 -- What the header at `at` says, once it is known.
 found : (c : tie.After-first-call Inv-loop μ-loop) (r : Recorded) → c .first-call .result ≡ r → FirstCall (restAt (c .before .before .before .before .before .before .args .calls .now) (c .before .before .before .loop .at)) r

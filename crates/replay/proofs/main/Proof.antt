@@ -21,5 +21,5 @@ slice-aggregate-replay-2 c = sym (length-take-le _ _ (c .before .before .before 
 pub main-spec : {M : Type 1} → statement M
 main-spec =
     tie.close
-    (tie.spec (λ c. search needs) (λ c. search needs) (λ c κs. search needs) (λ c. search needs) (λ c. search needs) (λ c κs. search needs)
+    (tie.spec (λ c κs. search needs) (λ c. search needs) (λ c. search needs) (λ c κs. search needs) (λ c. search needs) (λ c. search needs) (λ c κs. search needs)
     array-share-prefix-table slice-aggregate-replay array-share-prefix-calls slice-aggregate-replay-2 (λ c κs. search needs) (λ c. search needs))

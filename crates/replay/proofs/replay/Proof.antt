@@ -16,7 +16,7 @@ under n k h = subst (λ (m : ℕ). k ≤ m) (length-replicate {A = ℕ} n 0) h
 few : (c : tie.After-replay) → 14 * c .replay .result .count ≤ 311122
 few c = under 311122 (14 * c .replay .result .count) (count-fits (c .replay .ensures))
 
-long : (c : tie.After-show-verdict) → length (c .before .before .before .before .replay .last .1 .1 .0) ≡ 311122
+long : (c : tie.After-show-verdict) → length (c .before .before .before .before .replay .last .1 .1 .1 .0) ≡ 311122
 long c = search needs
 
 mul-end : tie.Need-mul-end
