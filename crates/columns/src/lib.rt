@@ -6,7 +6,7 @@ ghost use Prim.Native.Nat.{_+_, _%_, _≤_, _<_};
 ghost use lib.Dec.{eqb};
 ghost use lib.ListN.{length, drop};
 ghost use Rattle.model.specs.Columns.{field, fieldAt, digits, justified, writtenAt, between};
-ghost use Rattle.columns.specs.Reading.{valueOf, AfterBlanks, FirstLine};
+ghost use Rattle.columns.specs.Reading.{valueOf, AfterBlanks, lfWithin, SameLine, FirstLine};
 
 const BLANK: u8 = 32;
 
@@ -152,12 +152,43 @@ pub fn write_at(line: &mut [u8], first: usize, last: usize, n: u64)
     write_field(&mut line[start..], last - start, n);
 }
 
+// Whether an LF stands in the 8 bytes from `at` on. All of them are looked at, so that it can be done at once.
+fn has_lf(text: &[u8], at: usize) -> bool
+    requires { ⌜ at + 8 ≤ length (now text) ⌝ }
+    ensures { λ r. ⌜ r ≡ lfWithin (now (text .entry)) at 8 ⌝ }
+{
+    let mut found = false;
+    let mut i = 0;
+    while i < 8 {
+        if text[at + i] == LF {
+            found = true;
+        }
+        i += 1;
+    }
+    found
+}
+
+// Passes whole blocks of 8 bytes without an LF.
+fn skip_blocks(text: &[u8], at: usize) -> usize
+    requires { ⌜ at < length (now text) ⌝ }
+    ensures { λ r. ⌜ SameLine (now (text .entry)) at r ⌝ }
+{
+    let mut i = at;
+    while 8 <= text.len() - i {
+        if has_lf(text, i) {
+            return i;
+        }
+        i += 8;
+    }
+    i
+}
+
 // Where the line that starts at `at` ends.
 pub fn next_line(text: &[u8], at: usize) -> NextLine
     requires { ⌜ at < length (now text) ⌝ }
     ensures { λ r. ⌜ FirstLine (now (text .entry)) at r ⌝ }
 {
-    let mut i = at;
+    let mut i = skip_blocks(text, at);
     while i < text.len() {
         if text[i] == LF {
             return NextLine::Ended(i);
