@@ -40,3 +40,22 @@ module _ (text : List ℕ) (i : ℕ) where
       go true e = count-ended h (eqb-true (getD text i 0) 10 e) ∙ ap (λ (ls : List Line). suc (length ls)) nothing
       go false e =
           ap length (lines-more text i h (eqb-false (getD text i 0) 10 e)) ∙ ap (λ (ls : List Line). length (prepend (getD text i 0) ls)) nothing ∙ alone (getD text i 0)
+
+-- The same at the byte `i` of a block that starts at `at`.
+module _ (text : List ℕ) (at : ℕ) where
+  pub block-begun : length (lines (drop (at + 0) text)) ≡ length (lines (drop at text))
+  block-begun =
+      let same : at + 0 ≡ at = omega arith in
+      ap (λ (n : ℕ). length (lines (drop n text))) same
+
+  pub block-ended : (i : ℕ) → at + i < length text → getD text (at + i) 0 ≡ 10
+      → length (lines (drop (at + i) text)) ≡ suc (length (lines (drop (at + (i + 1)) text)))
+  block-ended i h e =
+      let same : at + i + 1 ≡ at + (i + 1) = omega arith in
+      count-ended text (at + i) h e ∙ ap (λ (n : ℕ). suc (length (lines (drop n text)))) same
+
+  pub block-other : (i : ℕ) → at + i + 1 < length text → (getD text (at + i) 0 ≡ 10 → ⊥)
+      → length (lines (drop (at + i) text)) ≡ length (lines (drop (at + (i + 1)) text))
+  block-other i h e =
+      let same : at + i + 1 ≡ at + (i + 1) = omega arith in
+      count-other text (at + i) h e ∙ ap (λ (n : ℕ). length (lines (drop n text))) same

@@ -3,8 +3,8 @@
 // The registry stands in local columns, those of `queue_table`, `flow_store` and `figures`. It was made here, so that it is
 // consistent and 42 isn't looked for.
 ghost use mathlib.Core.Path.{_≡_};
-ghost use Prim.Native.Nat.{_<_};
-ghost use lib.ListN.{length};
+ghost use Prim.Native.Nat.{_+_, _≤_, _<_};
+ghost use lib.ListN.{length, drop};
 ghost use Rattle.model.specs.Columns.{lines};
 ghost use Rattle.admission.specs.View.{Kept};
 ghost use Rattle.batch.specs.View.{noFlows, noHops, noSums, LineDone, Room, Answered, Judged, Batched};
@@ -27,17 +27,31 @@ struct Advance {
     next: usize,
 }
 
-// How many lines a text has. Each LF before the last byte ends one, and the last byte belongs to one more.
-fn count_lines(text: &[u8]) -> usize
-    ensures { λ r. ⌜ r ≡ length (lines (now (text .entry))) ⌝ }
+// How many LFs stand in the 128 bytes from `at` on. The counter is a byte, so that many are counted at once.
+fn count_block(text: &[u8], at: usize) -> u8
+    requires { ⌜ at + 128 < length (now text) ⌝ }
+    ensures { λ r. ⌜ r ≤ 128 ⌝ }
+    ensures { λ r. ⌜ r + length (lines (drop (at + 128) (now (text .entry)))) ≡ length (lines (drop at (now (text .entry)))) ⌝ }
 {
-    let size = text.len();
-    if size == 0 {
-        return 0;
-    }
-    let last = size - 1;
-    let mut count = 0;
+    let mut count: u8 = 0;
     let mut i = 0;
+    while i < 128 {
+        if text[at + i] == LF {
+            count += 1;
+        }
+        i += 1;
+    }
+    count
+}
+
+// The lines from `at` on, after `before` others. Each LF before the last byte ends one, and the last byte belongs to one more.
+fn count_rest(text: &[u8], at: usize, before: usize) -> usize
+    requires { ⌜ (at < length (now text)) × (before ≤ at) ⌝ }
+    ensures { λ r. ⌜ r ≡ before + length (lines (drop at (now (text .entry)))) ⌝ }
+{
+    let last = text.len() - 1;
+    let mut count = before;
+    let mut i = at;
     while i < last {
         if text[i] == LF {
             count += 1;
@@ -45,6 +59,24 @@ fn count_lines(text: &[u8]) -> usize
         i += 1;
     }
     count + 1
+}
+
+// How many lines a text has.
+fn count_lines(text: &[u8]) -> usize
+    ensures { λ r. ⌜ r ≡ length (lines (now (text .entry))) ⌝ }
+{
+    let size = text.len();
+    if size == 0 {
+        return 0;
+    }
+    let mut count = 0;
+    let mut at = 0;
+    while 128 < size - at {
+        let more = count_block(text, at);
+        count += more as usize;
+        at += 128;
+    }
+    count_rest(text, at, count)
 }
 
 // Carries out the order of the line that starts at `at`.
