@@ -135,6 +135,11 @@ def put(column, index, n):
     return (f"x{column:2}{index:5}{n:9}\n", "")
 
 
+def slot(i, k):
+    """Where slot i, counted from 0, has its flow number (k = 0), rate, burst, largest frame, deadline, hop count (k = 5)."""
+    return 256 * k + i
+
+
 def queues(*pairs):
     """One link at 100 Mbit/s, a threshold and a buffer for each level."""
     return "".join(row(1, 1, 2, 100, p, t, b) for p, (t, b) in enumerate(pairs, 1))
@@ -178,7 +183,7 @@ def damaged(*changes):
 
 def hop(k, burst):
     """The numbers by which flow 7 of the chain gets a k-th hop, its figures with it."""
-    return [(SLOTS, 5, k, k - 1), (POOL, k - 1, 8 * k - 8, 0)] + [
+    return [(SLOTS, slot(0, 5), k, k - 1), (POOL, k - 1, 8 * k - 8, 0)] + [
         (SUMS, 24 * k - 24 + i, n, 0) for i, n in enumerate([1, burst, 1542])]
 
 
@@ -239,9 +244,9 @@ registries = [
         (on(100, 0, 5), said(31)),
         (on(100, 0, 4), said(0, 86)),
         (on(101, 0, 1), said(31)),
-        put(SLOTS, 6 * 85 + 5, 5),                               # counts that pass the pool
+        put(SLOTS, slot(85, 5), 5),                              # counts that pass the pool
         (on(101, 0, 1), said(42)),
-        put(SLOTS, 6 * 85 + 5, 4),
+        put(SLOTS, slot(85, 5), 4),
         (on(101, 0, 1), said(31)),
         (on(200, 0, 12), said(31)),
         (gone(40), said(0, 40)),                                 # free at once
@@ -289,21 +294,21 @@ registries = [
         + [put(*change[:3]) for change in hop(12, 1558)] + [(reg(), said(12))]   # a twelfth hop: nothing wrong
         + damaged(*hop(13, 1559))),                              # a thirteenth, all else right
     (exact, both
-        + damaged((SLOTS, 2, 1541, 1542), (SUMS, 1, 1541, 1542)) # 17, the figures right
+        + damaged((SLOTS, slot(0, 2), 1541, 1542), (SUMS, 1, 1541, 1542))        # 17, the figures right
         + damaged((POOL, 0, 8, 0), *((SUMS, i, 0, n) for i, n in enumerate([1000, 1542, 1542])),
                   *((SUMS, 24 + i, n, 0) for i, n in enumerate([1000, 1542, 1542])))     # 14, the figures right
-        + damaged((SLOTS, 5, 13, 1))                             # a hop count of 13
-        + damaged((SLOTS, 5, 0, 1))                              # a flow gone, its figures not
+        + damaged((SLOTS, slot(0, 5), 13, 1))                    # a hop count of 13
+        + damaged((SLOTS, slot(0, 5), 0, 1))                     # a flow gone, its figures not
         + damaged((POOL, 0, 2, 0))                               # level 3: no such queue
         + damaged((POOL, 0, 8, 0))                               # link 2
         + damaged((POOL, 1, 999999999, 1))
         + damaged((SUMS, 0, 1001, 1000))                         # a figure off by one
         + damaged((SUMS, 1, 1541, 1542))
         + damaged((SUMS, 5, 1541, 1542))
-        + damaged((SLOTS, 6, 7, 8))                              # two flows of one number
-        + damaged((SLOTS, 6, 0, 8))                              # flow number 0
-        + damaged((SLOTS, 3, 1543, 1542))                        # largest frame above burst
-        + damaged((SLOTS, 4, 370, 1000))                         # deadline below the threshold
+        + damaged((SLOTS, slot(1, 0), 7, 8))                     # two flows of one number
+        + damaged((SLOTS, slot(1, 0), 0, 8))                     # flow number 0
+        + damaged((SLOTS, slot(0, 3), 1543, 1542))               # largest frame above burst
+        + damaged((SLOTS, slot(0, 4), 370, 1000))                # deadline below the threshold
         + damaged((LINKS, 3, 0, 2))                              # number of levels
         + damaged((LINKS, 3, 9, 2))
         + damaged((LINKS, 0, 2, 1))                              # from equals to
@@ -314,7 +319,7 @@ registries = [
         + damaged((COUNT, 0, 0, 1))                              # paths without a link
         + damaged((COUNT, 0, 2, 1))                              # a link of no levels
         + damaged((COUNT, 0, 65, 1))
-        + [put(SLOTS, 12, 7), put(POOL, 2, 999), (reg(), said(12))]),    # a free slot, a free entry: nothing wrong
+        + [put(SLOTS, slot(2, 0), 7), put(POOL, 2, 999), (reg(), said(12))]),    # a free slot, a free entry: nothing wrong
 ]
 
 

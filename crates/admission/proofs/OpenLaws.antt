@@ -26,7 +26,7 @@ zeros (suc m) (suc j) = zeros m j
 
 free-count : (m i : ℕ) → countAt (replicate m 0) i ≡ 0
 unfolding countAt
-free-count m i = zeros m (6 * i + 5)
+free-count m i = zeros m (1280 + i)
 
 free-slots : (m n i : ℕ) (pool : List ℕ) → slotsFrom n i (replicate m 0) pool ≡ replicate n none
 unfolding slotsFrom slotOf

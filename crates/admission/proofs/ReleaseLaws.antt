@@ -1,6 +1,6 @@
 -- A release: the flow in a held slot was counted in at its queues, and the registry without it is consistent again.
 -- Assumes nothing.
-use Prim.Native.Nat.{ℕ, zero, suc, _+_, _*_, _≤_, _<_, max}
+use Prim.Native.Nat.{ℕ, zero, suc, _+_, _≤_, _<_, max}
 use mathlib.Core.Path.{_≡_, refl, sym, ap, subst, _∙_}
 use mathlib.Core.Bool.{Bool, true, false, cond, false≢true}
 use mathlib.Core.List.{List, [], _∷_}
@@ -20,7 +20,7 @@ use Rattle.model.specs.Laws.Figures.{carried}
 use Rattle.model.specs.Laws.Slot.{index-found, number-index}
 use Rattle.model.specs.Laws.Reached.{StateRules, state-rules, rules-state, clear-keeps}
 use Rattle.queue_table.specs.View.{tableOf, hopAt, isQueue}
-use Rattle.flow_store.specs.View.{Store, slotsOf, slotOf, flowAt, countAt}
+use Rattle.flow_store.specs.View.{Store, slotsOf, slotOf, rateAt, burstAt, frameAt, flowAt, countAt}
 use Rattle.flow_store.proofs.ViewLaws.{length-slots, slot-at}
 use Rattle.figures.specs.View.{Figures, FlowOf, PathCounted, Carried, Left, PathRemoved, figureAt, raised}
 use Rattle.queue_table.proofs.EntryLaws.{queue-low}
@@ -72,12 +72,12 @@ module _ (n : ℕ) (links queues slots pool sums : List ℕ) (k : Kept n links q
     pub ranged : Ranged queues slots pool slot
     ranged = countable n links queues slots pool (k .columns) (k .store) (rules .table) (kept-alone (stateOf n links queues slots pool) rules) .each slot inside held
 
-    some-rate : 1 ≤ getD slots (6 * slot + 1) 0
+    some-rate : 1 ≤ rateAt slots slot
     unfolding flowAt
     some-rate =
         ranges flow (by-itself n links queues slots pool (k .columns) (k .store) (rules .table) (kept-alone (stateOf n links queues slots pool) rules) slot inside held .0) .some-rate
 
-    is : FlowOf (getD slots (6 * slot + 1) 0) (getD slots (6 * slot + 2) 0) (getD slots (6 * slot + 3) 0) entries flow
+    is : FlowOf (rateAt slots slot) (burstAt slots slot) (frameAt slots slot) entries flow
     unfolding flowAt
     is = record { rate-is = refl; burst-is = refl; frame-is = refl; path-is = refl }
 
@@ -88,7 +88,7 @@ module _ (n : ℕ) (links queues slots pool sums : List ℕ) (k : Kept n links q
           same = λ e lt. k .figures .same e lt ∙ figures-cleared t (hopAt e) (slotsOf slots pool) slot found;
         }
 
-    pub counted : PathCounted (getD slots (6 * slot + 1) 0) (getD slots (6 * slot + 2) 0) (getD slots (6 * slot + 3) 0) queues entries sums
+    pub counted : PathCounted (rateAt slots slot) (burstAt slots slot) (frameAt slots slot) queues entries sums
     counted =
         record { n = n; links = links; f = flow; fs = left; named = on slot inside; is = is; figures = with-flow }
 
@@ -120,7 +120,7 @@ module _ (n : ℕ) (links queues slots pool sums : List ℕ) (k : Kept n links q
           all-imp (entriesIn slots′ pool′ i) (λ e q. queue-low n links e q (k .columns .few))
           (on-queues n links queues slots′ pool′ (k .columns) store (rules′ .table) (kept-alone (stateOf n links queues slots′ pool′) rules′) i lt)
 
-      module _ {again : Bool} {sums′ : List ℕ} (removed : PathRemoved (getD slots (6 * slot + 1) 0) (getD slots (6 * slot + 2) 0) (getD slots (6 * slot + 3) 0) queues entries sums sums′ again) where
+      module _ {again : Bool} {sums′ : List ℕ} (removed : PathRemoved (rateAt slots slot) (burstAt slots slot) (frameAt slots slot) queues entries sums sums′ again) where
         at-queue : (e : ℕ) → e < 512 → Left again (figureAt sums′ e) (aggregateAt t left (hopAt e))
         at-queue = removed .left n links flow left (on slot inside) is with-flow some-rate carries
 

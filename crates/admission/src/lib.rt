@@ -19,6 +19,9 @@ ghost use Rattle.figures.specs.View.{Hops, Below, PathAdded};
 ghost use Rattle.admission.specs.View.{causeIn, LineRead, OrderRead, Kept, Stepped};
 use figures::PathFinding;
 use flow_check::Cause;
+use flow_store::BURSTS;
+use flow_store::FRAMES;
+use flow_store::RATES;
 use orders::Flow;
 use orders::Order;
 use units::Bytes;
@@ -139,10 +142,9 @@ fn take_out(
     ensures { λ _. ⌜ slotsOf (now (slots .exit)) (now (pool .exit)) ≡ set (slotsOf (now (slots .entry)) (now (pool .entry))) slot none ⌝ }
     ensures { λ _. ⌜ Kept n (now (links .entry)) (now (queues .entry)) (now (slots .exit)) (now (pool .exit)) (now (sums .exit)) ⌝ }
 {
-    let at = 6 * slot;
-    let rate = Rate(slots[at + 1] as u64);
-    let burst = Bytes(slots[at + 2] as u64);
-    let frame = Bytes(slots[at + 3] as u64);
+    let rate = Rate(slots[RATES + slot] as u64);
+    let burst = Bytes(slots[BURSTS + slot] as u64);
+    let frame = Bytes(slots[FRAMES + slot] as u64);
     let mut entries = [0u32; 12];
     let hops = flow_store::path_into(slot, &slots[..], &pool[..], &mut entries);
     flow_store::remove(slot, slots, pool);

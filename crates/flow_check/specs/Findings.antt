@@ -1,10 +1,10 @@
 -- What the answers of this crate say in the terms of the model.
-use Prim.Native.Nat.{ℕ, _+_, _*_}
+use Prim.Native.Nat.{ℕ}
 use mathlib.Core.Path.{_≡_}
 use mathlib.Core.Bool.{Bool, true, _&&_}
 use mathlib.Core.List.{List, [], _∷_, _++_, map}
 use mathlib.Core.Option.{Option, none, some}
-use lib.ListN.{length, getD, take, drop}
+use lib.ListN.{length, take, drop}
 use lib.Dec.{leb, ltb, eqb}
 use Rattle.model.specs.QueueTable.{Table}
 use Rattle.model.specs.Orders as model
@@ -15,7 +15,7 @@ use Rattle.orders.specs.declared.Flow.{Flow}
 use Rattle.orders.specs.Reading.{fieldsOf}
 use Rattle.queue_table.specs.View.{tableOf, hopAt}
 use Rattle.path_check.specs.Causes.{AllQueues, linePath}
-use Rattle.flow_store.specs.View.{Store, slotsOf, countAt, countsFrom}
+use Rattle.flow_store.specs.View.{Store, slotsOf, numberAt, rateAt, burstAt, frameAt, deadlineAt, countAt, countsFrom}
 use Rattle.flow_check.specs.declared.Cause.{Cause}
 use Rattle.flow_check.specs.declared.Cause.the-variants.{Nothing, Whole, At}
 use Rattle.flow_check.specs.declared.Judged.{Judged}
@@ -85,12 +85,12 @@ slotAlone t slots i (some f) =
 abbrev pub headAt : (slots : List ℕ) (i : ℕ) → model.Head
 headAt slots i =
     record {
-      number = getD slots (6 * i) 0;
-      rate = getD slots (6 * i + 1) 0;
-      burst = getD slots (6 * i + 2) 0;
-      frame = getD slots (6 * i + 3) 0;
-      deadline = getD slots (6 * i + 4) 0;
-      hops = getD slots (6 * i + 5) 0;
+      number = numberAt slots i;
+      rate = rateAt slots i;
+      burst = burstAt slots i;
+      frame = frameAt slots i;
+      deadline = deadlineAt slots i;
+      hops = countAt slots i;
     }
 
 -- The hop entries of slot i.

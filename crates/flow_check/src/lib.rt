@@ -11,6 +11,11 @@ ghost use Rattle.path_check.specs.Causes.{AllQueues};
 ghost use Rattle.flow_store.specs.View.{Store, slotsOf, countAt};
 ghost use Rattle.orders.specs.Reading.{fieldsOf};
 ghost use Rattle.flow_check.specs.Findings.{causeOf, entryFindings, PathJudged, FlowJudged, RoomJudged, flowAlone, slotAlone, headAt, entriesAt, pathFindings};
+use flow_store::BURSTS;
+use flow_store::DEADLINES;
+use flow_store::FRAMES;
+use flow_store::HOPS;
+use flow_store::RATES;
 use orders::Flow;
 use units::Bytes;
 use units::Micros;
@@ -159,14 +164,13 @@ fn numbers_at(slot: usize, slots: &[u32]) -> Flow
     requires { ⌜ (length (now slots) ≡ 1536) × (slot < 256) ⌝ }
     ensures { λ r. ⌜ fieldsOf r ≡ headAt (now (slots .entry)) slot ⌝ }
 {
-    let at = 6 * slot;
     Flow {
-        number: slots[at],
-        rate: Rate(slots[at + 1] as u64),
-        burst: Bytes(slots[at + 2] as u64),
-        frame: Bytes(slots[at + 3] as u64),
-        deadline: Micros(slots[at + 4] as u64),
-        hops: slots[at + 5],
+        number: slots[slot],
+        rate: Rate(slots[RATES + slot] as u64),
+        burst: Bytes(slots[BURSTS + slot] as u64),
+        frame: Bytes(slots[FRAMES + slot] as u64),
+        deadline: Micros(slots[DEADLINES + slot] as u64),
+        hops: slots[HOPS + slot],
     }
 }
 

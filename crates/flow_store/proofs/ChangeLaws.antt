@@ -28,22 +28,22 @@ rest-same c m p q e = sym (drop-take c m q) ∙ ap (drop c) e ∙ drop-take c m 
 module _ (slots slots′ : List ℕ) where
   -- The numbers of n slots from slot i on are the same.
   abbrev Same : (n i : ℕ) → Type 0
-  Same n i = (j : ℕ) → 6 * i ≤ j → j < 6 * (i + n) → getD slots′ j 0 ≡ getD slots j 0
+  Same n i = (j r : ℕ) → i ≤ j → j < i + n → getD slots′ (256 * r + j) 0 ≡ getD slots (256 * r + j) 0
 
   count-same : (n i : ℕ) → Same (suc n) i → countAt slots′ i ≡ countAt slots i
   unfolding countAt
-  count-same n i same = same (6 * i + 5) (omega arith) (omega arith)
+  count-same n i same = same i 5 (omega arith) (omega arith)
 
   flow-same : (n i : ℕ) (a b : List ℕ) → Same (suc n) i → a ≡ b → flowAt slots′ i a ≡ flowAt slots i b
   unfolding flowAt
   flow-same n i a b same e =
       λ t.
       record {
-        number = same (6 * i) (omega arith) (omega arith) t;
-        rate = same (6 * i + 1) (omega arith) (omega arith) t;
-        burst = same (6 * i + 2) (omega arith) (omega arith) t;
-        frame = same (6 * i + 3) (omega arith) (omega arith) t;
-        deadline = same (6 * i + 4) (omega arith) (omega arith) t;
+        number = (rw (zero-add i) at (same i 0 (omega arith) (omega arith))) t;
+        rate = same i 1 (omega arith) (omega arith) t;
+        burst = same i 2 (omega arith) (omega arith) t;
+        frame = same i 3 (omega arith) (omega arith) t;
+        deadline = same i 4 (omega arith) (omega arith) t;
         path = map hopAt (e t);
       }
 
@@ -51,7 +51,7 @@ module _ (slots slots′ : List ℕ) where
   unfolding countsFrom
   counts-same zero i same = refl
   counts-same (suc n) i same =
-      ap₂ (λ (a b : ℕ). a + b) (count-same n i same) (counts-same n (suc i) (λ j low high. same j (omega arith) (omega arith)))
+      ap₂ (λ (a b : ℕ). a + b) (count-same n i same) (counts-same n (suc i) (λ j r low high. same j r (omega arith) (omega arith)))
 
   slots-same : (n i : ℕ) (p q : List ℕ) → Same n i → take (countsFrom n i slots) q ≡ take (countsFrom n i slots) p
       → slotsFrom n i slots′ q ≡ slotsFrom n i slots p
@@ -62,15 +62,15 @@ module _ (slots slots′ : List ℕ) where
       let m = countsFrom n (suc i) slots in
       rw (count-same n i same)
       (ap₂ (λ (f : Flow) (l : List Slot). slotOf c f ∷ l) (flow-same n i (take c q) (take c p) same (front-same c m p q e))
-      (slots-same n (suc i) (drop c p) (drop c q) (λ j low high. same j (omega arith) (omega arith)) (rest-same c m p q e)))
+      (slots-same n (suc i) (drop c p) (drop c q) (λ j r low high. same j r (omega arith) (omega arith)) (rest-same c m p q e)))
 
 -- Slot k has changed, and the others haven't.
-module _ (slots slots′ : List ℕ) (k : ℕ) (inside : k < 256) (below : (j : ℕ) → j < 6 * k → getD slots′ j 0 ≡ getD slots j 0) (above : (j : ℕ) → 6 * k + 6 ≤ j → getD slots′ j 0 ≡ getD slots j 0) where
+module _ (slots slots′ : List ℕ) (k : ℕ) (inside : k < 256) (others : (i r : ℕ) → i < 256 → (i ≡ k → ⊥) → getD slots′ (256 * r + i) 0 ≡ getD slots (256 * r + i) 0) where
   counts-before : countsFrom k 0 slots′ ≡ countsFrom k 0 slots
-  counts-before = counts-same slots slots′ k 0 (λ j low high. below j (omega arith))
+  counts-before = counts-same slots slots′ k 0 (λ j r low high. others j r (omega arith) (λ e. omega arith))
 
   counts-after : countsFrom (255 - k) (suc k) slots′ ≡ countsFrom (255 - k) (suc k) slots
-  counts-after = counts-same slots slots′ (255 - k) (suc k) (λ j low high. above j (omega arith))
+  counts-after = counts-same slots slots′ (255 - k) (suc k) (λ j r low high. others j r (omega arith) (λ e. omega arith))
 
   pub counts-changed : countsFrom 256 0 slots′ + countAt slots k ≡ countsFrom 256 0 slots + countAt slots′ k
   counts-changed = omega (arith, counts-around slots k inside, counts-around slots′ k inside, counts-before, counts-after)
@@ -89,6 +89,6 @@ module _ (slots slots′ : List ℕ) (k : ℕ) (inside : k < 256) (below : (j : 
       let after = slotsFrom (255 - k) (suc k) slots (drop (start + countAt slots k) pool) in
       slots-around slots′ k pool′ inside
       ∙ rw counts-before
-      (ap₂ (λ (a b : List Slot). a ++ now ∷ b) (slots-same slots slots′ k 0 pool pool′ (λ j low high. below j (omega arith)) front)
-      (slots-same slots slots′ (255 - k) (suc k) (drop (start + countAt slots k) pool) (drop (start + countAt slots′ k) pool′) (λ j low high. above j (omega arith)) rest))
+      (ap₂ (λ (a b : List Slot). a ++ now ∷ b) (slots-same slots slots′ k 0 pool pool′ (λ j r low high. others j r (omega arith) (λ e. omega arith)) front)
+      (slots-same slots slots′ (255 - k) (suc k) (drop (start + countAt slots k) pool) (drop (start + countAt slots′ k) pool′) (λ j r low high. others j r (omega arith) (λ e. omega arith)) rest))
       ∙ sym (ap (λ (l : List Slot). set l k now) (slots-around slots k pool inside) ∙ set-at before was after now k (length-from slots k 0 pool))

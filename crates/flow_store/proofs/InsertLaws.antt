@@ -1,14 +1,14 @@
 -- A flow stored at a free slot, and its path put in the pool, is the view with that slot set.
 -- Assumes nothing.
-use Prim.Native.Nat.{ℕ, suc, _+_, _-_, _*_, _≤_, _<_}
-use mathlib.Core.Path.{_≡_, refl, sym, ap, _∙_}
-use mathlib.Core.List.{List, [], _∷_, _++_, map, append-assoc}
+use Prim.Native.Nat.{ℕ, zero, suc, _+_, _-_, _*_, _≤_, _<_}
+use mathlib.Core.Path.{_≡_, refl, ap, _∙_}
+use mathlib.Core.List.{List, [], _∷_, map}
 use mathlib.Core.Option.{some}
 use native.Mathlib.Omega.{arith}
-use native.Mathlib.Nat.{add-zero}
+use native.Mathlib.Nat.{zero-add}
 use borrow.Author.Tests.{ne-eqb}
-use lib.ListN.{length, getD, set, take, drop}
-use lib.Seq.{sets, sets-eq, length-sets, length-take-le, drop-at, getD-drop, getD-set-other}
+use lib.ListN.{length, getD, set, take, drop, length-set}
+use lib.Seq.{getD-set-same, getD-set-other}
 use Rattle.model.specs.Orders.{flowOf}
 use Rattle.queue_table.specs.View.{hopAt}
 use Rattle.orders.specs.declared.Flow.{Flow}
@@ -18,55 +18,72 @@ use Rattle.flow_store.proofs.ViewLaws.{counts-around}
 use Rattle.flow_store.proofs.ChangeLaws.{counts-changed, slot-changed}
 use Rattle.flow_store.proofs.PoolLaws.{inserted-long, inserted-front, inserted-path, inserted-rest}
 
--- Outside the places that are stored to nothing changes.
-sets-other : (l : List ℕ) (i : ℕ) (vs : List ℕ) (j : ℕ) → (i ≤ j → j < i + length vs → ⊥) → getD (sets l i vs) j 0 ≡ getD l j 0
-sets-other l i [] j h = refl
-sets-other l i (v ∷ vs) j h =
-    sets-other (set l i v) (suc i) vs j (λ low high. h (omega arith) (omega arith))
-    ∙ getD-set-other l i j v 0 (λ e. h (omega arith) (omega arith))
+-- Numbers stored at a slot, one of each kind from kind r on.
+module _ (k : ℕ) (inside : k < 256) where
+  spread : (r : ℕ) (vs l : List ℕ) → List ℕ
+  spread r [] l = l
+  spread r (v ∷ vs) l = spread (suc r) vs (set l (256 * r + k) v)
 
+  spread-long : (r : ℕ) (vs l : List ℕ) → length (spread r vs l) ≡ length l
+  unfolding spread
+  spread-long r [] l = refl
+  spread-long r (v ∷ vs) l = spread-long (suc r) vs (set l (256 * r + k) v) ∙ length-set l (256 * r + k) v
+
+  -- Elsewhere nothing changes.
+  spread-other : (r : ℕ) (vs l : List ℕ) (p : ℕ) → ((m : ℕ) → r ≤ m → 256 * m + k ≡ p → ⊥) → getD (spread r vs l) p 0 ≡ getD l p 0
+  unfolding spread
+  spread-other r [] l p h = refl
+  spread-other r (v ∷ vs) l p h =
+      spread-other (suc r) vs (set l (256 * r + k) v) p (λ m le e. h m (omega arith) e)
+      ∙ getD-set-other l (256 * r + k) p v 0 (λ e. h r (omega arith) (omega (arith, e)))
+
+  spread-at : (r : ℕ) (vs l : List ℕ) (q : ℕ) → q < length vs → 256 * (r + length vs) ≤ length l → getD (spread r vs l) (256 * (r + q) + k) 0 ≡ getD vs q 0
+  unfolding spread
+  spread-at r [] l q h room = absurd (omega arith)
+  spread-at r (v ∷ vs) l zero h room =
+      let e : 256 * (r + 0) + k ≡ 256 * r + k = omega arith in
+      rw e
+      (spread-other (suc r) vs (set l (256 * r + k) v) (256 * r + k) (λ m le e. omega arith)
+      ∙ getD-set-same l (256 * r + k) v 0 (omega arith))
+  spread-at r (v ∷ vs) l (suc q) h room =
+      let e : 256 * (r + suc q) + k ≡ 256 * (suc r + q) + k = omega arith in
+      rw e (spread-at (suc r) vs (set l (256 * r + k) v) q (omega arith) (omega (arith, length-set l (256 * r + k) v)))
+
+-- A flow stored at a slot: its numbers there, every other slot's as they were.
 module _ (k : ℕ) (f : Flow) (slots : List ℕ) (inside : k < 256) (long : length slots ≡ 1536) where
-  numbers : List ℕ
+  abbrev numbers : List ℕ
   numbers = f .number ∷ f .rate .0 ∷ f .burst .0 ∷ f .frame .0 ∷ f .deadline .0 ∷ f .hops ∷ []
 
-  stored : drop (6 * k) (flowStored k f slots) ≡ numbers ++ drop (6 * k + 6) slots
-  unfolding flowStored numbers
-  stored =
-      ap (drop (6 * k)) (sets-eq numbers slots (6 * k) (omega arith) ∙ append-assoc (take (6 * k) slots) numbers (drop (6 * k + 6) slots))
-      ∙ drop-at (take (6 * k) slots) (numbers ++ drop (6 * k + 6) slots) (6 * k) (length-take-le (6 * k) slots (omega arith))
+  stored : flowStored k f slots ≡ spread k inside 0 numbers slots
+  unfolding flowStored spread
+  stored = rw (zero-add k)
 
-  number-stored : (r : ℕ) → getD (flowStored k f slots) (6 * k + r) 0 ≡ getD (numbers ++ drop (6 * k + 6) slots) r 0
-  number-stored r = sym (getD-drop (6 * k) (flowStored k f slots) r 0) ∙ ap (λ (l : List ℕ). getD l r 0) stored
+  number-stored : (q : ℕ) → q < 6 → getD (flowStored k f slots) (256 * (0 + q) + k) 0 ≡ getD numbers q 0
+  number-stored q h = rw stored (spread-at k inside 0 numbers slots q h (omega arith))
 
   count-stored : countAt (flowStored k f slots) k ≡ f .hops
-  unfolding countAt numbers
-  count-stored = number-stored 5
+  unfolding countAt
+  count-stored = number-stored 5 (omega arith)
 
   flow-stored : (entries : List ℕ) → flowAt (flowStored k f slots) k entries ≡ flowOf (fieldsOf f) (map hopAt entries)
-  unfolding flowAt flowOf numbers
+  unfolding flowAt flowOf
   flow-stored entries =
-      let e : 6 * k + 0 ≡ 6 * k = add-zero (6 * k) in
       λ t.
       record {
-        number = (rw e at (number-stored 0)) t;
-        rate = number-stored 1 t;
-        burst = number-stored 2 t;
-        frame = number-stored 3 t;
-        deadline = number-stored 4 t;
+        number = (rw (zero-add k) at (number-stored 0 (omega arith))) t;
+        rate = number-stored 1 (omega arith) t;
+        burst = number-stored 2 (omega arith) t;
+        frame = number-stored 3 (omega arith) t;
+        deadline = number-stored 4 (omega arith) t;
         path = map hopAt entries;
       }
 
-  below : (j : ℕ) → j < 6 * k → getD (flowStored k f slots) j 0 ≡ getD slots j 0
-  unfolding flowStored numbers
-  below j h = sets-other slots (6 * k) numbers j (λ low high. omega arith)
-
-  above : (j : ℕ) → 6 * k + 6 ≤ j → getD (flowStored k f slots) j 0 ≡ getD slots j 0
-  unfolding flowStored numbers
-  above j h = sets-other slots (6 * k) numbers j (λ low high. omega arith)
+  others : (i r : ℕ) → i < 256 → (i ≡ k → ⊥) → getD (flowStored k f slots) (256 * r + i) 0 ≡ getD slots (256 * r + i) 0
+  others i r h other =
+      rw stored (spread-other k inside 0 numbers slots (256 * r + i) (λ m le e. other (omega arith)))
 
   stored-long : length (flowStored k f slots) ≡ 1536
-  unfolding flowStored numbers
-  stored-long = length-sets slots (6 * k) numbers ∙ long
+  stored-long = rw stored (spread-long k inside 0 numbers slots ∙ long)
 
 module _ (k : ℕ) (f : Flow) (entries slots pool : List ℕ) (ok : Insertable k f entries slots pool) where
   long : length slots ≡ 1536
@@ -104,7 +121,7 @@ module _ (k : ℕ) (f : Flow) (entries slots pool : List ℕ) (ok : Insertable k
   pub inserted : slotsOf (flowStored k f slots) (pathInserted start end entries pool)
       ≡ set (slotsOf slots pool) k (some (flowOf (fieldsOf f) (map hopAt entries)))
   inserted =
-      slot-changed slots (flowStored k f slots) k (ok .inside) (below k f slots (ok .inside) long) (above k f slots (ok .inside) long) pool (pathInserted start end entries pool) (inserted-front start end entries pool order room) rest
+      slot-changed slots (flowStored k f slots) k (ok .inside) (others k f slots (ok .inside) long) pool (pathInserted start end entries pool) (inserted-front start end entries pool order room) rest
       ∙ ap (set (slotsOf slots pool) k) held
 
   pub inserted-store : Store (flowStored k f slots) (pathInserted start end entries pool)
@@ -112,5 +129,5 @@ module _ (k : ℕ) (f : Flow) (entries slots pool : List ℕ) (ok : Insertable k
       record {
         slots-long = stored-long k f slots (ok .inside) long;
         pool-long = inserted-long start end entries pool order room ∙ ok .store .pool-long;
-        fits = omega (arith, counts-changed slots (flowStored k f slots) k (ok .inside) (below k f slots (ok .inside) long) (above k f slots (ok .inside) long), count, ok .free, ok .room);
+        fits = omega (arith, counts-changed slots (flowStored k f slots) k (ok .inside) (others k f slots (ok .inside) long), count, ok .free, ok .room);
       }

@@ -25,37 +25,34 @@ module _ (k : ℕ) (slots pool : List ℕ) (inside : k < 256) (store : Store slo
   pub within : end ≤ length pool
   within = omega (arith, store .pool-long, store .fits)
 
-  count : countAt (set slots (6 * k + 5) 0) k ≡ 0
+  count : countAt (set slots (1280 + k) 0) k ≡ 0
   unfolding countAt
-  count = getD-set-same slots (6 * k + 5) 0 0 (omega (arith, store .slots-long))
+  count = getD-set-same slots (1280 + k) 0 0 (omega (arith, store .slots-long))
 
-  below : (j : ℕ) → j < 6 * k → getD (set slots (6 * k + 5) 0) j 0 ≡ getD slots j 0
-  below j h = getD-set-other slots (6 * k + 5) j 0 0 (λ e. omega arith)
+  others : (i r : ℕ) → i < 256 → (i ≡ k → ⊥) → getD (set slots (1280 + k) 0) (256 * r + i) 0 ≡ getD slots (256 * r + i) 0
+  others i r h other = getD-set-other slots (1280 + k) (256 * r + i) 0 0 (λ e. other (omega arith))
 
-  above : (j : ℕ) → 6 * k + 6 ≤ j → getD (set slots (6 * k + 5) 0) j 0 ≡ getD slots j 0
-  above j h = getD-set-other slots (6 * k + 5) j 0 0 (λ e. omega arith)
-
-  empty : (entries : List ℕ) → slotOf (countAt (set slots (6 * k + 5) 0) k) (flowAt (set slots (6 * k + 5) 0) k entries) ≡ none
+  empty : (entries : List ℕ) → slotOf (countAt (set slots (1280 + k) 0) k) (flowAt (set slots (1280 + k) 0) k entries) ≡ none
   unfolding slotOf
   empty entries = rw count
 
-  rest : take (countsFrom (255 - k) (suc k) slots) (drop (start + countAt (set slots (6 * k + 5) 0) k) (pathRemoved start end (countAt slots k) pool))
+  rest : take (countsFrom (255 - k) (suc k) slots) (drop (start + countAt (set slots (1280 + k) 0) k) (pathRemoved start end (countAt slots k) pool))
       ≡ take (countsFrom (255 - k) (suc k) slots) (drop (start + countAt slots k) pool)
   rest =
       let after : countsFrom (255 - k) (suc k) slots ≡ end - countAt slots k - start = omega (arith, counts-around slots k inside) in
-      let same : start + countAt (set slots (6 * k + 5) 0) k ≡ start = omega (arith, count) in
+      let same : start + countAt (set slots (1280 + k) 0) k ≡ start = omega (arith, count) in
       rw (same, after) (removed-rest start end (countAt slots k) pool order within)
 
-  pub removed : slotsOf (set slots (6 * k + 5) 0) (pathRemoved start end (countAt slots k) pool) ≡ set (slotsOf slots pool) k none
+  pub removed : slotsOf (set slots (1280 + k) 0) (pathRemoved start end (countAt slots k) pool) ≡ set (slotsOf slots pool) k none
   removed =
       let pool′ = pathRemoved start end (countAt slots k) pool in
-      slot-changed slots (set slots (6 * k + 5) 0) k inside below above pool pool′ (removed-front start end (countAt slots k) pool order within) rest
-      ∙ ap (set (slotsOf slots pool) k) (empty (take (countAt (set slots (6 * k + 5) 0) k) (drop start pool′)))
+      slot-changed slots (set slots (1280 + k) 0) k inside others pool pool′ (removed-front start end (countAt slots k) pool order within) rest
+      ∙ ap (set (slotsOf slots pool) k) (empty (take (countAt (set slots (1280 + k) 0) k) (drop start pool′)))
 
-  pub removed-store : Store (set slots (6 * k + 5) 0) (pathRemoved start end (countAt slots k) pool)
+  pub removed-store : Store (set slots (1280 + k) 0) (pathRemoved start end (countAt slots k) pool)
   removed-store =
       record {
-        slots-long = length-set slots (6 * k + 5) 0 ∙ store .slots-long;
+        slots-long = length-set slots (1280 + k) 0 ∙ store .slots-long;
         pool-long = removed-long start end (countAt slots k) pool order within ∙ store .pool-long;
-        fits = omega (arith, counts-changed slots (set slots (6 * k + 5) 0) k inside below above, count, store .fits);
+        fits = omega (arith, counts-changed slots (set slots (1280 + k) 0) k inside others, count, store .fits);
       }

@@ -14,20 +14,20 @@ use lib.Dec.{eqb}
 use Rattle.model.specs.Orders.{Flow}
 use Rattle.model.specs.Reference.{Slot, isNone, holds, firstIndex}
 use Rattle.model.specs.Laws.Slot.{index-found}
-use Rattle.flow_store.specs.View.{countAt, flowAt, slotOf, slotsFrom, slotsOf, countsFrom}
+use Rattle.flow_store.specs.View.{numberAt, countAt, flowAt, slotOf, slotsFrom, slotsOf, countsFrom}
 use Rattle.flow_store.proofs.ViewLaws.{length-slots, slot-at}
 
 -- What the two tests say of slot i, whatever its entries.
 abbrev pub named : (number : ℕ) (slots : List ℕ) (i : ℕ) → Bool
-named number slots i = eqb (getD slots (6 * i) 0) number && not (eqb (getD slots (6 * i + 5) 0) 0)
+named number slots i = eqb (numberAt slots i) number && not (eqb (getD slots (1280 + i) 0) 0)
 
 abbrev pub free : (slots : List ℕ) (i : ℕ) → Bool
-free slots i = eqb (getD slots (6 * i + 5) 0) 0
+free slots i = eqb (getD slots (1280 + i) 0) 0
 
 pub holds-named : (number : ℕ) (slots : List ℕ) (i : ℕ) (entries : List ℕ)
     → holds number (slotOf (countAt slots i) (flowAt slots i entries)) ≡ named number slots i
 unfolding slotOf countAt flowAt holds
-holds-named number slots i entries = go (eqb (getD slots (6 * i + 5) 0) 0) (flowAt slots i entries)
+holds-named number slots i entries = go (eqb (getD slots (1280 + i) 0) 0) (flowAt slots i entries)
   where
     go : (b : Bool) (f : Flow) → holds number (cond b none (some f)) ≡ (eqb (f .number) number && not b)
     go true f = sym (and-false (eqb (f .number) number))

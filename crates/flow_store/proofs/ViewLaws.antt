@@ -47,7 +47,7 @@ module _ (slots : List ℕ) where
       rw (suc-add k n, add-suc i k, ← suc-add i k) (omega (arith, counts-split k n (suc i)))
 
   -- One count less to sum, and none left.
-  pub counts-next : (end i : ℕ) → i < end → countsFrom (end - i) i slots ≡ getD slots (6 * i + 5) 0 + countsFrom (end - (i + 1)) (i + 1) slots
+  pub counts-next : (end i : ℕ) → i < end → countsFrom (end - i) i slots ≡ getD slots (1280 + i) 0 + countsFrom (end - (i + 1)) (i + 1) slots
   unfolding countsFrom countAt
   counts-next end i h =
       let m : end - i ≡ suc (end - (i + 1)) = omega arith in

@@ -1,30 +1,46 @@
 -- What the two columns of the store say in the terms of the model.
-use Prim.Native.Nat.{ℕ, zero, suc, _+_, _-_, _*_, _≤_, _<_}
+use Prim.Native.Nat.{ℕ, zero, suc, _+_, _-_, _≤_, _<_}
 use mathlib.Core.Path.{_≡_}
 use mathlib.Core.Bool.{cond}
 use mathlib.Core.List.{List, [], _∷_, map}
 use mathlib.Core.Option.{none, some}
-use lib.ListN.{length, getD, take, drop}
-use lib.Seq.{sets, paste}
+use lib.ListN.{length, getD, set, take, drop}
+use lib.Seq.{paste}
 use lib.Dec.{eqb}
 use Rattle.model.specs.Orders as model
 use Rattle.model.specs.Reference.{Slot}
 use Rattle.queue_table.specs.View.{hopAt}
 use Rattle.orders.specs.declared.Flow.{Flow}
 
+-- The numbers of slot i, those of one kind one after the other.
+abbrev pub numberAt : (slots : List ℕ) (i : ℕ) → ℕ
+numberAt slots i = getD slots i 0
+
+abbrev pub rateAt : (slots : List ℕ) (i : ℕ) → ℕ
+rateAt slots i = getD slots (256 + i) 0
+
+abbrev pub burstAt : (slots : List ℕ) (i : ℕ) → ℕ
+burstAt slots i = getD slots (512 + i) 0
+
+abbrev pub frameAt : (slots : List ℕ) (i : ℕ) → ℕ
+frameAt slots i = getD slots (768 + i) 0
+
+abbrev pub deadlineAt : (slots : List ℕ) (i : ℕ) → ℕ
+deadlineAt slots i = getD slots (1024 + i) 0
+
 -- The hop count of slot i, 0 where it is free.
 unfoldable pub countAt : (slots : List ℕ) (i : ℕ) → ℕ
-countAt slots i = getD slots (6 * i + 5) 0
+countAt slots i = getD slots (1280 + i) 0
 
 -- The flow in slot i, where these are its hop entries.
 unfoldable pub flowAt : (slots : List ℕ) (i : ℕ) (entries : List ℕ) → model.Flow
 flowAt slots i entries =
     record {
-      number = getD slots (6 * i) 0;
-      rate = getD slots (6 * i + 1) 0;
-      burst = getD slots (6 * i + 2) 0;
-      frame = getD slots (6 * i + 3) 0;
-      deadline = getD slots (6 * i + 4) 0;
+      number = numberAt slots i;
+      rate = rateAt slots i;
+      burst = burstAt slots i;
+      frame = frameAt slots i;
+      deadline = deadlineAt slots i;
       path = map hopAt entries;
     }
 
@@ -52,10 +68,12 @@ pub record Store (slots pool : List ℕ) : Type 0 where
   pub pool-long : length pool ≡ 1024
   pub fits : countsFrom 256 0 slots ≤ 1024
 
--- A flow's numbers stored at a slot, one after the other.
+-- A flow's numbers stored at a slot.
 unfoldable pub flowStored : (slot : ℕ) → Flow → List ℕ → List ℕ
 flowStored slot f slots =
-    sets slots (6 * slot) (f .number ∷ f .rate .0 ∷ f .burst .0 ∷ f .frame .0 ∷ f .deadline .0 ∷ f .hops ∷ [])
+    let rated = set (set slots slot (f .number)) (256 + slot) (f .rate .0) in
+    let framed = set (set rated (512 + slot) (f .burst .0)) (768 + slot) (f .frame .0) in
+    set (set framed (1024 + slot) (f .deadline .0)) (1280 + slot) (f .hops)
 
 -- The entries from place `start` up to `end` moved up, and a path's put before them.
 unfoldable pub pathInserted : (start end : ℕ) (entries pool : List ℕ) → List ℕ

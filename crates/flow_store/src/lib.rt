@@ -1,9 +1,10 @@
 // The flows that are held, and their paths (document 01, "The book": places and hop entries).
 //
-// The store is two columns of numbers. Slot i, counted from 0, has flow number, rate, burst, largest frame, deadline and hop
-// count at 6 × i on in `slots`; hop count 0 means that the slot is free, and what else stands there doesn't count. `pool` has
-// the hop entries of the held flows one after the other in slot order, so that a flow's entries start at the sum of the hop
-// counts before it; what stands past the last held one doesn't count.
+// The store is two columns of numbers. Slot i, counted from 0, has its flow number at place i of `slots`, its rate at 256 + i,
+// burst at 512 + i, largest frame at 768 + i, deadline at 1024 + i and hop count at 1280 + i: numbers of one kind stand one
+// after the other, so that a scan or a sum over the slots reads consecutive numbers. Hop count 0 means that the slot is free,
+// and what else stands there doesn't count. `pool` has the hop entries of the held flows one after the other in slot order,
+// so that a flow's entries start at the sum of the hop counts before it; what stands past the last held one doesn't count.
 ghost use mathlib.Core.Path.{_≡_};
 ghost use mathlib.Core.List.{List, map};
 ghost use mathlib.Core.Option.{none, some};
@@ -17,6 +18,17 @@ ghost use Rattle.orders.specs.Reading.{fieldsOf};
 ghost use Rattle.flow_store.specs.View.{countAt, slotsOf, countsFrom, Store, flowStored, pathInserted, pathRemoved, Narrow, Insertable};
 use orders::Flow;
 
+// Where slot 0's numbers stand, its flow number at place 0.
+pub const RATES: usize = 256;
+
+pub const BURSTS: usize = 512;
+
+pub const FRAMES: usize = 768;
+
+pub const DEADLINES: usize = 1024;
+
+pub const HOPS: usize = 1280;
+
 // The slot that holds the flow with this number, 256 where none does.
 pub fn find(number: u32, slots: &[u32]) -> usize
     requires { ⌜ length (now slots) ≡ 1536 ⌝ }
@@ -24,7 +36,7 @@ pub fn find(number: u32, slots: &[u32]) -> usize
 {
     let mut i = 0;
     while i < 256 {
-        if slots[6 * i] == number && slots[6 * i + 5] != 0 {
+        if slots[i] == number && slots[HOPS + i] != 0 {
             return i;
         }
         i += 1;
@@ -39,7 +51,7 @@ pub fn first_free(slots: &[u32]) -> usize
 {
     let mut slot = 0;
     while slot < 256 {
-        if slots[6 * slot + 5] == 0 {
+        if slots[HOPS + slot] == 0 {
             return slot;
         }
         slot += 1;
@@ -55,7 +67,7 @@ pub fn hop_sum(slots: &[u32], slot: usize) -> u64
     let mut sum: u64 = 0;
     let mut i = 0;
     while i < slot {
-        sum += slots[6 * i + 5] as u64;
+        sum += slots[HOPS + i] as u64;
         i += 1;
     }
     sum
@@ -106,13 +118,12 @@ fn store_flow(slot: usize, flow: Flow, slots: &mut [u32])
     let frame = flow.frame.0 as u32;
     let deadline = flow.deadline.0 as u32;
     let hops = flow.hops;
-    let at = 6 * slot;
-    slots[at] = number;
-    slots[at + 1] = rate;
-    slots[at + 2] = burst;
-    slots[at + 3] = frame;
-    slots[at + 4] = deadline;
-    slots[at + 5] = hops;
+    slots[slot] = number;
+    slots[RATES + slot] = rate;
+    slots[BURSTS + slot] = burst;
+    slots[FRAMES + slot] = frame;
+    slots[DEADLINES + slot] = deadline;
+    slots[HOPS + slot] = hops;
 }
 
 // Puts a flow with its path in a free slot.
@@ -134,7 +145,7 @@ pub fn path_into(slot: usize, slots: &[u32], pool: &[u32], entries: &mut [u32]) 
     ensures { λ r. ⌜ take r (now (entries .exit)) ≡ take (countAt (now (slots .entry)) slot) (drop (countsFrom slot 0 (now (slots .entry))) (now (pool .entry))) ⌝ }
 {
     let start = hop_sum(slots, slot) as usize;
-    let n = slots[6 * slot + 5] as usize;
+    let n = slots[HOPS + slot] as usize;
     copy(pool, start, n, entries, 0);
     n
 }
@@ -157,9 +168,9 @@ pub fn remove(slot: usize, slots: &mut [u32], pool: &mut [u32])
     ensures { λ _. ⌜ slotsOf (now (slots .exit)) (now (pool .exit)) ≡ set (slotsOf (now (slots .entry)) (now (pool .entry))) slot none ⌝ }
     ensures { λ _. ⌜ Store (now (slots .exit)) (now (pool .exit)) ⌝ }
 {
-    let n = slots[6 * slot + 5] as usize;
+    let n = slots[HOPS + slot] as usize;
     let start = hop_sum(&slots[..], slot) as usize;
     let held = hop_sum(&slots[..], 256) as usize;
     move_down(start, held, n, pool);
-    slots[6 * slot + 5] = 0;
+    slots[HOPS + slot] = 0;
 }

@@ -1,11 +1,11 @@
 -- The loop that raises the largest frames slot by slot: the figures so far, raised by what the slots left have, are the whole.
 -- Assumes nothing.
-use Prim.Native.Nat.{ℕ, _+_, _-_, _*_, _≤_, _<_, max}
+use Prim.Native.Nat.{ℕ, _+_, _-_, _≤_, _<_, max}
 use mathlib.Core.Path.{_≡_, refl, sym, ap, _∙_}
 use mathlib.Core.List.{List, [], _∷_, map}
 use native.Mathlib.Omega.{arith}
 use native.Mathlib.Decide.{ℕ-discrete}
-use lib.ListN.{length, getD, take, drop}
+use lib.ListN.{length, take, drop}
 use Rattle.model.specs.Total.{largest}
 use Rattle.model.specs.Formula.{Aggregate}
 use Rattle.model.specs.QueueTable.{Table}
@@ -15,7 +15,7 @@ use Rattle.model.specs.Reference.{Slot, heldFlows}
 use Rattle.model.specs.WithFlow.{together}
 use Rattle.model.specs.Laws.Figures.{aggregate-more}
 use Rattle.queue_table.specs.View.{hopAt}
-use Rattle.flow_store.specs.View.{countAt, countsFrom, flowAt, slotsFrom, slotsOf}
+use Rattle.flow_store.specs.View.{frameAt, countAt, countsFrom, flowAt, slotsFrom, slotsOf}
 use Rattle.figures.specs.View.{figureAt, raised, FrameRaised}
 use Rattle.figures.proofs.RaiseLaws.{raised-none, raised-twice}
 use Rattle.recount.specs.View.{entriesIn, FramesRaised}
@@ -64,7 +64,7 @@ module _ (slots pool : List ℕ) where
 
     module _ {sums : List ℕ} {at slot : ℕ} (so-far : Raising slots pool before sums at slot) where
       pub raising-next : {sums′ : List ℕ} {end : ℕ} → slot < 256 → end ≡ at + countAt slots slot
-          → FrameRaised (getD slots (6 * slot + 3) 0) (entriesIn slots pool slot) sums sums′
+          → FrameRaised (frameAt slots slot) (entriesIn slots pool slot) sums sums′
           → Raising slots pool before sums′ end (slot + 1)
       unfolding flowAt
       raising-next {sums′} {end} inside stop own =

@@ -19,7 +19,7 @@ use Rattle.model.specs.Orders.{Flow}
 use Rattle.model.specs.Aggregates.{allEntries, aggregateAt}
 use Rattle.model.specs.Reference.{Slot, heldFlows}
 use Rattle.queue_table.specs.View.{tableOf}
-use Rattle.flow_store.specs.View.{countAt, countsFrom, flowAt, slotOf, slotsFrom, slotsOf}
+use Rattle.flow_store.specs.View.{rateAt, burstAt, frameAt, countAt, countsFrom, flowAt, slotOf, slotsFrom, slotsOf}
 use Rattle.flow_store.proofs.ViewLaws.{counts-split}
 use Rattle.figures.specs.View.{figureAt, Below, Figures, FlowOf, PathAdded}
 use Rattle.figures.proofs.AddLaws.{figures-added}
@@ -111,11 +111,11 @@ module _ (queues slots pool : List ℕ) where
         }
 
     pub counted-held : {sums′ : List ℕ} → 1 ≤ countAt slots i
-        → PathAdded (getD slots (6 * i + 1) 0) (getD slots (6 * i + 2) 0) (getD slots (6 * i + 3) 0) queues (entriesIn slots pool i) sums sums′
+        → PathAdded (rateAt slots i) (burstAt slots i) (frameAt slots i) queues (entriesIn slots pool i) sums sums′
         → Counted queues slots pool sums′ i
     unfolding flowAt
     counted-held held added =
-        let is : FlowOf (getD slots (6 * i + 1) 0) (getD slots (6 * i + 2) 0) (getD slots (6 * i + 3) 0) (entriesIn slots pool i) (flowIn slots pool i)
+        let is : FlowOf (rateAt slots i) (burstAt slots i) (frameAt slots i) (entriesIn slots pool i) (flowIn slots pool i)
         = record { rate-is = refl; burst-is = refl; frame-is = refl; path-is = refl } in
         record {
           long = added .long;

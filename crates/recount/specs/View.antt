@@ -3,13 +3,13 @@ use Prim.Native.Nat.{ℕ, _+_, _-_, _*_, _^_, _≤_, _<_}
 use mathlib.Core.Path.{_≡_}
 use mathlib.Core.Bool.{true}
 use mathlib.Core.List.{List}
-use lib.ListN.{length, getD, take, drop}
+use lib.ListN.{length, take, drop}
 use Rattle.model.specs.Reference.{heldFlows}
 use Rattle.model.specs.Schedulable.{All}
 use Rattle.model.specs.QueueTable.{Table}
 use Rattle.model.specs.Aggregates.{aggregateAt}
 use Rattle.queue_table.specs.View.{tableOf, hopAt, isQueue}
-use Rattle.flow_store.specs.View.{Store, countAt, countsFrom, slotsFrom, slotsOf}
+use Rattle.flow_store.specs.View.{Store, rateAt, burstAt, frameAt, countAt, countsFrom, slotsFrom, slotsOf}
 use Rattle.figures.specs.View.{figureAt, Below, Figures, Hops, raised}
 
 -- The hop entries of slot i.
@@ -19,9 +19,9 @@ entriesIn slots pool i = take (countAt slots i) (drop (countsFrom i 0 slots) poo
 -- The flow in slot i has its numbers in their ranges, and a path within the columns.
 pub record Ranged (queues slots pool : List ℕ) (i : ℕ) : Type 0 where
   pub few : countAt slots i ≤ 12
-  pub rate : getD slots (6 * i + 1) 0 ≤ 10000000
-  pub burst : getD slots (6 * i + 2) 0 ≤ 1000000
-  pub frame : getD slots (6 * i + 3) 0 ≤ 1542
+  pub rate : rateAt slots i ≤ 10000000
+  pub burst : burstAt slots i ≤ 1000000
+  pub frame : frameAt slots i ≤ 1542
   pub hops : Hops queues (entriesIn slots pool i)
 
 -- Columns whose held flows can be counted in; what stands in a free slot doesn't count.

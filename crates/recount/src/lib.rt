@@ -10,6 +10,10 @@ ghost use Rattle.model.specs.Schedulable.{All};
 ghost use Rattle.flow_store.specs.View.{Store};
 ghost use Rattle.figures.specs.View.{Below};
 ghost use Rattle.recount.specs.View.{entriesIn, Countable, Counted, Recounted, FramesRaised};
+use flow_store::BURSTS;
+use flow_store::FRAMES;
+use flow_store::HOPS;
+use flow_store::RATES;
 use units::Bytes;
 use units::Rate;
 
@@ -31,13 +35,12 @@ fn count_slot(slot: usize, queues: &[u32], slots: &[u32], pool: &[u32], sums: &m
     requires { ⌜ Counted (now queues) (now slots) (now pool) (now sums) (slot + 1) ⌝ }
     ensures { λ _. ⌜ Counted (now (queues .entry)) (now (slots .entry)) (now (pool .entry)) (now (sums .exit)) slot ⌝ }
 {
-    let at = 6 * slot;
-    if slots[at + 5] == 0 {
+    if slots[HOPS + slot] == 0 {
         return;
     }
-    let rate = Rate(slots[at + 1] as u64);
-    let burst = Bytes(slots[at + 2] as u64);
-    let frame = Bytes(slots[at + 3] as u64);
+    let rate = Rate(slots[RATES + slot] as u64);
+    let burst = Bytes(slots[BURSTS + slot] as u64);
+    let frame = Bytes(slots[FRAMES + slot] as u64);
     let mut entries = [0u32; 12];
     let n = flow_store::path_into(slot, slots, pool, &mut entries);
     figures::add_path(rate, burst, frame, queues, &entries[..n], sums);
@@ -65,8 +68,8 @@ pub fn raise_frames(slots: &[u32], pool: &[u32], sums: &mut [u64])
     let mut at = 0;
     let mut slot = 0;
     while slot < 256 {
-        let frame = Bytes(slots[6 * slot + 3] as u64);
-        let end = at + slots[6 * slot + 5] as usize;
+        let frame = Bytes(slots[FRAMES + slot] as u64);
+        let end = at + slots[HOPS + slot] as usize;
         figures::raise_path(frame, &pool[at..end], sums);
         at = end;
         slot += 1;

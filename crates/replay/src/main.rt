@@ -10,6 +10,11 @@ ghost use mathlib.Core.Path.{_≡_};
 ghost use lib.ListN.{length};
 ghost use Rattle.flow_store.specs.View.{Store};
 ghost use Rattle.registry.specs.View.{InOrder};
+use flow_store::BURSTS;
+use flow_store::DEADLINES;
+use flow_store::FRAMES;
+use flow_store::HOPS;
+use flow_store::RATES;
 use libc::STDOUT_FILENO;
 use queue_table::Verdict;
 use recording::ANSWER;
@@ -96,15 +101,15 @@ fn show_queues(n: usize, links: &[u32], sums: &[u64])
 }
 
 // The columns of a flow before its hops, from column 5 on.
-fn write_flow(flow: &[u32], out: &mut [u8])
-    requires { ⌜ (length (now flow) ≡ 6) × (length (now out) ≡ 116) ⌝ }
+fn write_flow(slot: usize, slots: &[u32], out: &mut [u8])
+    requires { ⌜ (slot < 256) × ((length (now slots) ≡ 1536) × (length (now out) ≡ 116)) ⌝ }
 {
-    put(out, 5, 10, flow[0]);
-    put(out, 11, 19, flow[1]);
-    put(out, 20, 27, flow[2]);
-    put(out, 28, 32, flow[3]);
-    put(out, 33, 40, flow[4]);
-    put(out, 41, 43, flow[5]);
+    put(out, 5, 10, slots[slot]);
+    put(out, 11, 19, slots[RATES + slot]);
+    put(out, 20, 27, slots[BURSTS + slot]);
+    put(out, 28, 32, slots[FRAMES + slot]);
+    put(out, 33, 40, slots[DEADLINES + slot]);
+    put(out, 41, 43, slots[HOPS + slot]);
 }
 
 // Its hops, six columns each.
@@ -122,12 +127,12 @@ fn write_hops(entries: &[u32], out: &mut [u8])
 }
 
 // A held slot's line.
-fn show_flow(slot: usize, flow: &[u32], entries: &[u32])
-    requires { ⌜ (slot < 256) × ((length (now flow) ≡ 6) × (length (now entries) ≤ 12)) ⌝ }
+fn show_flow(slot: usize, slots: &[u32], entries: &[u32])
+    requires { ⌜ (slot < 256) × ((length (now slots) ≡ 1536) × (length (now entries) ≤ 12)) ⌝ }
 {
     let mut out = [b' '; SLOT];
     columns::write_at(&mut out, 1, 4, (slot + 1) as u64);
-    write_flow(flow, &mut out);
+    write_flow(slot, slots, &mut out);
     write_hops(entries, &mut out);
     let end = 43 + 6 * entries.len();
     out[end] = b'\n';
@@ -139,8 +144,7 @@ fn show_flow(slot: usize, flow: &[u32], entries: &[u32])
 fn show_slot(slot: usize, slots: &[u32], pool: &[u32])
     requires { ⌜ Store (now slots) (now pool) × (slot < 256) ⌝ }
 {
-    let at = 6 * slot;
-    let hops = slots[at + 5];
+    let hops = slots[HOPS + slot];
     if hops == 0 {
         return;
     }
@@ -149,8 +153,7 @@ fn show_slot(slot: usize, slots: &[u32], pool: &[u32])
     }
     let mut entries = [0u32; 12];
     let n = flow_store::path_into(slot, slots, pool, &mut entries);
-    let past = at + 6;
-    show_flow(slot, &slots[at..past], &entries[..n]);
+    show_flow(slot, slots, &entries[..n]);
 }
 
 fn show_slots(slots: &[u32], pool: &[u32])

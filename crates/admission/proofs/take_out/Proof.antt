@@ -1,15 +1,15 @@
 -- `admission::take_out` meets its contract: the flow was counted in, so that its path can be taken out, and what is left is right.
 -- Assumes nothing.
 use borrow.Author.Needs.{needs, length-unmapped}
-use Prim.Native.Nat.{ℕ, _+_, _*_, _≤_}
+use Prim.Native.Nat.{ℕ, _≤_}
 use mathlib.Core.Path.{_≡_, refl, sym}
 use mathlib.Core.Bool.{Bool}
 use mathlib.Core.List.{List}
 use mathlib.Core.Option.{none}
 use native.Mathlib.Omega.{arith}
-use lib.ListN.{length, getD, set, take}
+use lib.ListN.{length, set, take}
 use lib.Seq.{length-take-le}
-use Rattle.flow_store.specs.View.{Store, slotsOf, countAt}
+use Rattle.flow_store.specs.View.{Store, slotsOf, rateAt, burstAt, frameAt, countAt}
 use Rattle.figures.specs.View.{PathRemoved}
 use Rattle.recount.specs.View.{entriesIn, Ranged}
 use Rattle.admission.specs.View.{Kept}
@@ -47,17 +47,17 @@ module _ (c : tie.After-remove-path) where
   abbrev at : tie.Start
   at = start (c .before .before .before .before .before .before .before .before .before .before .before)
 
-  removed : PathRemoved (getD (at .args .slots .now) (6 * at .args .slot + 1) 0) (getD (at .args .slots .now) (6 * at .args .slot + 2) 0) (getD (at .args .slots .now) (6 * at .args .slot + 3) 0) (at .args .queues .now) (entriesIn (at .args .slots .now) (at .args .pool .now) (at .args .slot)) (at .args .sums .now) (c .remove-path .last .1 .1 .1 .1 .1 .0) (c .remove-path .result)
+  removed : PathRemoved (rateAt (at .args .slots .now) (at .args .slot)) (burstAt (at .args .slots .now) (at .args .slot)) (frameAt (at .args .slots .now) (at .args .slot)) (at .args .queues .now) (entriesIn (at .args .slots .now) (at .args .pool .now) (at .args .slot)) (at .args .sums .now) (c .remove-path .last .1 .1 .1 .1 .1 .0) (c .remove-path .result)
   removed = rw (path (c .before .before .before .before .before .before .before .before .before .before .before)) at (c .remove-path .ensures)
 
-cast-t18 : tie.Need-cast-t18
-cast-t18 c = omega (arith, ranged (c .before .before .before .before .before .before) .rate)
+cast-t17 : tie.Need-cast-t17
+cast-t17 c = omega (arith, ranged (c .before .before .before .before .before .before) .rate)
 
-cast-t18-2 : tie.Need-cast-t18-2
-cast-t18-2 c = omega (arith, ranged (c .before .before .before .before .before .before .before) .burst)
+cast-t17-2 : tie.Need-cast-t17-2
+cast-t17-2 c = omega (arith, ranged (c .before .before .before .before .before .before .before) .burst)
 
-cast-t18-3 : tie.Need-cast-t18-3
-cast-t18-3 c = omega (arith, ranged (c .before .before .before .before .before .before .before .before) .frame)
+cast-t17-3 : tie.Need-cast-t17-3
+cast-t17-3 c = omega (arith, ranged (c .before .before .before .before .before .before .before .before) .frame)
 
 path-into-requires : tie.Need-path-into-requires
 path-into-requires c κs = let at = c .before .before .before .before .before .before .before .before .before .before .before in (at .pre .0 .store, at .pre .1 .0, ranged at .few, refl)
@@ -100,4 +100,4 @@ returns-2 c =
 pub take-out-spec : {M : Type 1} → statement M
 take-out-spec =
     tie.close
-    (tie.spec (λ c. search needs) (λ c. search needs) (λ c. search needs) (λ c. search needs) cast-t18 (λ c. search needs) (λ c. search needs) (λ c. search needs) cast-t18-2 (λ c. search needs) (λ c. search needs) (λ c. search needs) cast-t18-3 (λ c. search needs) path-into-requires (λ c κs. search needs) array-share-prefix-entries slice-aggregate-remove-path remove-path-requires raise-frames-requires (λ c. search needs) (λ c. search needs) (λ c. search needs) returns (λ c. search needs) (λ c. search needs) (λ c. search needs) returns-2)
+    (tie.spec (λ c. search needs) (λ c. search needs) (λ c. search needs) cast-t17 (λ c. search needs) (λ c. search needs) (λ c. search needs) cast-t17-2 (λ c. search needs) (λ c. search needs) (λ c. search needs) cast-t17-3 (λ c. search needs) path-into-requires (λ c κs. search needs) array-share-prefix-entries slice-aggregate-remove-path remove-path-requires raise-frames-requires (λ c. search needs) (λ c. search needs) (λ c. search needs) returns (λ c. search needs) (λ c. search needs) (λ c. search needs) returns-2)

@@ -20,17 +20,17 @@ loop-holds : tie.Need-loop-holds Inv-loop μ-loop
 loop-holds c = (omega arith, omega arith, rw (sub-zero (c .args .slot)) (zero-add (countsFrom (c .args .slot) 0 (c .args .slots .now))))
 
 cast-sum : tie.Need-cast-sum Inv-loop μ-loop
-cast-sum c = omega (arith, c .shared-slice-known .given (6 * c .before .before .loop .i + 5))
+cast-sum c = omega (arith, c .shared-slice-known .given (1280 + c .before .before .loop .i))
 
 add-sum-2 : tie.Need-add-sum-2 Inv-loop μ-loop
-add-sum-2 c = omega (arith, c .shared-slice-known .given (6 * c .before .before .loop .i + 5))
+add-sum-2 c = omega (arith, c .shared-slice-known .given (1280 + c .before .before .loop .i))
 
 loop-again : tie.Need-loop-again Inv-loop μ-loop
 loop-again c =
     let at = c .before .before in
     let args = at .before .args in (
       omega arith,
-      omega (arith, c .shared-slice-known .given (6 * at .loop .i + 5)),
+      omega (arith, c .shared-slice-known .given (1280 + at .loop .i)),
       omega (arith, at .loop .inv .2, counts-next (args .slots .now) (args .slot) (at .loop .i) (c .before .loop-test .taken)),
     )
 
@@ -43,5 +43,5 @@ returns c =
 pub hop-sum-spec : {M : Type 1} → statement M
 hop-sum-spec =
     tie.close
-    (tie.spec Inv-loop μ-loop loop-holds (λ c. search needs) (λ c. search needs) (λ c. search needs) (λ c. search needs) cast-sum add-sum-2
+    (tie.spec Inv-loop μ-loop loop-holds (λ c. search needs) (λ c. search needs) (λ c. search needs) cast-sum add-sum-2
     (λ c. search needs) (λ c. search needs) loop-again returns)

@@ -1,7 +1,7 @@
 -- `flow_store::path_into` meets its contract: a slot's entries start at the sum of the counts before it, and lie in the pool.
 -- Assumes nothing.
 use borrow.Author.Needs.{needs}
-use Prim.Native.Nat.{_+_, _*_}
+use Prim.Native.Nat.{_+_}
 use mathlib.Core.Path.{refl}
 use native.Mathlib.Omega.{arith}
 use lib.ListN.{drop, length-drop}
@@ -12,7 +12,7 @@ use Rattle.flow_store.proofs.path_into.Statement.{statement}
 use Rattle.flow_store.proofs.path_into.Tie as tie
 
 cast-n : tie.Need-cast-n
-cast-n c = omega (arith, c .shared-slice-known3 .given (6 * c .before .before .before .before .before .args .slot + 5))
+cast-n c = omega (arith, c .shared-slice-known3 .given (1280 + c .before .before .before .before .before .args .slot))
 
 copy-requires : tie.Need-copy-requires
 unfolding countAt
@@ -33,5 +33,5 @@ returns c =
 pub path-into-spec : {M : Type 1} → statement M
 path-into-spec =
     tie.close
-    (tie.spec (λ c κs. search needs) (λ c. search needs) (λ c. search needs) (λ c. search needs) (λ c. search needs) cast-n copy-requires
+    (tie.spec (λ c κs. search needs) (λ c. search needs) (λ c. search needs) (λ c. search needs) cast-n copy-requires
     (λ c. search needs) returns)

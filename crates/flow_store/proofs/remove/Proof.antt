@@ -1,7 +1,7 @@
 -- `flow_store::remove` meets its contract: what its parts leave is the view with the slot empty.
 -- Assumes nothing.
 use borrow.Author.Needs.{needs}
-use Prim.Native.Nat.{ℕ, _+_, _*_}
+use Prim.Native.Nat.{ℕ, _+_}
 use mathlib.Core.Path.{ap₂, _∙_}
 use native.Mathlib.Omega.{arith}
 use Rattle.flow_store.specs.View.{countAt, pathRemoved}
@@ -10,7 +10,7 @@ use Rattle.flow_store.proofs.remove.Statement.{statement}
 use Rattle.flow_store.proofs.remove.Tie as tie
 
 cast-n : tie.Need-cast-n
-cast-n c = omega (arith, c .slice-known3 .given (6 * c .before .before .before .args .slot + 5))
+cast-n c = omega (arith, c .slice-known3 .given (1280 + c .before .before .before .args .slot))
 
 move-down-requires : tie.Need-move-down-requires
 unfolding countAt
@@ -34,5 +34,5 @@ returns c =
 pub remove-spec : {M : Type 1} → statement M
 remove-spec =
     tie.close
-    (tie.spec (λ c. search needs) (λ c. search needs) (λ c. search needs) (λ c. search needs) cast-n (λ c κs. search needs) (λ c κs. search needs)
-    move-down-requires (λ c. search needs) (λ c. search needs) (λ c. search needs) (λ c. search needs) (λ c. search needs) (λ c. search needs) returns)
+    (tie.spec (λ c. search needs) (λ c. search needs) (λ c. search needs) cast-n (λ c κs. search needs) (λ c κs. search needs)
+    move-down-requires (λ c. search needs) (λ c. search needs) (λ c. search needs) (λ c. search needs) (λ c. search needs) returns)

@@ -2,7 +2,7 @@
 -- Assumes nothing.
 use borrow.Author.Needs.{needs}
 use native.Mathlib.Omega.{arith}
-use native.Mathlib.Numerals.{add-one, add-two, add-three, add-four, add-five}
+use mathlib.Core.Path.{refl}
 use lib.ListN.{length-set}
 use Rattle.flow_store.specs.View.{flowStored}
 use Rattle.flow_store.proofs.store_flow.Statement.{statement}
@@ -25,12 +25,12 @@ slice-write-slots-6 c = simp length-set (omega arith)
 
 returns : tie.Need-returns
 unfolding flowStored
-returns c = simp (add-one, add-two, add-three, add-four, add-five)
+returns c = refl
 
 pub store-flow-spec : {M : Type 1} → statement M
 store-flow-spec =
     tie.close
     (tie.spec (λ c. search needs) (λ c. search needs) (λ c. search needs) (λ c. search needs) (λ c. search needs) (λ c. search needs)
-    (λ c. search needs) (λ c. search needs) (λ c. search needs) slice-write-slots-2 (λ c. search needs) (λ c. search needs) slice-write-slots-3
+    (λ c. search needs) (λ c. search needs) slice-write-slots-2 (λ c. search needs) (λ c. search needs) slice-write-slots-3
     (λ c. search needs) (λ c. search needs) slice-write-slots-4 (λ c. search needs) (λ c. search needs) slice-write-slots-5 (λ c. search needs)
     (λ c. search needs) slice-write-slots-6 (λ c. search needs) returns)

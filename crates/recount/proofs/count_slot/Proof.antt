@@ -51,14 +51,14 @@ returns c =
     let start = c .before .before .before .before .before .before in
     counted-free (start .args .queues .now) (start .args .slots .now) (start .args .pool .now) (start .args .slot) (start .pre .0 .1) (start .pre .1) (c .if1 .taken)
 
-cast-t18 : tie.Need-cast-t18
-cast-t18 c = omega (arith, ranged (c .before) .rate)
+cast-t17 : tie.Need-cast-t17
+cast-t17 c = omega (arith, ranged (c .before) .rate)
 
-cast-t18-2 : tie.Need-cast-t18-2
-cast-t18-2 c = omega (arith, ranged (c .before .before) .burst)
+cast-t17-2 : tie.Need-cast-t17-2
+cast-t17-2 c = omega (arith, ranged (c .before .before) .burst)
 
-cast-t18-3 : tie.Need-cast-t18-3
-cast-t18-3 c = omega (arith, ranged (c .before .before .before) .frame)
+cast-t17-3 : tie.Need-cast-t17-3
+cast-t17-3 c = omega (arith, ranged (c .before .before .before) .frame)
 
 path-into-requires : tie.Need-path-into-requires
 path-into-requires c κs = let at = c .before .before .before .before in (start at .pre .0 .0 .store, start at .pre .0 .1, ranged at .few, refl)
@@ -87,7 +87,7 @@ returns-2 c =
 pub count-slot-spec : {M : Type 1} → statement M
 count-slot-spec =
     tie.close
-    (tie.spec (λ c. search needs) (λ c. search needs) (λ c. search needs) (λ c. search needs) returns (λ c. search needs) (λ c. search needs)
-    (λ c. search needs) cast-t18 (λ c. search needs) (λ c. search needs) (λ c. search needs) cast-t18-2 (λ c. search needs) (λ c. search needs)
-    (λ c. search needs) cast-t18-3 (λ c. search needs) path-into-requires array-share-prefix-entries slice-aggregate-add-path add-path-requires
+    (tie.spec (λ c. search needs) (λ c. search needs) (λ c. search needs) returns (λ c. search needs) (λ c. search needs)
+    (λ c. search needs) cast-t17 (λ c. search needs) (λ c. search needs) (λ c. search needs) cast-t17-2 (λ c. search needs) (λ c. search needs)
+    (λ c. search needs) cast-t17-3 (λ c. search needs) path-into-requires array-share-prefix-entries slice-aggregate-add-path add-path-requires
     (λ c. search needs) returns-2)

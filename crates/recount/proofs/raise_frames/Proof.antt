@@ -1,7 +1,7 @@
 -- `recount::raise_frames` meets its contract. The invariant: the figures so far, raised by what the slots left have, are the whole.
 -- Assumes nothing.
 use borrow.Author.Needs.{needs}
-use Prim.Native.Nat.{_+_, _-_, _*_, _≤_, _<_}
+use Prim.Native.Nat.{_+_, _-_, _≤_, _<_}
 use mathlib.Core.Path.{refl, sym, _∙_}
 use native.Mathlib.Omega.{arith}
 use lib.ListN.{getD}
@@ -24,7 +24,7 @@ inside : (c : tie.In-loop Inv-loop μ-loop) → c .before .loop .slot < 256
 inside c = omega (arith, c .loop-test .taken)
 
 -- The slot's entries lie in the pool.
-fits : (c : tie.In-loop Inv-loop μ-loop) → c .before .loop .at + getD (start c .args .slots .now) (6 * c .before .loop .slot + 5) 0 ≤ 1024
+fits : (c : tie.In-loop Inv-loop μ-loop) → c .before .loop .at + getD (start c .args .slots .now) (1280 + c .before .loop .slot) 0 ≤ 1024
 unfolding countAt
 fits c =
     let args = start c .args in
@@ -34,8 +34,8 @@ fits c =
 loop-holds : tie.Need-loop-holds Inv-loop μ-loop
 loop-holds c = raising-none _ _ _ (c .before .before .before .pre .0 .1)
 
-cast-t14 : tie.Need-cast-t14 Inv-loop μ-loop
-cast-t14 c = omega (arith, c .shared-slice-known3 .given (6 * c .before .before .loop .slot + 3))
+cast-t13 : tie.Need-cast-t13 Inv-loop μ-loop
+cast-t13 c = omega (arith, c .shared-slice-known3 .given (768 + c .before .before .loop .slot))
 
 cast-end : tie.Need-cast-end Inv-loop μ-loop
 cast-end c = omega (arith, fits (c .before .before))
@@ -75,6 +75,6 @@ returns c = raising-all _ _ _ (c .before .loop .inv) (omega (arith, c .loop-test
 pub raise-frames-spec : {M : Type 1} → statement M
 raise-frames-spec =
     tie.close
-    (tie.spec Inv-loop μ-loop loop-holds (λ c. search needs) (λ c. search needs) (λ c. search needs) (λ c. search needs) cast-t14
-    (λ c. search needs) (λ c. search needs) (λ c. search needs) (λ c. search needs) cast-end add-end-2 mul-raise-path (λ c. search needs)
+    (tie.spec Inv-loop μ-loop loop-holds (λ c. search needs) (λ c. search needs) (λ c. search needs) cast-t13
+    (λ c. search needs) (λ c. search needs) (λ c. search needs) cast-end add-end-2 mul-raise-path (λ c. search needs)
     (λ c. search needs) part-raise-path-end raise-path-requires (λ c. search needs) (λ c. search needs) loop-again same-length returns)
