@@ -1,4 +1,4 @@
-//! The proved registry's book in plain Rust: the same numbers at the same places in memory and the
+//! The proved registry's book in plain Rust: the same numbers, in arrays of structs, and the
 //! same algorithms (scans for a flow and for a free slot, packed paths in slot order, figures kept
 //! up to date, two divisions a level), written as one would without proofs. Nothing on the heap,
 //! and a scan whose result is at hand isn't made again.

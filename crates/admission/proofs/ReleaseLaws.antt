@@ -52,10 +52,6 @@ module _ (n : ℕ) (links queues slots pool sums : List ℕ) (k : Kept n links q
   pub on : OnQueues n links slots pool
   on = on-queues n links queues slots pool (k .columns) (k .store) (rules .table) (kept-alone (stateOf n links queues slots pool) rules)
 
-  -- Every hop entry is one of the 512.
-  pub entries-low : (i : ℕ) → i < 256 → All (λ e. e < 512) (entriesIn slots pool i)
-  entries-low i lt = all-imp (entriesIn slots pool i) (λ e q. queue-low n links e q (k .columns .few)) (on i lt)
-
   module _ (slot : ℕ) (inside : slot < 256) (held : 1 ≤ countAt slots slot) where
     abbrev entries : List ℕ
     entries = entriesIn slots pool slot

@@ -47,6 +47,11 @@ module _ (slots : List ℕ) where
       rw (suc-add k n, add-suc i k, ← suc-add i k) (omega (arith, counts-split k n (suc i)))
 
   -- One count less to sum, and none left.
+  pub counts-below : (k : ℕ) → k ≤ 256 → countsFrom k 0 slots ≤ countsFrom 256 0 slots
+  counts-below k h =
+      let m : k + (256 - k) ≡ 256 = omega arith in
+      omega (arith, counts-split k (256 - k) 0, ap (λ (n : ℕ). countsFrom n 0 slots) m)
+
   pub counts-next : (end i : ℕ) → i < end → countsFrom (end - i) i slots ≡ getD slots (1280 + i) 0 + countsFrom (end - (i + 1)) (i + 1) slots
   unfolding countsFrom countAt
   counts-next end i h =

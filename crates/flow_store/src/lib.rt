@@ -73,6 +73,21 @@ pub fn hop_sum(slots: &[u32], slot: usize) -> u64
     sum
 }
 
+// The place in the pool where a slot's entries start, and for slot 256 where the held ones end. The counts of a store sum to
+// 1,024 at most, so that they are summed in their own width.
+fn start_of(slot: usize, slots: &[u32]) -> usize
+    requires { ⌜ (length (now slots) ≡ 1536) × ((slot ≤ 256) × (countsFrom 256 0 (now slots) ≤ 1024)) ⌝ }
+    ensures { λ r. ⌜ r ≡ countsFrom slot 0 (now (slots .entry)) ⌝ }
+{
+    let mut sum: u32 = 0;
+    let mut i = 0;
+    while i < slot {
+        sum += slots[HOPS + i];
+        i += 1;
+    }
+    sum as usize
+}
+
 // Copies n numbers from place `from` of one column to place `at` of another.
 fn copy(source: &[u32], from: usize, n: usize, target: &mut [u32], at: usize)
     requires { ⌜ (from + n ≤ length (now source)) × (at + n ≤ length (now target)) ⌝ }
@@ -132,8 +147,8 @@ pub fn insert(slot: usize, flow: Flow, entries: &[u32], slots: &mut [u32], pool:
     ensures { λ _. ⌜ slotsOf (now (slots .exit)) (now (pool .exit)) ≡ set (slotsOf (now (slots .entry)) (now (pool .entry))) slot (some (flowOf (fieldsOf flow) (map hopAt (now (entries .entry))))) ⌝ }
     ensures { λ _. ⌜ Store (now (slots .exit)) (now (pool .exit)) ⌝ }
 {
-    let start = hop_sum(&slots[..], slot) as usize;
-    let end = hop_sum(&slots[..], 256) as usize;
+    let start = start_of(slot, &slots[..]);
+    let end = start_of(256, &slots[..]);
     insert_path(start, end, entries, pool);
     store_flow(slot, flow, slots);
 }
@@ -144,7 +159,7 @@ pub fn path_into(slot: usize, slots: &[u32], pool: &[u32], entries: &mut [u32]) 
     ensures { λ r. ⌜ r ≡ countAt (now (slots .entry)) slot ⌝ }
     ensures { λ r. ⌜ take r (now (entries .exit)) ≡ take (countAt (now (slots .entry)) slot) (drop (countsFrom slot 0 (now (slots .entry))) (now (pool .entry))) ⌝ }
 {
-    let start = hop_sum(slots, slot) as usize;
+    let start = start_of(slot, slots);
     let n = slots[HOPS + slot] as usize;
     copy(pool, start, n, entries, 0);
     n
@@ -169,8 +184,8 @@ pub fn remove(slot: usize, slots: &mut [u32], pool: &mut [u32])
     ensures { λ _. ⌜ Store (now (slots .exit)) (now (pool .exit)) ⌝ }
 {
     let n = slots[HOPS + slot] as usize;
-    let start = hop_sum(&slots[..], slot) as usize;
-    let held = hop_sum(&slots[..], 256) as usize;
+    let start = start_of(slot, &slots[..]);
+    let held = start_of(256, &slots[..]);
     move_down(start, held, n, pool);
     slots[HOPS + slot] = 0;
 }

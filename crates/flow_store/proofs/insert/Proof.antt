@@ -14,8 +14,8 @@ insert-path-requires : tie.Need-insert-path-requires
 insert-path-requires c κs =
     let args = c .before .before .before .before .before .before .before .before .args in
     let pre = c .before .before .before .before .before .before .before .before .pre in
-    let start = c .before .before .before .hop-sum .ensures in
-    let end = c .before .hop-sum2 .ensures in
+    let start = c .before .before .before .start-of .ensures in
+    let end = c .before .start-of2 .ensures in
     (omega (arith, start, end, counts-around (args .slots .now) (args .slot) (pre .inside)), omega (arith, end, pre .room, pre .store .pool-long))
 
 returns : tie.Need-returns
@@ -23,7 +23,7 @@ returns c =
     let at = c .before .before .before .before .before .before .before in
     let args = at .before .before .before .before .before .before .before .before .args in
     let pre = at .before .before .before .before .before .before .before .before .pre in
-    let pool = c .before .before .before .before .before .before .insert-path .ensures ∙ ap₂ (λ (start end : ℕ). pathInserted start end (args .entries .now) (args .pool .now)) (at .before .before .before .hop-sum .ensures) (at .before .hop-sum2 .ensures) in
+    let pool = c .before .before .before .before .before .before .insert-path .ensures ∙ ap₂ (λ (start end : ℕ). pathInserted start end (args .entries .now) (args .pool .now)) (at .before .before .before .start-of .ensures) (at .before .start-of2 .ensures) in
     rw (c .before .before .store-flow .ensures, pool)
     (inserted (args .slot) (args .flow) (args .entries .now) (args .slots .now) (args .pool .now) pre, inserted-store (args .slot) (args .flow) (args .entries .now) (args .slots .now) (args .pool .now) pre)
 

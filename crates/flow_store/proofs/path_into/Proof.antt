@@ -19,7 +19,7 @@ unfolding countAt
 copy-requires c κs =
     let args = c .before .before .before .before .before .before .args in
     let pre = c .before .before .before .before .before .before .pre in
-    (omega (arith, c .before .before .hop-sum .ensures, slot-fits (args .slots .now) (args .slot) (args .pool .now) (pre .1) (pre .0)), omega (arith, pre .2, pre .3))
+    (omega (arith, c .before .before .start-of .ensures, slot-fits (args .slots .now) (args .slot) (args .pool .now) (pre .1) (pre .0)), omega (arith, pre .2, pre .3))
 
 returns : tie.Need-returns
 unfolding countAt
@@ -27,7 +27,7 @@ returns c =
     let args = c .before .before .before .before .before .before .before .before .before .args in
     let pre = c .before .before .before .before .before .before .before .before .before .pre in
     let n = countAt (args .slots .now) (args .slot) in
-    let start = c .before .before .before .before .before .hop-sum .ensures in
+    let start = c .before .before .before .before .before .start-of .ensures in
     (refl, rw (c .before .before .copy .ensures, start) (paste-copied (args .entries .now) 0 (drop (countsFrom (args .slot) 0 (args .slots .now)) (args .pool .now)) n (omega arith) (omega (arith, slot-fits (args .slots .now) (args .slot) (args .pool .now) (pre .1) (pre .0), length-drop (countsFrom (args .slot) 0 (args .slots .now)) (args .pool .now)))))
 
 pub path-into-spec : {M : Type 1} → statement M

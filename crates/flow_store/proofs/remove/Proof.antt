@@ -17,8 +17,8 @@ unfolding countAt
 move-down-requires c κs =
     let args = c .before .before .before .before .before .before .before .before .args in
     let pre = c .before .before .before .before .before .before .before .before .pre in
-    let start = c .before .before .before .hop-sum .ensures in
-    let end = c .before .hop-sum2 .ensures in
+    let start = c .before .before .before .start-of .ensures in
+    let end = c .before .start-of2 .ensures in
     (omega (arith, start, end, order (args .slot) (args .slots .now) (args .pool .now) (pre .1) (pre .0)), omega (arith, end, within (args .slot) (args .slots .now) (args .pool .now) (pre .1) (pre .0)))
 
 returns : tie.Need-returns
@@ -27,7 +27,7 @@ returns c =
     let at = c .before .before .before in
     let args = at .before .before .before .before .before .before .before .before .args in
     let pre = at .before .before .before .before .before .before .before .before .pre in
-    let pool = c .before .before .move-down .ensures ∙ ap₂ (λ (start end : ℕ). pathRemoved start end (countAt (args .slots .now) (args .slot)) (args .pool .now)) (at .before .before .before .hop-sum .ensures) (at .before .hop-sum2 .ensures) in
+    let pool = c .before .before .move-down .ensures ∙ ap₂ (λ (start end : ℕ). pathRemoved start end (countAt (args .slots .now) (args .slot)) (args .pool .now)) (at .before .before .before .start-of .ensures) (at .before .start-of2 .ensures) in
     rw pool
     (removed (args .slot) (args .slots .now) (args .pool .now) (pre .1) (pre .0), removed-store (args .slot) (args .slots .now) (args .pool .now) (pre .1) (pre .0))
 
