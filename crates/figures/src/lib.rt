@@ -5,7 +5,7 @@
 // frame at 3 × e on in `sums`. The table's columns are those of `queue_table`: queue e has its threshold and buffer at
 // 2 × e on in `queues`. Why nothing overflows is said in `units`.
 ghost use mathlib.Core.Path.{_≡_};
-ghost use mathlib.Core.Bool.{true};
+ghost use mathlib.Core.Bool.{true, false};
 ghost use mathlib.Core.Logic.{_↔_};
 ghost use Prim.Native.Nat.{_+_, _*_, _/_, _^_, _≤_, _<_};
 ghost use lib.ListN.{length, getD};
@@ -264,8 +264,24 @@ pub fn remove_path(
     again
 }
 
-// Raises the largest frame at each queue of a path to at least this one.
-pub fn raise_path(frame: Bytes, entries: &[u32], sums: &mut [u64])
+// Whether a queue of the path may have a smaller largest frame. It only reads, which is faster than a loop that may store.
+fn any_lower(frame: Bytes, entries: &[u32], sums: &[u64]) -> bool
+    requires { ⌜ All (λ e. e < 512) (now entries) × (length (now sums) ≡ 1536) ⌝ }
+    ensures { λ r. ⌜ (r ≡ false → FrameRaised (frame .0) (now (entries .entry)) (now (sums .entry)) (now (sums .entry))) ⌝ }
+{
+    let mut i = 0;
+    while i < entries.len() {
+        let e = entries[i] as usize;
+        if sums[3 * e + 2] < frame.0 {
+            return true;
+        }
+        i += 1;
+    }
+    false
+}
+
+// Raises the largest frame at each queue of a path to at least this one, queue by queue.
+fn raise_each(frame: Bytes, entries: &[u32], sums: &mut [u64])
     requires { ⌜ All (λ e. e < 512) (now entries) × (length (now sums) ≡ 1536) ⌝ }
     ensures { λ _. ⌜ FrameRaised (frame .0) (now (entries .entry)) (now (sums .entry)) (now (sums .exit)) ⌝ }
 {
@@ -276,6 +292,16 @@ pub fn raise_path(frame: Bytes, entries: &[u32], sums: &mut [u64])
             sums[at] = frame.0;
         }
         i += 1;
+    }
+}
+
+// Raises the largest frame at each queue of a path to at least this one.
+pub fn raise_path(frame: Bytes, entries: &[u32], sums: &mut [u64])
+    requires { ⌜ All (λ e. e < 512) (now entries) × (length (now sums) ≡ 1536) ⌝ }
+    ensures { λ _. ⌜ FrameRaised (frame .0) (now (entries .entry)) (now (sums .entry)) (now (sums .exit)) ⌝ }
+{
+    if any_lower(frame, entries, &sums[..]) {
+        raise_each(frame, entries, sums);
     }
 }
 
