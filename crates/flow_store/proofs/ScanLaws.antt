@@ -1,20 +1,22 @@
 -- A scan of the slots by a test that doesn't look at the path. What is found from slot i on, the slots before it passed, stays the same.
 -- Assumes nothing.
-use Prim.Native.Nat.{ℕ, zero, suc, _+_, _-_, _*_, _<_}
+use Prim.Native.Nat.{ℕ, zero, suc, _+_, _-_, _*_, _≤_, _<_}
 use mathlib.Core.Path.{_≡_, refl, sym, ap, ap₂, _∙_}
 use mathlib.Core.Bool.{Bool, true, false, cond, not, _&&_, and-true, and-false}
 use mathlib.Core.List.{List, []}
 use mathlib.Core.Option.{none, some}
 use native.Mathlib.Omega.{arith}
+use native.Mathlib.Numerals.{add-one}
+use native.Mathlib.Decide.{decLt}
 use native.Mathlib.Nat.{add-zero, zero-add}
-use borrow.Author.Tests.{eqb-true}
+use borrow.Author.Tests.{eqb-true, ne-eqb}
 use lib.ListN.{getD, take, drop}
 use lib.Seq.{drop-nil}
 use lib.Dec.{eqb}
 use Rattle.model.specs.Orders.{Flow}
 use Rattle.model.specs.Reference.{Slot, isNone, holds, firstIndex}
 use Rattle.model.specs.Laws.Slot.{index-found}
-use Rattle.flow_store.specs.View.{numberAt, countAt, flowAt, slotOf, slotsFrom, slotsOf, countsFrom}
+use Rattle.flow_store.specs.View.{OthersFrom, numberAt, countAt, flowAt, slotOf, slotsFrom, slotsOf, countsFrom}
 use Rattle.flow_store.proofs.ViewLaws.{length-slots, slot-at}
 
 -- What the two tests say of slot i, whatever its entries.
@@ -92,3 +94,25 @@ free-count slots pool h =
     (sym (none-slot count here)
     ∙ ap isNone (sym (slot-at slots k pool h))
     ∙ index-found isNone none (slotsOf slots pool) (omega (arith, length-slots slots pool)))
+
+-- Slots that have another flow number are passed.
+pub scan-skip : (number : ℕ) (slots : List ℕ) (i : ℕ) → i ≤ 256 → OthersFrom number slots 0 i → found (holds number) slots i ≡ found (holds number) slots 0
+scan-skip number slots zero h others = refl
+scan-skip number slots (suc i) h others =
+    let not-here : named number slots i ≡ false = simp (ne-eqb (getD slots i 0) number (others i (omega arith) (omega arith))) in
+    ap (found (holds number) slots) (sym (add-one i))
+    ∙ sym (scan-on (holds number) slots (named number slots) (holds-named number slots) i (omega arith) not-here)
+    ∙ scan-skip number slots i (omega arith) (λ j low lt. others j low (omega arith))
+
+module _ (number : ℕ) (slots : List ℕ) where
+  pub others-join : {i m end : ℕ} → OthersFrom number slots i m → OthersFrom number slots m end → OthersFrom number slots i end
+  others-join {m = m} before after j low lt = go (decLt j m)
+    where
+      go : Dec (j < m) → getD slots j 0 ≡ number → ⊥
+      go (yes h) = before j low h
+      go (no h) = after j (omega arith) lt
+
+  pub others-one : (i : ℕ) → (getD slots i 0 ≡ number → ⊥) → OthersFrom number slots i (i + 1)
+  others-one i other j low lt =
+      let same : j ≡ i = omega arith in
+      rw same other

@@ -100,3 +100,7 @@ pub record Insertable (slot : ℕ) (f : Flow) (entries slots pool : List ℕ) : 
   pub hops : f .hops ≡ length entries
   pub path : 1 ≤ length entries
   pub room : countsFrom 256 0 slots + length entries ≤ 1024
+
+-- None of the slots from `i` up to `end`, held or free, has this flow number.
+abbrev pub OthersFrom : (number : ℕ) (slots : List ℕ) (i end : ℕ) → Type 0
+OthersFrom number slots i end = (j : ℕ) → i ≤ j → j < end → getD slots j 0 ≡ number → ⊥

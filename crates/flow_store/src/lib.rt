@@ -6,6 +6,7 @@
 // and what else stands there doesn't count. `pool` has the hop entries of the held flows one after the other in slot order,
 // so that a flow's entries start at the sum of the hop counts before it; what stands past the last held one doesn't count.
 ghost use mathlib.Core.Path.{_≡_};
+ghost use mathlib.Core.Bool.{false};
 ghost use mathlib.Core.List.{List, map};
 ghost use mathlib.Core.Option.{none, some};
 ghost use Prim.Native.Nat.{ℕ, _+_, _-_, _≤_, _<_};
@@ -15,7 +16,7 @@ ghost use Rattle.model.specs.Orders.{flowOf};
 ghost use Rattle.model.specs.Reference.{firstIndex, holds, isNone};
 ghost use Rattle.queue_table.specs.View.{hopAt};
 ghost use Rattle.orders.specs.Reading.{fieldsOf};
-ghost use Rattle.flow_store.specs.View.{countAt, slotsOf, countsFrom, Store, flowStored, pathInserted, pathRemoved, Narrow, Insertable};
+ghost use Rattle.flow_store.specs.View.{countAt, slotsOf, countsFrom, Store, flowStored, pathInserted, pathRemoved, Narrow, Insertable, OthersFrom};
 use orders::Flow;
 
 // Where slot 0's numbers stand, its flow number at place 0.
@@ -29,12 +30,45 @@ pub const DEADLINES: usize = 1024;
 
 pub const HOPS: usize = 1280;
 
+// Whether a flow number stands in one of 16 slots, held or free. It goes on past the first, so that the slots are compared
+// together.
+fn block_names(number: u32, from: usize, slots: &[u32]) -> bool
+    requires { ⌜ (length (now slots) ≡ 1536) × (from + 16 ≤ 256) ⌝ }
+    ensures { λ r. ⌜ (r ≡ false → OthersFrom number (now (slots .entry)) from (from + 16)) ⌝ }
+{
+    let mut any = false;
+    let mut i = from;
+    while i < from + 16 {
+        let own = slots[i];
+        i += 1;
+        if own == number {
+            any = true;
+        }
+    }
+    any
+}
+
+// A slot before which no slot has this flow number.
+fn skip_others(number: u32, slots: &[u32]) -> usize
+    requires { ⌜ length (now slots) ≡ 1536 ⌝ }
+    ensures { λ r. ⌜ (r ≤ 256) × OthersFrom number (now (slots .entry)) 0 r ⌝ }
+{
+    let mut i = 0;
+    while i < 256 {
+        if block_names(number, i, slots) {
+            return i;
+        }
+        i += 16;
+    }
+    i
+}
+
 // The slot that holds the flow with this number, 256 where none does.
 pub fn find(number: u32, slots: &[u32]) -> usize
     requires { ⌜ length (now slots) ≡ 1536 ⌝ }
     ensures { λ r. ⌜ ((pool : List ℕ) → r ≡ firstIndex (holds number) (slotsOf (now (slots .entry)) pool)) ⌝ }
 {
-    let mut i = 0;
+    let mut i = skip_others(number, slots);
     while i < 256 {
         if slots[i] == number && slots[HOPS + i] != 0 {
             return i;

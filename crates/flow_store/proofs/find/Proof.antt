@@ -2,13 +2,13 @@
 -- Assumes nothing.
 use borrow.Author.Needs.{needs}
 use Prim.Native.Nat.{_-_, _≤_}
-use mathlib.Core.Path.{_≡_, refl, sym, _∙_}
+use mathlib.Core.Path.{_≡_, sym, _∙_}
 use mathlib.Core.Bool.{true, false}
 use mathlib.Core.Logic.{⊎-elim}
 use native.Mathlib.Omega.{arith}
 use borrow.Author.Tests.{eq-eqb, ne-eqb}
 use Rattle.model.specs.Reference.{holds}
-use Rattle.flow_store.proofs.ScanLaws.{named, holds-named, found, scan-found, scan-on, scan-end, scan-whole}
+use Rattle.flow_store.proofs.ScanLaws.{named, holds-named, found, scan-found, scan-on, scan-end, scan-whole, scan-skip}
 use Rattle.flow_store.proofs.find.Statement.{statement}
 use Rattle.flow_store.proofs.find.Tie as tie
 
@@ -19,13 +19,15 @@ abbrev μ-loop : tie.MeasureT-loop
 μ-loop number slots i₀ i = 256 - i
 
 loop-holds : tie.Need-loop-holds Inv-loop μ-loop
-loop-holds c = (omega arith, refl)
+loop-holds c =
+    let start = c .before .before in
+    (c .skip-others .ensures .0, scan-skip (start .args .number) (start .args .slots .now) (c .skip-others .result) (c .skip-others .ensures .0) (c .skip-others .ensures .1))
 
 returns : tie.Need-returns Inv-loop μ-loop
 returns c =
     let at = c .before .before .before .before .before in
-    let number = at .before .args .number in
-    let slots = at .before .args .slots .now in
+    let number = at .before .before .before .args .number in
+    let slots = at .before .before .before .args .slots .now in
     let here : named number slots (at .loop .i) ≡ true = simp (eq-eqb _ _ (c .before .before .if1 .taken), c .if2 .taken) in
     λ pool.
     sym (scan-found (holds number) slots (named number slots) (holds-named number slots) (at .loop .i) (omega arith) here)
@@ -35,8 +37,8 @@ returns c =
 loop-again : tie.Need-loop-again Inv-loop μ-loop
 loop-again c =
     let at = c .before .before .before in
-    let number = at .before .args .number in
-    let slots = at .before .args .slots .now in
+    let number = at .before .before .before .args .number in
+    let slots = at .before .before .before .args .slots .now in
     let not-here : named number slots (at .loop .i) ≡ false =
     ⊎-elim (λ w. simp (eq-eqb _ _ (w .0 .taken), w .2 .left)) (λ w. simp (ne-eqb _ _ (w .left))) (c .if1 .came) in (
       omega arith,
@@ -46,8 +48,8 @@ loop-again c =
 returns-2 : tie.Need-returns-2 Inv-loop μ-loop
 returns-2 c =
     let at = c .before in
-    let number = at .before .args .number in
-    let slots = at .before .args .slots .now in
+    let number = at .before .before .before .args .number in
+    let slots = at .before .before .before .args .slots .now in
     λ pool.
     sym (scan-end (holds number) slots (named number slots) (holds-named number slots) (at .loop .i) (omega arith))
     ∙ at .loop .inv .1
@@ -56,5 +58,5 @@ returns-2 c =
 pub find-spec : {M : Type 1} → statement M
 find-spec =
     tie.close
-    (tie.spec Inv-loop μ-loop loop-holds (λ c. search needs) (λ c. search needs) (λ c. search needs) (λ c. search needs) (λ c. search needs)
+    (tie.spec Inv-loop μ-loop (λ c κs. search needs) loop-holds (λ c. search needs) (λ c. search needs) (λ c. search needs) (λ c. search needs) (λ c. search needs)
     returns (λ c. search needs) (λ c. search needs) loop-again returns-2)
