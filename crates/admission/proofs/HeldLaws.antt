@@ -7,8 +7,7 @@ use mathlib.Core.List.{List, [], _∷_, _++_, map}
 use mathlib.Core.Option.{none, some, Option·some-injective, Option·none-ne-some}
 use native.Mathlib.Nat.{div-add-mod, mod-lt}
 use native.Mathlib.Omega.{arith}
-use lib.ListN.{length, getD, take, drop, length-map, length-drop}
-use lib.Seq.{length-take-le}
+use lib.ListN.{getD}
 use lib.Dec.{leb, eqb}
 use borrow.Author.Tests.{ne-eqb, eqb-true, le-leb}
 use Rattle.model.specs.Formula.{Aggregate}
@@ -24,11 +23,11 @@ use Rattle.model.specs.Laws.Consistent.{FlowRules}
 use Rattle.model.specs.Laws.Reached.{StateRules}
 use Rattle.queue_table.specs.View.{Columns, tableOf, hopAt, isQueue}
 use Rattle.path_check.proofs.EntryLaws.{all-queues}
-use Rattle.flow_store.specs.View.{Store, slotsOf, slotOf, flowAt, countAt, countsFrom}
-use Rattle.flow_store.proofs.ViewLaws.{slot-at, slot-fits}
+use Rattle.flow_store.specs.View.{Store, slotsOf, slotOf, flowAt, countAt, entriesIn, flowIn}
+use Rattle.flow_store.proofs.ViewLaws.{slot-at, entries-long, flow-long}
 use Rattle.flow_check.specs.Findings.{flowAlone}
 use Rattle.figures.specs.View.{Figures, Hops, figureAt}
-use Rattle.recount.specs.View.{entriesIn, Ranged, Countable, OnQueues}
+use Rattle.recount.specs.View.{Ranged, Countable, OnQueues}
 use Rattle.admission.proofs.KeptLaws.{Ranges, ranges, hops-ranged}
 
 -- What holds of each held flow holds of the one in a slot.
@@ -51,16 +50,7 @@ module _ (n : ℕ) (links queues slots pool : List ℕ) (columns : Columns n lin
   t = tableOf n links queues
 
   abbrev flow : ℕ → Flow
-  flow i = flowAt slots i (entriesIn slots pool i)
-
-  entries-long : (i : ℕ) → i < 256 → length (entriesIn slots pool i) ≡ countAt slots i
-  entries-long i lt =
-      length-take-le (countAt slots i) (drop (countsFrom i 0 slots) pool)
-      (omega (arith, length-drop (countsFrom i 0 slots) pool, slot-fits slots i pool lt store))
-
-  path-long : (i : ℕ) → i < 256 → length (flow i .path) ≡ countAt slots i
-  unfolding flowAt
-  path-long i lt = length-map (entriesIn slots pool i) hopAt ∙ entries-long i lt
+  flow i = flowIn slots pool i
 
   pub by-itself : (i : ℕ) → i < 256 → 1 ≤ countAt slots i → (flowInRange (flow i) ≡ true) × (atHop 14 (noQueue t) [] (flow i .path) ≡ none)
   unfolding flowAlone lineFindings
@@ -91,13 +81,13 @@ module _ (n : ℕ) (links queues slots pool : List ℕ) (columns : Columns n lin
         queues-long = columns .queues-long;
         each = λ i lt held.
             let range : Ranges (flow i) = ranges (flow i) (by-itself i lt held .0) in
-            let few : countAt slots i ≤ 12 = omega (arith, range .few, path-long i lt) in
+            let few : countAt slots i ≤ 12 = omega (arith, range .few, flow-long slots i pool lt store) in
             record {
               few = few;
               rate = range .rate;
               burst = range .burst;
               frame = range .frame;
-              hops = hops-ranged n links queues columns table (entriesIn slots pool i) (held-queues i lt held) (omega (arith, few, entries-long i lt));
+              hops = hops-ranged n links queues columns table (entriesIn slots pool i) (held-queues i lt held) (omega (arith, few, entries-long slots i pool lt store));
             };
       }
 

@@ -20,11 +20,11 @@ use Rattle.model.specs.Laws.Figures.{carried}
 use Rattle.model.specs.Laws.Slot.{index-found, number-index}
 use Rattle.model.specs.Laws.Reached.{StateRules, state-rules, rules-state, clear-keeps}
 use Rattle.queue_table.specs.View.{tableOf, hopAt, isQueue}
-use Rattle.flow_store.specs.View.{Store, slotsOf, slotOf, rateAt, burstAt, frameAt, flowAt, countAt}
+use Rattle.flow_store.specs.View.{Store, slotsOf, slotOf, rateAt, burstAt, frameAt, flowAt, countAt, entriesIn, flowIn}
 use Rattle.flow_store.proofs.ViewLaws.{length-slots, slot-at}
 use Rattle.figures.specs.View.{Figures, FlowOf, PathCounted, Carried, Left, PathRemoved, figureAt, raised}
 use Rattle.queue_table.proofs.EntryLaws.{queue-low}
-use Rattle.recount.specs.View.{entriesIn, Ranged, OnQueues, FramesRaised}
+use Rattle.recount.specs.View.{Ranged, OnQueues, FramesRaised}
 use Rattle.admission.specs.declared.Answer.the-variants.{Done}
 use Rattle.admission.specs.View.{stateOf, answerOf, Kept, Stepped}
 use Rattle.admission.proofs.StepLaws.{figures-cleared}
@@ -57,7 +57,7 @@ module _ (n : ℕ) (links queues slots pool sums : List ℕ) (k : Kept n links q
     entries = entriesIn slots pool slot
 
     abbrev flow : Flow
-    flow = flowAt slots slot entries
+    flow = flowIn slots pool slot
 
     abbrev left : List Flow
     left = heldFlows (set (slotsOf slots pool) slot none)

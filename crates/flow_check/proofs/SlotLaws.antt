@@ -7,8 +7,7 @@ use mathlib.Core.List.{List, _∷_, map}
 use mathlib.Core.Option.{Option, none, some}
 use native.Mathlib.Omega.{arith}
 use borrow.Author.Tests.{eq-eqb, ne-eqb, le-leb, lt-leb, lt-ltb, le-ltb}
-use lib.ListN.{length, getD, drop, length-map, length-drop}
-use lib.Seq.{length-take-le}
+use lib.ListN.{getD}
 use lib.Dec.{leb, ltb, eqb}
 use Rattle.model.specs.Columns.{between}
 use Rattle.model.specs.Orders as model
@@ -19,9 +18,9 @@ use Rattle.model.specs.Reference.{Cause, Slot, firstCause, whole, isNone, first
 use Rattle.orders.specs.declared.Flow.{Flow}
 use Rattle.orders.specs.Reading.{fieldsOf}
 use Rattle.queue_table.specs.View.{hopAt}
-use Rattle.flow_store.specs.View.{Store, countAt, countsFrom, flowAt, slotOf, slotsOf}
-use Rattle.flow_store.proofs.ViewLaws.{slot-at, slot-fits}
-use Rattle.flow_check.specs.Findings.{entryFindings, pathFindings, headAt, entriesAt, slotAlone}
+use Rattle.flow_store.specs.View.{Store, countAt, flowAt, slotOf, slotsOf, entriesIn, flowIn}
+use Rattle.flow_store.proofs.ViewLaws.{slot-at, flow-long}
+use Rattle.flow_check.specs.Findings.{entryFindings, pathFindings, headAt, slotAlone}
 
 -- The first of the findings is one, or none.
 pub first-some : (x : Option Cause) (l : List (Option Cause)) → isNone x ≡ false → isNone (firstCause (x ∷ l)) ≡ false
@@ -71,7 +70,7 @@ module _ (t : Table) (slots pool : List ℕ) (i : ℕ) (inside : i < 256) (store
   here = slotAlone t (slotsOf slots pool) i (getD (slotsOf slots pool) i none)
 
   abbrev held : model.Flow
-  held = flowAt slots i (entriesAt slots pool i)
+  held = flowIn slots pool i
 
   free-slot : countAt slots i ≡ 0 → getD (slotsOf slots pool) i none ≡ none
   unfolding slotOf
@@ -81,15 +80,9 @@ module _ (t : Table) (slots pool : List ℕ) (i : ℕ) (inside : i < 256) (store
   unfolding slotOf
   held-slot ne = slot-at slots i pool inside ∙ simp (ne-eqb (countAt slots i) 0 ne)
 
-  path-long : length (held .path) ≡ countAt slots i
-  unfolding flowAt
-  path-long =
-      length-map (entriesAt slots pool i) hopAt
-      ∙ length-take-le (countAt slots i) (drop (countsFrom i 0 slots) pool) (omega (arith, slot-fits slots i pool inside store, length-drop (countsFrom i 0 slots) pool))
-
   range-at : flowInRange held ≡ (model.headInRange (headAt slots i) && between 1 12 (countAt slots i))
   unfolding flowInRange headOf model.headInRange model.hopsInRange flowAt
-  range-at = ap (λ (n : ℕ). model.headInRange (headAt slots i) && between 1 12 n) path-long
+  range-at = ap (λ (n : ℕ). model.headInRange (headAt slots i) && between 1 12 n) (flow-long slots i pool inside store)
 
   -- By the numbers read from the slot.
   module _ (g : Flow) (e : fieldsOf g ≡ headAt slots i) where
@@ -141,9 +134,9 @@ module _ (t : Table) (slots pool : List ℕ) (i : ℕ) (inside : i < 256) (store
             judged-frame h = there ∙ alone-frame t (slotsOf slots pool) i held (range-here ∙ range) (eq-eqb _ i (own-index ∙ own)) (frame-here ∙ lt-ltb _ _ h)
 
             pub judged-path : g .frame .0 ≤ g .burst .0
-                → here ≡ isNone (firstCause (pathFindings t (g .deadline .0) (map hopAt (entriesAt slots pool i))))
+                → here ≡ isNone (firstCause (pathFindings t (g .deadline .0) (map hopAt (entriesIn slots pool i))))
             unfolding flowAt
             judged-path h =
                 there
                 ∙ alone-path t (slotsOf slots pool) i held (range-here ∙ range) (eq-eqb _ i (own-index ∙ own)) (frame-here ∙ le-ltb _ _ h)
-                ∙ ap (λ (x : model.Head). isNone (firstCause (pathFindings t (x .deadline) (map hopAt (entriesAt slots pool i))))) (sym e)
+                ∙ ap (λ (x : model.Head). isNone (firstCause (pathFindings t (x .deadline) (map hopAt (entriesIn slots pool i))))) (sym e)

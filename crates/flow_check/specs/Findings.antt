@@ -4,7 +4,7 @@ use mathlib.Core.Path.{_≡_}
 use mathlib.Core.Bool.{Bool, true, _&&_}
 use mathlib.Core.List.{List, [], _∷_, _++_, map}
 use mathlib.Core.Option.{Option, none, some}
-use lib.ListN.{length, take, drop}
+use lib.ListN.{length, take}
 use lib.Dec.{leb, ltb, eqb}
 use Rattle.model.specs.QueueTable.{Table}
 use Rattle.model.specs.Orders as model
@@ -15,7 +15,7 @@ use Rattle.orders.specs.declared.Flow.{Flow}
 use Rattle.orders.specs.Reading.{fieldsOf}
 use Rattle.queue_table.specs.View.{tableOf, hopAt}
 use Rattle.path_check.specs.Causes.{AllQueues, linePath}
-use Rattle.flow_store.specs.View.{Store, slotsOf, numberAt, rateAt, burstAt, frameAt, deadlineAt, countAt, countsFrom}
+use Rattle.flow_store.specs.View.{Store, slotsOf, numberAt, rateAt, burstAt, frameAt, deadlineAt, countAt}
 use Rattle.flow_check.specs.declared.Cause.{Cause}
 use Rattle.flow_check.specs.declared.Cause.the-variants.{Nothing, Whole, At}
 use Rattle.flow_check.specs.declared.Judged.{Judged}
@@ -35,6 +35,10 @@ entryFindings t deadline path =
     ∷ model-causes.whole 20 (ltb deadline (model-causes.thresholdSum t path))
     ∷ []
 
+-- 14, 16, 15 and 20 of a path.
+abbrev pub pathFindings : Table → (deadline : ℕ) → List model.Hop → List (Option model-causes.Cause)
+pathFindings t deadline path = model-causes.atHop 14 (model-causes.noQueue t) [] path ∷ entryFindings t deadline path
+
 -- The flow of an order line.
 abbrev pub lineFlow : Flow → (hopLinks hopLevels : List ℕ) → model.Flow
 lineFlow f hopLinks hopLevels = model.flowOf (fieldsOf f) (linePath hopLinks hopLevels (f .hops))
@@ -48,9 +52,7 @@ pub record Named (f : Flow) (hopLinks hopLevels : List ℕ) (n : ℕ) (links ent
 -- 14, 16, 15 and 20 of the line's flow.
 pub record PathJudged (f : Flow) (hopLinks hopLevels : List ℕ) (n : ℕ) (links queues : List ℕ) (r : Judged) : Type 0 where
   pub first : causeOf (r .cause)
-      ≡ model-causes.firstCause
-      (model-causes.atHop 14 (model-causes.noQueue (tableOf n links queues)) [] (linePath hopLinks hopLevels (f .hops))
-      ∷ entryFindings (tableOf n links queues) (f .deadline .0) (linePath hopLinks hopLevels (f .hops)))
+      ≡ model-causes.firstCause (pathFindings (tableOf n links queues) (f .deadline .0) (linePath hopLinks hopLevels (f .hops)))
   pub named : causeOf (r .cause) ≡ none → Named f hopLinks hopLevels n links (r .entries)
 
 -- The causes before 30 against the line's flow, beside the flows in the slots.
@@ -92,11 +94,3 @@ headAt slots i =
       deadline = deadlineAt slots i;
       hops = countAt slots i;
     }
-
--- The hop entries of slot i.
-abbrev pub entriesAt : (slots pool : List ℕ) (i : ℕ) → List ℕ
-entriesAt slots pool i = take (countAt slots i) (drop (countsFrom i 0 slots) pool)
-
--- 14, 16, 15 and 20 of a path.
-abbrev pub pathFindings : Table → (deadline : ℕ) → List model.Hop → List (Option model-causes.Cause)
-pathFindings t deadline path = model-causes.atHop 14 (model-causes.noQueue t) [] path ∷ entryFindings t deadline path

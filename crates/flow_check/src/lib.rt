@@ -8,9 +8,9 @@ ghost use lib.ListN.{length, getD};
 ghost use Rattle.model.specs.Reference.{firstCause, isNone, every, heldFlows};
 ghost use Rattle.queue_table.specs.View.{Columns, hopAt, tableOf};
 ghost use Rattle.path_check.specs.Causes.{AllQueues};
-ghost use Rattle.flow_store.specs.View.{Store, slotsOf, countAt};
+ghost use Rattle.flow_store.specs.View.{Store, slotsOf, countAt, entriesIn};
 ghost use Rattle.orders.specs.Reading.{fieldsOf};
-ghost use Rattle.flow_check.specs.Findings.{causeOf, entryFindings, PathJudged, FlowJudged, RoomJudged, flowAlone, slotAlone, headAt, entriesAt, pathFindings};
+ghost use Rattle.flow_check.specs.Findings.{causeOf, entryFindings, PathJudged, FlowJudged, RoomJudged, flowAlone, slotAlone, headAt, pathFindings};
 use flow_store::BURSTS;
 use flow_store::DEADLINES;
 use flow_store::FRAMES;
@@ -195,36 +195,18 @@ fn path_stands(deadline: Micros, n: usize, links: &[u32], queues: &[u32], entrie
     is_nothing(judge_entries(deadline, n, links, queues, entries))
 }
 
-// The same of the path of a slot.
-fn slot_path_stands(
-    slot: usize,
-    deadline: Micros,
-    n: usize,
-    links: &[u32],
-    queues: &[u32],
-    slots: &[u32],
-    pool: &[u32],
-) -> bool
-    requires { ⌜ Columns n (now links) (now queues) × Store (now slots) (now pool) ⌝ }
-    requires { ⌜ (slot < 256) × (countAt (now slots) slot ≤ 12) ⌝ }
-    ensures { λ r. ⌜ r ≡ isNone (firstCause (pathFindings (tableOf n (now (links .entry)) (now (queues .entry))) (deadline .0) (map hopAt (entriesAt (now (slots .entry)) (now (pool .entry)) slot)))) ⌝ }
-{
-    let mut entries = [0u32; 12];
-    let hops = flow_store::path_into(slot, slots, pool, &mut entries);
-    path_stands(deadline, n, links, queues, &entries[..hops])
-}
-
-// Whether a slot is free, or its flow meets 11, 12, 17, 14, 16, 15 and 20; its numbers can have any value.
+// Whether a slot is free, or its flow meets 11, 12, 17, 14, 16, 15 and 20; its numbers can have any value. The entries are
+// the slot's part of the pool.
 fn held_flow(
     slot: usize,
+    entries: &[u32],
     n: usize,
     links: &[u32],
     queues: &[u32],
     slots: &[u32],
-    pool: &[u32],
 ) -> bool
-    requires { ⌜ Columns n (now links) (now queues) × Store (now slots) (now pool) × (slot < 256) ⌝ }
-    ensures { λ r. ⌜ r ≡ slotAlone (tableOf n (now (links .entry)) (now (queues .entry))) (slotsOf (now (slots .entry)) (now (pool .entry))) slot (getD (slotsOf (now (slots .entry)) (now (pool .entry))) slot none) ⌝ }
+    requires { ⌜ Columns n (now links) (now queues) × (length (now slots) ≡ 1536) × (slot < 256) × (length (now entries) ≡ countAt (now slots) slot) ⌝ }
+    ensures { λ r. ⌜ ((pool : List ℕ) → Store (now (slots .entry)) pool → now (entries .entry) ≡ entriesIn (now (slots .entry)) pool slot → r ≡ slotAlone (tableOf n (now (links .entry)) (now (queues .entry))) (slotsOf (now (slots .entry)) pool) slot (getD (slotsOf (now (slots .entry)) pool) slot none)) ⌝ }
 {
     let flow = numbers_at(slot, slots);
     let number = flow.number;
@@ -246,7 +228,7 @@ fn held_flow(
     if burst < largest {
         return false;
     }
-    slot_path_stands(slot, flow.deadline, n, links, queues, slots, pool)
+    path_stands(flow.deadline, n, links, queues, entries)
 }
 
 // Whether each held flow meets 11, 12, 17, 14, 16, 15 and 20 beside the others.
@@ -254,11 +236,14 @@ pub fn held_flows(n: usize, links: &[u32], queues: &[u32], slots: &[u32], pool: 
     requires { ⌜ Columns n (now links) (now queues) × Store (now slots) (now pool) ⌝ }
     ensures { λ r. ⌜ r ≡ every (flowAlone (tableOf n (now (links .entry)) (now (queues .entry))) (heldFlows (slotsOf (now (slots .entry)) (now (pool .entry))))) (heldFlows (slotsOf (now (slots .entry)) (now (pool .entry)))) ⌝ }
 {
+    let mut at = 0;
     let mut slot = 0;
     while slot < 256 {
-        if !held_flow(slot, n, links, queues, slots, pool) {
+        let end = at + slots[HOPS + slot] as usize;
+        if !held_flow(slot, &pool[at..end], n, links, queues, slots) {
             return false;
         }
+        at = end;
         slot += 1;
     }
     true

@@ -16,7 +16,7 @@ use Rattle.model.specs.Total.{total}
 use Rattle.model.specs.Orders.{Flow}
 use Rattle.model.specs.Reference.{Slot, heldFlows, heldHops}
 use Rattle.queue_table.specs.View.{hopAt}
-use Rattle.flow_store.specs.View.{countAt, flowAt, slotOf, slotsFrom, slotsOf, countsFrom, Store}
+use Rattle.flow_store.specs.View.{countAt, flowAt, slotOf, slotsFrom, slotsOf, countsFrom, entriesIn, flowIn, Store}
 
 module _ (slots : List ℕ) where
   pub length-from : (n i : ℕ) (pool : List ℕ) → length (slotsFrom n i slots pool) ≡ n
@@ -67,7 +67,7 @@ module _ (slots : List ℕ) where
   split-at : (k r : ℕ) (pool : List ℕ)
       → slotsFrom (k + suc r) 0 slots pool
       ≡ slotsFrom k 0 slots pool
-      ++ slotOf (countAt slots k) (flowAt slots k (take (countAt slots k) (drop (countsFrom k 0 slots) pool)))
+      ++ slotOf (countAt slots k) (flowIn slots pool k)
       ∷ slotsFrom r (suc k) slots (drop (countsFrom k 0 slots + countAt slots k) pool)
   unfolding slotsFrom
   split-at k r pool =
@@ -78,7 +78,7 @@ module _ (slots : List ℕ) where
   pub slots-around : (k : ℕ) (pool : List ℕ) → k < 256
       → slotsOf slots pool
       ≡ slotsFrom k 0 slots pool
-      ++ slotOf (countAt slots k) (flowAt slots k (take (countAt slots k) (drop (countsFrom k 0 slots) pool)))
+      ++ slotOf (countAt slots k) (flowIn slots pool k)
       ∷ slotsFrom (255 - k) (suc k) slots (drop (countsFrom k 0 slots + countAt slots k) pool)
   unfolding slotsOf
   slots-around k pool h =
@@ -96,15 +96,39 @@ module _ (slots : List ℕ) where
 
   -- The view's slot k.
   pub slot-at : (k : ℕ) (pool : List ℕ) → k < 256
-      → getD (slotsOf slots pool) k none ≡ slotOf (countAt slots k) (flowAt slots k (take (countAt slots k) (drop (countsFrom k 0 slots) pool)))
+      → getD (slotsOf slots pool) k none ≡ slotOf (countAt slots k) (flowIn slots pool k)
   slot-at k pool h =
-      let here = slotOf (countAt slots k) (flowAt slots k (take (countAt slots k) (drop (countsFrom k 0 slots) pool))) in
+      let here = slotOf (countAt slots k) (flowIn slots pool k) in
       let after = slotsFrom (255 - k) (suc k) slots (drop (countsFrom k 0 slots + countAt slots k) pool) in
       ap (λ (l : List Slot). getD l k none) (slots-around k pool h) ∙ getD-at (slotsFrom k 0 slots pool) here after none k (length-from k 0 pool)
 
-  -- A slot's entries lie in the pool.
+  -- Slot k counted too.
+  pub counts-one : (k : ℕ) → countsFrom k 0 slots + countAt slots k ≡ countsFrom (k + 1) 0 slots
+  unfolding countsFrom
+  counts-one k = sym (counts-split k 1 0 ∙ rw (zero-add k) (omega arith))
+
+  -- A slot's entries lie in the pool, as many as its count says.
   pub slot-fits : (k : ℕ) (pool : List ℕ) → k < 256 → Store slots pool → countsFrom k 0 slots + countAt slots k ≤ length pool
   slot-fits k pool h store = omega (arith, counts-around k h, store .pool-long, store .fits)
+
+  pub entries-long : (k : ℕ) (pool : List ℕ) → k < 256 → Store slots pool → length (entriesIn slots pool k) ≡ countAt slots k
+  entries-long k pool h store =
+      length-take-le (countAt slots k) (drop (countsFrom k 0 slots) pool)
+      (omega (arith, length-drop (countsFrom k 0 slots) pool, slot-fits k pool h store))
+
+  -- The entries between two places of the pool, where a slot's start and end there.
+  pub entries-taken : {at end : ℕ} (k : ℕ) (pool : List ℕ) → at ≡ countsFrom k 0 slots → end ≡ at + countAt slots k
+      → take (end - at) (drop at pool) ≡ entriesIn slots pool k
+  entries-taken {at} {end} k pool start e =
+      let n : end - at ≡ countAt slots k = omega arith in
+      rw (n, start)
+
+path-long : (slots : List ℕ) (i : ℕ) (entries : List ℕ) → length (flowAt slots i entries .path) ≡ length entries
+unfolding flowAt
+path-long slots i entries = length-map entries hopAt
+
+pub flow-long : (slots : List ℕ) (k : ℕ) (pool : List ℕ) → k < 256 → Store slots pool → length (flowIn slots pool k .path) ≡ countAt slots k
+flow-long slots k pool h store = path-long slots k (entriesIn slots pool k) ∙ entries-long slots k pool h store
 
 -- The held entries: a held flow has as many as its count says.
 held-slot : (count : ℕ) (f : Flow) (rest : List Slot) → length (f .path) ≡ count
@@ -117,10 +141,6 @@ held-slot count f rest long = go (eqb count 0) refl
         let empty : count ≡ 0 = eqb-true count 0 e in
         rw empty (sym (zero-add (heldHops (heldFlows rest))))
     go false e = rw long
-
-path-long : (slots : List ℕ) (i : ℕ) (entries : List ℕ) → length (flowAt slots i entries .path) ≡ length entries
-unfolding flowAt
-path-long slots i entries = length-map entries hopAt
 
 held-from : (slots : List ℕ) (n i : ℕ) (pool : List ℕ) → countsFrom n i slots ≤ length pool
     → heldHops (heldFlows (slotsFrom n i slots pool)) ≡ countsFrom n i slots

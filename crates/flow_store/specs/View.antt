@@ -62,6 +62,13 @@ unfoldable pub countsFrom : (n i : ℕ) (slots : List ℕ) → ℕ
 countsFrom zero i slots = 0
 countsFrom (suc n) i slots = countAt slots i + countsFrom n (suc i) slots
 
+-- The hop entries of slot i, and the flow that is there.
+abbrev pub entriesIn : (slots pool : List ℕ) (i : ℕ) → List ℕ
+entriesIn slots pool i = take (countAt slots i) (drop (countsFrom i 0 slots) pool)
+
+abbrev pub flowIn : (slots pool : List ℕ) (i : ℕ) → model.Flow
+flowIn slots pool i = flowAt slots i (entriesIn slots pool i)
+
 -- Two columns of the right size whose entries fit the pool.
 pub record Store (slots pool : List ℕ) : Type 0 where
   pub slots-long : length slots ≡ 1536

@@ -16,7 +16,7 @@ ghost use Rattle.model.specs.Orders.{flowOf};
 ghost use Rattle.model.specs.Reference.{firstIndex, holds, isNone};
 ghost use Rattle.queue_table.specs.View.{hopAt};
 ghost use Rattle.orders.specs.Reading.{fieldsOf};
-ghost use Rattle.flow_store.specs.View.{countAt, slotsOf, countsFrom, Store, flowStored, pathInserted, pathRemoved, Narrow, Insertable, OthersFrom};
+ghost use Rattle.flow_store.specs.View.{countAt, slotsOf, countsFrom, entriesIn, Store, flowStored, pathInserted, pathRemoved, Narrow, Insertable, OthersFrom};
 use orders::Flow;
 
 // Where slot 0's numbers stand, its flow number at place 0.
@@ -191,7 +191,7 @@ pub fn insert(slot: usize, flow: Flow, entries: &[u32], slots: &mut [u32], pool:
 pub fn path_into(slot: usize, slots: &[u32], pool: &[u32], entries: &mut [u32]) -> usize
     requires { ⌜ Store (now slots) (now pool) × (slot < 256) × (countAt (now slots) slot ≤ 12) × (length (now entries) ≡ 12) ⌝ }
     ensures { λ r. ⌜ r ≡ countAt (now (slots .entry)) slot ⌝ }
-    ensures { λ r. ⌜ take r (now (entries .exit)) ≡ take (countAt (now (slots .entry)) slot) (drop (countsFrom slot 0 (now (slots .entry))) (now (pool .entry))) ⌝ }
+    ensures { λ r. ⌜ take r (now (entries .exit)) ≡ entriesIn (now (slots .entry)) (now (pool .entry)) slot ⌝ }
 {
     let start = start_of(slot, slots);
     let n = slots[HOPS + slot] as usize;

@@ -15,11 +15,12 @@ use Rattle.model.specs.Reference.{Slot, heldFlows}
 use Rattle.model.specs.WithFlow.{together}
 use Rattle.model.specs.Laws.Figures.{aggregate-more}
 use Rattle.queue_table.specs.View.{hopAt}
-use Rattle.flow_store.specs.View.{frameAt, countAt, countsFrom, flowAt, slotsFrom, slotsOf}
+use Rattle.flow_store.specs.View.{frameAt, countAt, countsFrom, flowAt, slotsFrom, slotsOf, entriesIn, flowIn}
+use Rattle.flow_store.proofs.ViewLaws.{counts-one}
 use Rattle.figures.specs.View.{figureAt, raised, FrameRaised}
 use Rattle.figures.proofs.RaiseLaws.{raised-none, raised-twice}
-use Rattle.recount.specs.View.{entriesIn, FramesRaised}
-use Rattle.recount.proofs.RecountLaws.{flowIn, rest, counts-one, flows-free, flows-held}
+use Rattle.recount.specs.View.{FramesRaised}
+use Rattle.recount.proofs.RecountLaws.{rest, flows-free, flows-held}
 
 -- The largest frame of the flows in these slots at queue e.
 abbrev pub frameOf : Table → List Slot → (e : ℕ) → ℕ
@@ -38,13 +39,6 @@ unfolding aggregateAt allEntries entries largest
 frame-nowhere t f q e = rw e
 
 module _ (slots pool : List ℕ) where
-  -- The entries that the program takes from the pool.
-  pub entries-taken : {at end : ℕ} (slot : ℕ) → at ≡ countsFrom slot 0 slots → end ≡ at + countAt slots slot
-      → take (end - at) (drop at pool) ≡ entriesIn slots pool slot
-  entries-taken {at} {end} slot start e =
-      let n : end - at ≡ countAt slots slot = omega arith in
-      rw (n, start)
-
   -- Slot i has its flow's largest frame, and a free one has none.
   frame-next : (t : Table) (i e : ℕ) → i < 256 → Dec (countAt slots i ≡ 0)
       → frameOf t (rest slots pool i) e ≡ max (aggregateAt t (flowIn slots pool i ∷ []) (hopAt e) .frame) (frameOf t (rest slots pool (i + 1)) e)

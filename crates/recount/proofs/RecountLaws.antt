@@ -7,8 +7,8 @@ use mathlib.Core.List.{List, [], _∷_}
 use mathlib.Core.Option.{none, some}
 use native.Mathlib.Omega.{arith}
 use native.Mathlib.Numerals.{add-one}
-use native.Mathlib.Nat.{add-zero, zero-add}
-use native.Mathlib.Decide.{decLt, ℕ-discrete}
+use native.Mathlib.Nat.{add-zero}
+use native.Mathlib.Decide.{decLt}
 use borrow.Author.Tests.{ne-eqb}
 use lib.ListN.{length, getD, set, drop, List·getD-eq-default}
 use lib.Seq.{drop-drop, getD-set-same, getD-set-other, ext-getD}
@@ -18,20 +18,13 @@ use Rattle.model.specs.QueueTable.{Table}
 use Rattle.model.specs.Orders.{Flow}
 use Rattle.model.specs.Aggregates.{allEntries, aggregateAt}
 use Rattle.model.specs.Reference.{Slot, heldFlows}
+use Rattle.model.specs.Laws.List.{before-next}
 use Rattle.queue_table.specs.View.{tableOf}
-use Rattle.flow_store.specs.View.{rateAt, burstAt, frameAt, countAt, countsFrom, flowAt, slotOf, slotsFrom, slotsOf}
-use Rattle.flow_store.proofs.ViewLaws.{counts-split}
+use Rattle.flow_store.specs.View.{rateAt, burstAt, frameAt, countAt, countsFrom, flowAt, slotOf, slotsFrom, slotsOf, entriesIn, flowIn}
+use Rattle.flow_store.proofs.ViewLaws.{counts-one}
 use Rattle.figures.specs.View.{figureAt, Below, Figures, FlowOf, PathAdded}
 use Rattle.figures.proofs.AddLaws.{figures-added}
-use Rattle.recount.specs.View.{entriesIn, Counted, Recounted}
-
--- What holds before place i and there holds before the next.
-pub below-next : (P : ℕ → Type 0) (i : ℕ) → ((j : ℕ) → j < i → P j) → P i → (j : ℕ) → j < i + 1 → P j
-below-next P i before here j lt = go (ℕ-discrete j i)
-  where
-    go : Dec (j ≡ i) → P j
-    go (yes e) = rw e here
-    go (no ne) = before j (omega arith)
+use Rattle.recount.specs.View.{Counted, Recounted}
 
 -- What stands before place i is 0.
 abbrev pub ZeroTo : (i : ℕ) (sums : List ℕ) → Type 0
@@ -39,7 +32,7 @@ ZeroTo i sums = (j : ℕ) → j < i → getD sums j 0 ≡ 0
 
 pub zero-next : (i : ℕ) (sums : List ℕ) → i < length sums → ZeroTo i sums → ZeroTo (i + 1) (set sums i 0)
 zero-next i sums h so-far =
-    below-next (λ j. getD (set sums i 0) j 0 ≡ 0) i (λ j lt. getD-set-other sums i j 0 0 (omega arith) ∙ so-far j lt) (getD-set-same sums i 0 0 h)
+    before-next (λ j. getD (set sums i 0) j 0 ≡ 0) i (λ j lt. getD-set-other sums i j 0 0 (omega arith) ∙ so-far j lt) (getD-set-same sums i 0 0 h)
 
 pub zero-all : (i : ℕ) (sums : List ℕ) → length sums ≤ i → ZeroTo i sums → Below 0 sums
 zero-all i sums h z j = go (decLt j i)
@@ -56,39 +49,31 @@ figures-none t sums long below =
     none-at : (j : ℕ) → getD sums j 0 ≡ 0
     none-at j = omega (arith, below j)
 
--- Slot i counted too.
-pub counts-one : (slots : List ℕ) (i : ℕ) → countsFrom i 0 slots + countAt slots i ≡ countsFrom (i + 1) 0 slots
-unfolding countsFrom
-counts-one slots i = sym (counts-split slots i 1 0 ∙ rw (zero-add i) (omega arith))
-
 module _ (slots pool : List ℕ) where
-  abbrev pub flowIn : (i : ℕ) → Flow
-  flowIn i = flowAt slots i (entriesIn slots pool i)
-
   abbrev pub rest : (i : ℕ) → List Slot
   rest i = slotsFrom (256 - i) i slots (drop (countsFrom i 0 slots) pool)
 
   -- Slot i, and those after it.
-  rest-next : (i : ℕ) → i < 256 → rest i ≡ slotOf (countAt slots i) (flowIn i) ∷ rest (i + 1)
+  rest-next : (i : ℕ) → i < 256 → rest i ≡ slotOf (countAt slots i) (flowIn slots pool i) ∷ rest (i + 1)
   unfolding slotsFrom countsFrom
   rest-next i h =
       let m : 256 - i ≡ suc (256 - (i + 1)) = omega arith in
       let c : ℕ = countAt slots i in
       let k : ℕ = countsFrom i 0 slots in
       ap (λ (n : ℕ). slotsFrom n i slots (drop k pool)) m
-      ∙ ap (λ (p : List ℕ). slotOf c (flowIn i) ∷ slotsFrom (256 - (i + 1)) (suc i) slots p) (drop-drop c k pool ∙ ap (λ (n : ℕ). drop n pool) (counts-one slots i))
-      ∙ ap (λ (n : ℕ). slotOf c (flowIn i) ∷ slotsFrom (256 - (i + 1)) n slots (drop (countsFrom (i + 1) 0 slots) pool)) (sym (add-one i))
+      ∙ ap (λ (p : List ℕ). slotOf c (flowIn slots pool i) ∷ slotsFrom (256 - (i + 1)) (suc i) slots p) (drop-drop c k pool ∙ ap (λ (n : ℕ). drop n pool) (counts-one slots i))
+      ∙ ap (λ (n : ℕ). slotOf c (flowIn slots pool i) ∷ slotsFrom (256 - (i + 1)) n slots (drop (countsFrom (i + 1) 0 slots) pool)) (sym (add-one i))
 
   pub flows-free : (i : ℕ) → i < 256 → countAt slots i ≡ 0 → heldFlows (rest i) ≡ heldFlows (rest (i + 1))
   unfolding slotOf heldFlows
   flows-free i h free =
-      let f : Flow = flowIn i in
+      let f : Flow = flowIn slots pool i in
       ap heldFlows (rest-next i h) ∙ ap (λ (count : ℕ). heldFlows (slotOf count f ∷ rest (i + 1))) free
 
-  pub flows-held : (i : ℕ) → i < 256 → 1 ≤ countAt slots i → heldFlows (rest i) ≡ flowIn i ∷ heldFlows (rest (i + 1))
+  pub flows-held : (i : ℕ) → i < 256 → 1 ≤ countAt slots i → heldFlows (rest i) ≡ flowIn slots pool i ∷ heldFlows (rest (i + 1))
   unfolding slotOf heldFlows
   flows-held i h held =
-      let f : Flow = flowIn i in
+      let f : Flow = flowIn slots pool i in
       ap heldFlows (rest-next i h) ∙ ap (λ (b : Bool). heldFlows (cond b none (some f) ∷ rest (i + 1))) (ne-eqb (countAt slots i) 0 (λ e. omega arith))
 
 module _ (queues slots pool : List ℕ) where

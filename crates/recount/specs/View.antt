@@ -3,18 +3,14 @@ use Prim.Native.Nat.{ℕ, _+_, _-_, _*_, _^_, _≤_, _<_}
 use mathlib.Core.Path.{_≡_}
 use mathlib.Core.Bool.{true}
 use mathlib.Core.List.{List}
-use lib.ListN.{length, take, drop}
+use lib.ListN.{length, drop}
 use Rattle.model.specs.Reference.{heldFlows}
 use Rattle.model.specs.Schedulable.{All}
 use Rattle.model.specs.QueueTable.{Table}
 use Rattle.model.specs.Aggregates.{aggregateAt}
 use Rattle.queue_table.specs.View.{tableOf, hopAt, isQueue}
-use Rattle.flow_store.specs.View.{Store, rateAt, burstAt, frameAt, countAt, countsFrom, slotsFrom, slotsOf}
+use Rattle.flow_store.specs.View.{Store, rateAt, burstAt, frameAt, countAt, countsFrom, slotsFrom, slotsOf, entriesIn}
 use Rattle.figures.specs.View.{figureAt, Below, Figures, Hops, raised}
-
--- The hop entries of slot i.
-abbrev pub entriesIn : (slots pool : List ℕ) (i : ℕ) → List ℕ
-entriesIn slots pool i = take (countAt slots i) (drop (countsFrom i 0 slots) pool)
 
 -- The flow in slot i has its numbers in their ranges, and a path within the columns.
 pub record Ranged (queues slots pool : List ℕ) (i : ℕ) : Type 0 where

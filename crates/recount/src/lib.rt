@@ -7,9 +7,9 @@ ghost use mathlib.Core.Bool.{true, false};
 ghost use Prim.Native.Nat.{ℕ, _+_, _<_};
 ghost use lib.ListN.{length};
 ghost use Rattle.model.specs.Schedulable.{All};
-ghost use Rattle.flow_store.specs.View.{Store};
+ghost use Rattle.flow_store.specs.View.{Store, countsFrom, entriesIn};
 ghost use Rattle.figures.specs.View.{Below};
-ghost use Rattle.recount.specs.View.{entriesIn, Countable, Counted, Recounted, FramesRaised};
+ghost use Rattle.recount.specs.View.{Countable, Counted, Recounted, FramesRaised};
 use flow_store::BURSTS;
 use flow_store::FRAMES;
 use flow_store::HOPS;
@@ -29,21 +29,20 @@ fn clear(sums: &mut [u64])
     }
 }
 
-// Counts the flow of a slot in, where it holds one.
-fn count_slot(slot: usize, queues: &[u32], slots: &[u32], pool: &[u32], sums: &mut [u64])
-    requires { ⌜ Countable (now queues) (now slots) (now pool) × (slot < 256) ⌝ }
+// Counts the flow of a slot in, where it holds one. Its entries start at place `at` of the pool.
+fn count_slot(slot: usize, at: usize, queues: &[u32], slots: &[u32], pool: &[u32], sums: &mut [u64])
+    requires { ⌜ Countable (now queues) (now slots) (now pool) × (slot < 256) × (at ≡ countsFrom slot 0 (now slots)) ⌝ }
     requires { ⌜ Counted (now queues) (now slots) (now pool) (now sums) (slot + 1) ⌝ }
     ensures { λ _. ⌜ Counted (now (queues .entry)) (now (slots .entry)) (now (pool .entry)) (now (sums .exit)) slot ⌝ }
 {
-    if slots[HOPS + slot] == 0 {
+    let end = at + slots[HOPS + slot] as usize;
+    if at == end {
         return;
     }
     let rate = Rate(slots[RATES + slot] as u64);
     let burst = Bytes(slots[BURSTS + slot] as u64);
     let frame = Bytes(slots[FRAMES + slot] as u64);
-    let mut entries = [0u32; 12];
-    let n = flow_store::path_into(slot, slots, pool, &mut entries);
-    figures::add_path(rate, burst, frame, queues, &entries[..n], sums);
+    figures::add_path(rate, burst, frame, queues, &pool[at..end], sums);
 }
 
 // Works out anew the figures of the held flows, whatever the column holds.
@@ -52,10 +51,12 @@ pub fn recount(queues: &[u32], slots: &[u32], pool: &[u32], sums: &mut [u64])
     ensures { λ _. ⌜ Recounted (now (queues .entry)) (now (slots .entry)) (now (pool .entry)) (now (sums .exit)) ⌝ }
 {
     clear(sums);
+    let mut at = flow_store::hop_sum(slots, 256) as usize;
     let mut slot = 256;
     while 0 < slot {
         slot -= 1;
-        count_slot(slot, queues, slots, pool, sums);
+        at -= slots[HOPS + slot] as usize;
+        count_slot(slot, at, queues, slots, pool, sums);
     }
 }
 

@@ -9,9 +9,9 @@ use mathlib.Core.Option.{none}
 use native.Mathlib.Omega.{arith}
 use lib.ListN.{length, set, take}
 use lib.Seq.{length-take-le}
-use Rattle.flow_store.specs.View.{Store, slotsOf, rateAt, burstAt, frameAt, countAt}
+use Rattle.flow_store.specs.View.{Store, slotsOf, rateAt, burstAt, frameAt, countAt, entriesIn}
 use Rattle.figures.specs.View.{PathRemoved}
-use Rattle.recount.specs.View.{entriesIn, Ranged}
+use Rattle.recount.specs.View.{Ranged}
 use Rattle.admission.specs.View.{Kept}
 use Rattle.admission.proofs.ReleaseLaws as released
 use Rattle.admission.proofs.take_out.Statement.{statement}

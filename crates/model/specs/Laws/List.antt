@@ -1,9 +1,10 @@
--- Lists by index: an element that is there, and one replaced. Assumes nothing.
-use Prim.Native.Nat.{ℕ, zero, suc, _<_}
-use mathlib.Core.Path.{_≡_, ap₂, _∙_}
+-- Lists by index: an element that is there, one replaced, and what holds at each place so far. Assumes nothing.
+use Prim.Native.Nat.{ℕ, zero, suc, _+_, _<_}
+use mathlib.Core.Path.{_≡_, subst, ap₂, _∙_}
 use mathlib.Core.List.{List, [], _∷_}
 use mathlib.Core.Option.{some, Option·none-ne-some}
 use native.Mathlib.Omega.{arith}
+use native.Mathlib.Decide.{decLt}
 use lib.ListN.{length, set, drop, getElem?}
 use lib.Seq.{drop-cons, drop-set-lt, getD-set-same, lt-length-set}
 
@@ -17,3 +18,13 @@ module _ {A : Type 0} where
   drop-set l i x h =
       drop-cons (set l i x) i x (lt-length-set l i x h)
       ∙ ap₂ (λ (a : A) (t : List A). a ∷ t) (getD-set-same l i x x h) (drop-set-lt (suc i) l i x (omega arith))
+
+-- What holds at each place before i and at i holds at each before the next.
+pub before-next : (P : ℕ → Type 0) (i : ℕ) → ((j : ℕ) → j < i → P j) → P i → (j : ℕ) → j < i + 1 → P j
+before-next P i before here j lt = go (decLt j i)
+  where
+    go : Dec (j < i) → P j
+    go (yes low) = before j low
+    go (no high) =
+        let same : i ≡ j = omega arith in
+        subst P same here

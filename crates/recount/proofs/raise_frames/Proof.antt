@@ -6,8 +6,8 @@ use mathlib.Core.Path.{refl, sym, _∙_}
 use native.Mathlib.Omega.{arith}
 use lib.ListN.{getD}
 use Rattle.flow_store.specs.View.{countAt}
-use Rattle.flow_store.proofs.ViewLaws.{slot-fits}
-use Rattle.recount.proofs.FrameLaws.{Raising, raising-none, raising-next, raising-all, entries-taken}
+use Rattle.flow_store.proofs.ViewLaws.{slot-fits, entries-taken}
+use Rattle.recount.proofs.FrameLaws.{Raising, raising-none, raising-next, raising-all}
 use Rattle.recount.proofs.raise_frames.Statement.{statement}
 use Rattle.recount.proofs.raise_frames.Tie as tie
 
@@ -55,7 +55,7 @@ raise-path-requires c κs =
     let at = c .before .before .before .before in
     let args = start at .args in
     let now = at .before .loop in
-    (rw (entries-taken (args .slots .now) (args .pool .now) (now .slot) (now .inv .start) refl) (start at .pre .1 (now .slot) (inside at)), now .inv .long)
+    (rw (entries-taken (args .slots .now) (now .slot) (args .pool .now) (now .inv .start) refl) (start at .pre .1 (now .slot) (inside at)), now .inv .long)
 
 loop-again : tie.Need-loop-again Inv-loop μ-loop
 unfolding countAt
@@ -64,7 +64,7 @@ loop-again c =
     let args = start at .args in
     let now = at .before .loop in
     raising-next (args .slots .now) (args .pool .now) (args .sums .now) (now .inv) (inside at) refl
-    (rw (entries-taken (args .slots .now) (args .pool .now) (now .slot) (now .inv .start) refl) at (c .before .before .raise-path .ensures))
+    (rw (entries-taken (args .slots .now) (now .slot) (args .pool .now) (now .inv .start) refl) at (c .before .before .raise-path .ensures))
 
 same-length : tie.Need-same-length Inv-loop μ-loop
 same-length c = c .before .loop .inv .long ∙ sym (c .before .before .before .before .before .pre .0 .1)

@@ -8,7 +8,7 @@ use mathlib.Core.List.{List}
 use native.Mathlib.Omega.{arith}
 use lib.ListN.{getD}
 use lib.Seq.{ext-getD}
-use Rattle.recount.proofs.RecountLaws.{below-next}
+use Rattle.model.specs.Laws.List.{before-next}
 use Rattle.recount.proofs.same.Statement.{statement}
 use Rattle.recount.proofs.same.Tie as tie
 
@@ -30,7 +30,7 @@ loop-again : tie.Need-loop-again Inv-loop μ-loop
 loop-again c =
     let at = c .before .before .before .before in
     let args = at .before .args in
-    (omega arith, below-next (λ j. getD (args .a .now) j 0 ≡ getD (args .b .now) j 0) (at .loop .i) (at .loop .inv .1) (c .if1 .left))
+    (omega arith, before-next (λ j. getD (args .a .now) j 0 ≡ getD (args .b .now) j 0) (at .loop .i) (at .loop .inv .1) (c .if1 .left))
 
 returns-2 : tie.Need-returns-2 Inv-loop μ-loop
 returns-2 c =
