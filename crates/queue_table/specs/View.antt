@@ -10,9 +10,9 @@ use lib.Dec.{ltb, eqb}
 use Rattle.model.specs.Columns.{ended, lines}
 use Rattle.model.specs.QueueTable as model
 use Rattle.model.specs.Orders.{Hop}
-use Rattle.queue_table.specs.declared.Row.{Row}
-use Rattle.queue_table.specs.declared.RowRead.{RowRead}
-use Rattle.queue_table.specs.declared.RowRead.the-variants.{Numbers, Malformed}
+use Rattle.queue_table.specs.declared.row.Row.{Row}
+use Rattle.queue_table.specs.declared.row.RowRead.{RowRead}
+use Rattle.queue_table.specs.declared.row.RowRead.the-variants.{Numbers, Malformed}
 use Rattle.queue_table.specs.declared.Step.{Step}
 use Rattle.queue_table.specs.declared.Advance.{Advance}
 use Rattle.queue_table.specs.declared.Verdict.{Verdict}

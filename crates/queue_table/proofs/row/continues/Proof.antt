@@ -1,4 +1,4 @@
--- `queue_table::continues` meets its contract: the newest link is the one before n.
+-- `queue_table::row::continues` meets its contract: the newest link is the one before n.
 -- Assumes nothing.
 use borrow.Author.Needs.{needs}
 use Prim.Native.Nat.{_+_, _-_, _*_}
@@ -8,8 +8,8 @@ use borrow.Author.Tests.{eq-eqb, ne-eqb}
 use lib.ListN.{getD}
 use Rattle.queue_table.specs.View.{numbersOf, levelsAt}
 use Rattle.queue_table.proofs.ViewLaws.{same-test, continues-none, continues-at}
-use Rattle.queue_table.proofs.continues.Statement.{statement}
-use Rattle.queue_table.proofs.continues.Tie as tie
+use Rattle.queue_table.proofs.row.continues.Statement.{statement}
+use Rattle.queue_table.proofs.row.continues.Tie as tie
 
 returns : tie.Need-returns
 returns c = λ queues. sym (continues-none (c .before .before .args .links .now) queues (c .before .before .args .n) (numbersOf (c .before .before .args .r)) (c .if1 .taken))

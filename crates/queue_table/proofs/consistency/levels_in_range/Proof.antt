@@ -1,4 +1,4 @@
--- `queue_table::levels_in_range` meets its contract. The invariant: every level before p passes.
+-- `queue_table::consistency::levels_in_range` meets its contract. The invariant: every level before p passes.
 -- Assumes nothing.
 use borrow.Author.Needs.{needs}
 use Prim.Native.Nat.{ℕ, _-_, _≤_}
@@ -12,8 +12,8 @@ use Rattle.model.specs.Reference.{every}
 use Rattle.model.specs.Consistent.{rowOf}
 use Rattle.queue_table.specs.View.{upTo, queueAt, linkAt}
 use Rattle.queue_table.proofs.ConsistentLaws.{every-none, every-passed, every-failed}
-use Rattle.queue_table.proofs.levels_in_range.Statement.{statement}
-use Rattle.queue_table.proofs.levels_in_range.Tie as tie
+use Rattle.queue_table.proofs.consistency.levels_in_range.Statement.{statement}
+use Rattle.queue_table.proofs.consistency.levels_in_range.Tie as tie
 
 abbrev passes : (links queues : List ℕ) (i : ℕ) → Queue → Bool
 passes links queues i q = rowInRange (rowOf (linkAt links queues i) q)

@@ -1,4 +1,4 @@
--- `queue_table::in_turn` meets its contract: its tests are the definition's.
+-- `queue_table::row::in_turn` meets its contract: its tests are the definition's.
 -- Assumes nothing.
 use borrow.Author.Needs.{needs}
 use mathlib.Core.Path.{sym, _∙_}
@@ -7,8 +7,8 @@ use borrow.Author.Tests.{le-leb, lt-leb}
 use Rattle.model.specs.QueueTable.{rowInTurn}
 use Rattle.queue_table.specs.View.{numbersOf}
 use Rattle.queue_table.proofs.ViewLaws.{begins-at}
-use Rattle.queue_table.proofs.in_turn.Statement.{statement}
-use Rattle.queue_table.proofs.in_turn.Tie as tie
+use Rattle.queue_table.proofs.row.in_turn.Statement.{statement}
+use Rattle.queue_table.proofs.row.in_turn.Tie as tie
 
 returns : tie.Need-returns
 unfolding rowInTurn

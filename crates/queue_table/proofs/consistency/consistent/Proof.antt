@@ -10,8 +10,8 @@ use Rattle.model.specs.Reference.{every}
 use Rattle.model.specs.Consistent.{linkConsistent}
 use Rattle.queue_table.specs.View.{upTo, linkAt}
 use Rattle.queue_table.proofs.ConsistentLaws.{every-none, every-passed, every-failed, table-at}
-use Rattle.queue_table.proofs.consistent.Statement.{statement}
-use Rattle.queue_table.proofs.consistent.Tie as tie
+use Rattle.queue_table.proofs.consistency.consistent.Statement.{statement}
+use Rattle.queue_table.proofs.consistency.consistent.Tie as tie
 
 abbrev Inv-loop : tie.InvT-loop
 Inv-loop n links queues i₀ i = (i ≤ n) × (every linkConsistent (upTo i (linkAt links queues)) ≡ true)

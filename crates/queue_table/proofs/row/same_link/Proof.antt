@@ -1,4 +1,4 @@
--- `queue_table::same_link` meets its contract: the newest link is the one before n.
+-- `queue_table::row::same_link` meets its contract: the newest link is the one before n.
 -- Assumes nothing.
 use borrow.Author.Needs.{needs}
 use mathlib.Core.Path.{_≡_, sym, _∙_}
@@ -7,8 +7,8 @@ use native.Mathlib.Omega.{arith}
 use borrow.Author.Tests.{eq-eqb, ne-eqb}
 use Rattle.queue_table.specs.View.{numbersOf}
 use Rattle.queue_table.proofs.ViewLaws.{same-none, same-at}
-use Rattle.queue_table.proofs.same_link.Statement.{statement}
-use Rattle.queue_table.proofs.same_link.Tie as tie
+use Rattle.queue_table.proofs.row.same_link.Statement.{statement}
+use Rattle.queue_table.proofs.row.same_link.Tie as tie
 
 -- Two tests that hold leave the third.
 last-test : (a b c : Bool) → a ≡ true → b ≡ true → (a && b && c) ≡ c

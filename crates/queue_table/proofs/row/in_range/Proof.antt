@@ -1,4 +1,4 @@
--- `queue_table::in_range` meets its contract: its tests are the definition's, in the same order.
+-- `queue_table::row::in_range` meets its contract: its tests are the definition's, in the same order.
 -- Assumes nothing.
 use borrow.Author.Needs.{needs}
 use mathlib.Core.Path.{_≡_, sym, _∙_, ap}
@@ -6,8 +6,8 @@ use mathlib.Core.Bool.{true}
 use borrow.Author.Tests.{not-true, not-false}
 use Rattle.model.specs.Columns.{between}
 use Rattle.model.specs.QueueTable.{rowInRange}
-use Rattle.queue_table.proofs.in_range.Statement.{statement}
-use Rattle.queue_table.proofs.in_range.Tie as tie
+use Rattle.queue_table.proofs.row.in_range.Statement.{statement}
+use Rattle.queue_table.proofs.row.in_range.Tie as tie
 
 from-within : (c : tie.Else1) → between 1 9999 (c .before .before .before .args .r .from) ≡ true
 from-within c = ap (between 1 9999) (sym (c .before .before .wide .ensures)) ∙ sym (c .before .within .ensures) ∙ not-false _ (c .if1 .left)

@@ -1,10 +1,10 @@
--- `queue_table::begins` meets its contract: its two tests are the contract's.
+-- `queue_table::row::begins` meets its contract: its two tests are the contract's.
 -- Assumes nothing.
 use borrow.Author.Needs.{needs}
 use mathlib.Core.Path.{sym}
 use borrow.Author.Tests.{eq-eqb, ne-eqb}
-use Rattle.queue_table.proofs.begins.Statement.{statement}
-use Rattle.queue_table.proofs.begins.Tie as tie
+use Rattle.queue_table.proofs.row.begins.Statement.{statement}
+use Rattle.queue_table.proofs.row.begins.Tie as tie
 
 returns : tie.Need-returns
 returns c = sym (simp (ne-eqb _ _ (c .if1 .taken)))

@@ -1,4 +1,4 @@
--- `queue_table::agrees` meets its contract: its tests are the definition's.
+-- `queue_table::row::agrees` meets its contract: its tests are the definition's.
 -- Assumes nothing.
 use borrow.Author.Needs.{needs}
 use mathlib.Core.Path.{sym, _∙_}
@@ -6,8 +6,8 @@ use borrow.Author.Tests.{eq-eqb, ne-eqb}
 use Rattle.model.specs.QueueTable.{rowAgrees}
 use Rattle.queue_table.specs.View.{numbersOf}
 use Rattle.queue_table.proofs.ViewLaws.{begins-at}
-use Rattle.queue_table.proofs.agrees.Statement.{statement}
-use Rattle.queue_table.proofs.agrees.Tie as tie
+use Rattle.queue_table.proofs.row.agrees.Statement.{statement}
+use Rattle.queue_table.proofs.row.agrees.Tie as tie
 
 returns : tie.Need-returns
 unfolding rowAgrees

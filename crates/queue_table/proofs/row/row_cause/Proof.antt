@@ -1,11 +1,11 @@
--- `queue_table::row_cause` meets its contract: 2, 3 and 4 are judged in the definition's order.
+-- `queue_table::row::row_cause` meets its contract: 2, 3 and 4 are judged in the definition's order.
 -- Assumes nothing.
 use borrow.Author.Needs.{needs}
 use mathlib.Core.Path.{sym, _∙_}
 use borrow.Author.Tests.{not-true, not-false}
 use Rattle.model.specs.QueueTable.{rowCause}
-use Rattle.queue_table.proofs.row_cause.Statement.{statement}
-use Rattle.queue_table.proofs.row_cause.Tie as tie
+use Rattle.queue_table.proofs.row.row_cause.Statement.{statement}
+use Rattle.queue_table.proofs.row.row_cause.Tie as tie
 
 returns : tie.Need-returns
 unfolding rowCause

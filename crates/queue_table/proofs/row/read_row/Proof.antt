@@ -1,4 +1,4 @@
--- `queue_table::read_row` meets its contract: each field is the definition's, and the first malformed one ends the reading.
+-- `queue_table::row::read_row` meets its contract: each field is the definition's, and the first malformed one ends the reading.
 -- Assumes nothing.
 use borrow.Author.Needs.{needs}
 use mathlib.Core.Path.{_≡_, sym, _∙_, ap}
@@ -7,8 +7,8 @@ use borrow.Author.Tests.{eq-eqb, ne-eqb}
 use Rattle.columns.specs.Reading.{valueOf}
 use Rattle.model.specs.Columns.{fieldAt}
 use Rattle.model.specs.QueueTable.{row, rowFields}
-use Rattle.queue_table.proofs.read_row.Statement.{statement}
-use Rattle.queue_table.proofs.read_row.Tie as tie
+use Rattle.queue_table.proofs.row.read_row.Statement.{statement}
+use Rattle.queue_table.proofs.row.read_row.Tie as tie
 
 read-link : (c : tie.After-link) → fieldAt 1 4 (c .before .before .before .before .before .args .line .now) ≡ some (c .link .given .0 .0)
 read-link c = sym (c .before .before .read-at .ensures) ∙ ap valueOf (c .link .given .1)

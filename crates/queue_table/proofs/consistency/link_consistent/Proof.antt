@@ -1,4 +1,4 @@
--- `queue_table::link_consistent` meets its contract: its tests are the definition's, the number of levels first.
+-- `queue_table::consistency::link_consistent` meets its contract: its tests are the definition's, the number of levels first.
 -- Assumes nothing.
 use borrow.Author.Needs.{needs}
 use Prim.Native.Nat.{_+_, _*_}
@@ -10,8 +10,8 @@ use borrow.Author.Tests.{eq-eqb, ne-eqb, le-leb, lt-leb}
 use Rattle.model.specs.Columns.{between}
 use Rattle.queue_table.specs.View.{levelsAt}
 use Rattle.queue_table.proofs.ConsistentLaws.{link-at}
-use Rattle.queue_table.proofs.link_consistent.Statement.{statement}
-use Rattle.queue_table.proofs.link_consistent.Tie as tie
+use Rattle.queue_table.proofs.consistency.link_consistent.Statement.{statement}
+use Rattle.queue_table.proofs.consistency.link_consistent.Tie as tie
 
 returns : tie.Need-returns
 unfolding between levelsAt

@@ -1,0 +1,193 @@
+// One table line: its numbers, and what is against it after the links before (document 01, codes 1 to 4).
+ghost use mathlib.Core.Path.{_≡_};
+ghost use mathlib.Core.Bool.{_&&_};
+ghost use mathlib.Core.List.{List};
+ghost use Prim.Native.Nat.{ℕ, _+_, _≤_};
+ghost use lib.ListN.{length};
+ghost use lib.Dec.{eqb};
+ghost use Rattle.model.specs.QueueTable.{row, rowInRange, continues, rowInTurn, sameLink, rowAgrees, rowCause};
+ghost use Rattle.queue_table.specs.View.{rowOf, numbersOf, linksOf};
+use columns::Field;
+
+// The numbers of one table line.
+pub(crate) struct Row {
+    pub(crate) link: u32,
+    pub(crate) from: u32,
+    pub(crate) to: u32,
+    pub(crate) speed: u32,
+    pub(crate) level: u32,
+    pub(crate) threshold: u32,
+    pub(crate) buffer: u32,
+}
+
+pub(crate) enum RowRead {
+    Numbers(Row),
+    Malformed,
+}
+
+pub(crate) fn read_row(line: &[u8]) -> RowRead
+    ensures { λ r. ⌜ rowOf r ≡ row (now (line .entry)) ⌝ }
+{
+    if line.len() != 36 {
+        return RowRead::Malformed;
+    }
+    let Field::Number(link) = columns::read_at(line, 1, 4) else {
+        return RowRead::Malformed;
+    };
+    let Field::Number(from) = columns::read_at(line, 5, 8) else {
+        return RowRead::Malformed;
+    };
+    let Field::Number(to) = columns::read_at(line, 9, 12) else {
+        return RowRead::Malformed;
+    };
+    let Field::Number(speed) = columns::read_at(line, 13, 18) else {
+        return RowRead::Malformed;
+    };
+    let Field::Number(level) = columns::read_at(line, 19, 20) else {
+        return RowRead::Malformed;
+    };
+    let Field::Number(threshold) = columns::read_at(line, 21, 27) else {
+        return RowRead::Malformed;
+    };
+    let Field::Number(buffer) = columns::read_at(line, 28, 36) else {
+        return RowRead::Malformed;
+    };
+    RowRead::Numbers(Row {
+        link,
+        from,
+        to,
+        speed,
+        level,
+        threshold,
+        buffer,
+    })
+}
+
+// 2: each number is in its range.
+pub(crate) fn in_range(r: Row) -> bool
+    ensures { λ b. ⌜ b ≡ rowInRange (numbersOf r) ⌝ }
+{
+    let from = r.from;
+    let to = r.to;
+    let speed = r.speed;
+    let threshold = r.threshold;
+    let buffer = r.buffer;
+    if !columns::within(1, 9999, columns::wide(from)) {
+        return false;
+    }
+    if !columns::within(1, 9999, columns::wide(to)) {
+        return false;
+    }
+    if !columns::within(1, 10_000, columns::wide(speed)) {
+        return false;
+    }
+    if !columns::within(1, 100_000, columns::wide(threshold)) {
+        return false;
+    }
+    columns::within(1, 16_777_215, columns::wide(buffer))
+}
+
+// The line is level 1 of the next link, after n of them.
+fn begins(r: Row, n: usize) -> bool
+    requires { ⌜ n ≤ 64 ⌝ }
+    ensures { λ b. ⌜ b ≡ (eqb (r .link) (n + 1) && eqb (r .level) 1) ⌝ }
+{
+    let link = r.link as usize;
+    let level = r.level;
+    if link != n + 1 {
+        return false;
+    }
+    level == 1
+}
+
+// The line is the next level of the newest of n links.
+fn continues(r: Row, n: usize, links: &[u32]) -> bool
+    requires { ⌜ (n ≤ 64) × (length (now links) ≡ 256) ⌝ }
+    ensures { λ b. ⌜ ((queues : List ℕ) → b ≡ continues (linksOf n (now (links .entry)) queues) (numbersOf r)) ⌝ }
+{
+    let link = r.link as usize;
+    let level = r.level;
+    if n == 0 {
+        return false;
+    }
+    if link != n {
+        return false;
+    }
+    if level == 0 {
+        return false;
+    }
+    links[4 * (n - 1) + 3] == level - 1
+}
+
+// 3: link and level are in turn, and not past 64 or 8.
+fn in_turn(r: Row, n: usize, links: &[u32]) -> bool
+    requires { ⌜ (n ≤ 64) × (length (now links) ≡ 256) ⌝ }
+    ensures { λ b. ⌜ ((queues : List ℕ) → b ≡ rowInTurn (linksOf n (now (links .entry)) queues) (numbersOf r)) ⌝ }
+{
+    let link = r.link;
+    let level = r.level;
+    if 64 < link {
+        return false;
+    }
+    if 8 < level {
+        return false;
+    }
+    if begins(r, n) {
+        return true;
+    }
+    continues(r, n, links)
+}
+
+// The line has the nodes and the speed of the newest of n links.
+fn same_link(r: Row, n: usize, links: &[u32]) -> bool
+    requires { ⌜ (n ≤ 64) × (length (now links) ≡ 256) ⌝ }
+    ensures { λ b. ⌜ ((queues : List ℕ) → b ≡ sameLink (linksOf n (now (links .entry)) queues) (numbersOf r)) ⌝ }
+{
+    let from = r.from;
+    let to = r.to;
+    let speed = r.speed;
+    if n == 0 {
+        return false;
+    }
+    let at = 4 * (n - 1);
+    if from != links[at] {
+        return false;
+    }
+    if to != links[at + 1] {
+        return false;
+    }
+    speed == links[at + 2]
+}
+
+// 4: from and to are two nodes, and from, to and speed are the same within a link.
+fn agrees(r: Row, n: usize, links: &[u32]) -> bool
+    requires { ⌜ (n ≤ 64) × (length (now links) ≡ 256) ⌝ }
+    ensures { λ b. ⌜ ((queues : List ℕ) → b ≡ rowAgrees (linksOf n (now (links .entry)) queues) (numbersOf r)) ⌝ }
+{
+    let from = r.from;
+    let to = r.to;
+    if from == to {
+        return false;
+    }
+    if begins(r, n) {
+        return true;
+    }
+    same_link(r, n, links)
+}
+
+// The first cause, 2 to 4, against a line after n links; 0 where there is none.
+pub(crate) fn row_cause(r: Row, n: usize, links: &[u32]) -> u32
+    requires { ⌜ (n ≤ 64) × (length (now links) ≡ 256) ⌝ }
+    ensures { λ c. ⌜ ((queues : List ℕ) → c ≡ rowCause (linksOf n (now (links .entry)) queues) (numbersOf r)) ⌝ }
+{
+    if !in_range(r) {
+        return 2;
+    }
+    if !in_turn(r, n, links) {
+        return 3;
+    }
+    if !agrees(r, n, links) {
+        return 4;
+    }
+    0
+}
