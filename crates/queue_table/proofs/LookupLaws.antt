@@ -3,7 +3,7 @@
 use Prim.Native.Nat.{ℕ, zero, suc, _+_, _≤_, _<_}
 use mathlib.Core.Path.{_≡_, refl, sym, ap, _∙_}
 use mathlib.Core.List.{List, [], _∷_, _++_}
-use mathlib.Core.Option.{Option, none, some}
+use mathlib.Core.Option.{none, some}
 use native.Mathlib.Omega.{arith}
 use native.Mathlib.Numerals.{add-one}
 use native.Mathlib.Decide.{decLt}
@@ -40,11 +40,11 @@ module _ {A : Type 0} where
   up-at (suc n) f i h = snoc (upTo n f) (f n) i n f (length-up n f) refl (up-at n f i) h (decLt i n)
 
   -- The element with number i + 1 of the values up to n, and none past them.
-  pub up-nth : (n : ℕ) (f : ℕ → A) (i : ℕ) → i < n → model-lookup.nth (upTo n f) (i + 1) ≡ some (f i)
+  up-nth : (n : ℕ) (f : ℕ → A) (i : ℕ) → i < n → model-lookup.nth (upTo n f) (i + 1) ≡ some (f i)
   unfolding model-lookup.nth
   up-nth n f i h = rw (add-one i) (up-at n f i h)
 
-  pub up-past : (n : ℕ) (f : ℕ → A) (i : ℕ) → n ≤ i → model-lookup.nth (upTo n f) (i + 1) ≡ none
+  up-past : (n : ℕ) (f : ℕ → A) (i : ℕ) → n ≤ i → model-lookup.nth (upTo n f) (i + 1) ≡ none
   unfolding model-lookup.nth
   up-past n f i h = rw (add-one i) (beyond (upTo n f) i (omega (arith, length-up n f)))
 

@@ -1,4 +1,4 @@
--- A row that nothing is against, once stored, is the model's row more: older places are below the stored ones and stay as they were.
+-- A row stored in its place: its link has its numbers and its level as the last, and older links, whose places are below, stay as they were.
 -- Assumes nothing.
 use Prim.Native.Nat.{ℕ, zero, suc, _+_, _-_, _*_, _≤_, _<_}
 use mathlib.Core.Path.{_≡_, refl, ap, _∙_}

@@ -1,4 +1,4 @@
--- A row that nothing is against begins the next link or continues the newest, and storing it is the model's step.
+-- A row that nothing is against begins the next link or continues the newest, and storing it is the model's step; the ways of any line.
 -- Assumes nothing.
 use Prim.Native.Nat.{ℕ, zero, suc, _+_, _-_, _*_, _≤_, _<_}
 use mathlib.Core.Path.{_≡_, refl, sym, ap, ap₂, _∙_}
@@ -20,17 +20,17 @@ use Rattle.queue_table.proofs.ViewLaws.{begins-at, continues-none, cont
 use Rattle.queue_table.proofs.StoreLaws.{older-links, older-levels, stored, stored-levels, link-stored}
 
 -- How a row may stand in turn after n links.
-pub record Begun (n : ℕ) (r : model.Row) : Type 0 where
-  pub link : r .link ≡ n + 1
-  pub level : r .level ≡ 1
+record Begun (n : ℕ) (r : model.Row) : Type 0 where
+  link : r .link ≡ n + 1
+  level : r .level ≡ 1
 
-pub record Continued (n : ℕ) (links : List ℕ) (r : model.Row) : Type 0 where
-  pub more : 0 < n
-  pub link : r .link ≡ n
-  pub level : r .level ≡ levelsAt links (n - 1) + 1
-  pub from : r .from ≡ getD links (4 * (n - 1)) 0
-  pub to : r .to ≡ getD links (4 * (n - 1) + 1) 0
-  pub speed : r .speed ≡ getD links (4 * (n - 1) + 2) 0
+record Continued (n : ℕ) (links : List ℕ) (r : model.Row) : Type 0 where
+  more : 0 < n
+  link : r .link ≡ n
+  level : r .level ≡ levelsAt links (n - 1) + 1
+  from : r .from ≡ getD links (4 * (n - 1)) 0
+  to : r .to ≡ getD links (4 * (n - 1) + 1) 0
+  speed : r .speed ≡ getD links (4 * (n - 1) + 2) 0
 
 module _ (n : ℕ) (links queues : List ℕ) (r : model.Row) (free : model.rowCause (linksOf n links queues) r ≡ 0) where
   judged : RowRules (linksOf n links queues) r

@@ -31,7 +31,7 @@ module _ {A : Type 0} where
   up-same zero f g h = refl
   up-same (suc n) f g h = ap₂ (λ (l : List A) (a : A). l ++ (a ∷ [])) (up-same n f g (λ i lt. h i (omega arith))) (h n (omega arith))
 
-  pub length-down : (n : ℕ) (f : ℕ → A) → length (downFrom n f) ≡ n
+  length-down : (n : ℕ) (f : ℕ → A) → length (downFrom n f) ≡ n
   unfolding downFrom
   length-down zero f = refl
   length-down (suc n) f = ap suc (length-down n f)
@@ -52,7 +52,7 @@ module _ (links queues : List ℕ) where
   unfolding linksOf tableOf
   links-reversed n = reverse-down n (linkAt links queues)
 
-  pub links-length : (n : ℕ) → length (linksOf n links queues) ≡ n
+  links-length : (n : ℕ) → length (linksOf n links queues) ≡ n
   unfolding linksOf
   links-length n = length-down n (linkAt links queues)
 
