@@ -81,7 +81,7 @@ fn put_in(
     figures::add_path(rate, burst, frame, queues, entries, sums);
 }
 
-// Registers the flow of an order line. Its cost doesn't depend on the calls before.
+// Registers the flow of an order line.
 pub fn register_flow(
     flow: Flow,
     hop_links: &[u32],

@@ -53,7 +53,7 @@ pub record Answering (whole orders : List ℕ) (n : ℕ) (links queues slots poo
       ++ drop (20 * (number + length (lines (drop at orders)))) area)
       ≡ whole
 
--- A line written at a place, with a text to follow and the rest untouched.
+-- A line written at a position, with a text to follow and the rest untouched.
 written : (area line more : List ℕ) (place end : ℕ) → length line ≡ 20 → place + 20 ≤ end → end ≤ length area
     → take (place + 20) (take place area ++ (line ++ drop (place + 20) area)) ++ (more ++ drop end (take place area ++ (line ++ drop (place + 20) area)))
     ≡ take place area ++ ((line ++ more) ++ drop end area)

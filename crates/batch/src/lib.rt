@@ -21,7 +21,7 @@ pub struct BatchResult {
     pub line: u32,
 }
 
-// The answer to a line, and the place after it.
+// The answer to a line, and the position after it.
 struct Advance {
     answer: Answer,
     next: usize,

@@ -90,7 +90,7 @@ module _ (sums : List ℕ) where
   pub all-small : Bounded sums → (e : ℕ) → e < 512 → Small (figureAt sums e)
   all-small bounded e lt = (bounded .rates e lt, bounded .bursts e lt, bounded .frames e lt)
 
--- A loop that told of each place before `i`.
+-- A loop that told of each position before `i`.
 pub before-next : (P : ℕ → Type 0) (i : ℕ) → ((j : ℕ) → j < i → P j) → P i → (j : ℕ) → j < i + 1 → P j
 before-next P i before here j lt = go (decLt j i)
   where

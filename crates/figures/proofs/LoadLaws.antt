@@ -1,4 +1,4 @@
--- Arrays of a link's levels filled one after the other: what stands before place `p` is loaded.
+-- Arrays of a link's levels filled one after the other: what stands before position `p` is loaded.
 -- Assumes nothing.
 use Prim.Native.Nat.{ℕ, _+_, _<_}
 use mathlib.Core.Path.{_≡_, refl, ap, ap₂, _∙_}

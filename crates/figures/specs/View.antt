@@ -99,7 +99,7 @@ pub record Left (again : Bool) (a b : Aggregate) : Type 0 where
   pub low : a .frame ≤ b .frame
   pub frame : again ≡ false → a .frame ≡ b .frame
 
--- What the path added at each queue is taken out; where a rate sum is 0 then, no flow may be left.
+-- What the path added at each queue is taken out, where a rate sum of 0 says that no flow is left (`Carried`).
 pub record PathRemoved (rate burst frame : ℕ) (queues entries sums sums′ : List ℕ) (again : Bool) : Type 0 where
   pub long : length sums′ ≡ 1536
   pub left : (n : ℕ) (links : List ℕ) (f : Flow) (fs : List Flow) → All (λ e. isQueue n links e ≡ true) entries → FlowOf rate burst frame entries f

@@ -1,4 +1,4 @@
--- The view of the columns: its slots one by one, its held entries, and the view when one slot changes. By induction on the slots.
+-- The view of the columns: its slots one by one, the counts summed, and its held entries. By induction on the slots.
 -- Assumes nothing.
 use Prim.Native.Nat.{ℕ, zero, suc, _+_, _-_, _*_, _≤_, _<_}
 use mathlib.Core.Path.{_≡_, refl, sym, ap, _∙_}
@@ -46,12 +46,12 @@ module _ (slots : List ℕ) where
   counts-split (suc k) n i =
       rw (suc-add k n, add-suc i k, ← suc-add i k) (omega (arith, counts-split k n (suc i)))
 
-  -- One count less to sum, and none left.
   pub counts-below : (k : ℕ) → k ≤ 256 → countsFrom k 0 slots ≤ countsFrom 256 0 slots
   counts-below k h =
       let m : k + (256 - k) ≡ 256 = omega arith in
       omega (arith, counts-split k (256 - k) 0, ap (λ (n : ℕ). countsFrom n 0 slots) m)
 
+  -- One count less to sum, and none left.
   pub counts-next : (end i : ℕ) → i < end → countsFrom (end - i) i slots ≡ getD slots (1280 + i) 0 + countsFrom (end - (i + 1)) (i + 1) slots
   unfolding countsFrom countAt
   counts-next end i h =

@@ -82,12 +82,12 @@ flowStored slot f slots =
     let framed = set (set rated (512 + slot) (f .burst .0)) (768 + slot) (f .frame .0) in
     set (set framed (1024 + slot) (f .deadline .0)) (1280 + slot) (f .hops)
 
--- The entries from place `start` up to `end` moved up, and a path's put before them.
+-- The entries from position `start` up to `end` moved up, and a path's put before them.
 unfoldable pub pathInserted : (start end : ℕ) (entries pool : List ℕ) → List ℕ
 pathInserted start end entries pool =
     paste (paste pool (start + length entries) (drop start pool) (end - start)) start entries (length entries)
 
--- The entries from place `start + by` up to `end` moved down to `start`.
+-- The entries from position `start + by` up to `end` moved down to `start`.
 unfoldable pub pathRemoved : (start end by : ℕ) (pool : List ℕ) → List ℕ
 pathRemoved start end by pool = paste pool start (drop (start + by) pool) (end - by - start)
 

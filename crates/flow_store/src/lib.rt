@@ -1,6 +1,6 @@
 // The flows that are held, and their paths (document 01, "The book": places and hop entries).
 //
-// The store is two columns of numbers. Slot i, counted from 0, has its flow number at place i of `slots`, its rate at 256 + i,
+// The store is two columns of numbers. Slot i, counted from 0, has its flow number at position i of `slots`, its rate at 256 + i,
 // burst at 512 + i, largest frame at 768 + i, deadline at 1024 + i and hop count at 1280 + i: numbers of one kind stand one
 // after the other, so that a scan or a sum over the slots reads consecutive numbers. Hop count 0 means that the slot is free,
 // and what else stands there doesn't count. `pool` has the hop entries of the held flows one after the other in slot order,
@@ -19,7 +19,7 @@ ghost use Rattle.orders.specs.Reading.{fieldsOf};
 ghost use Rattle.flow_store.specs.View.{countAt, slotsOf, countsFrom, entriesIn, Store, flowStored, pathInserted, pathRemoved, Narrow, Insertable, OthersFrom};
 use orders::Flow;
 
-// Where slot 0's numbers stand, its flow number at place 0.
+// Where slot 0's numbers stand, its flow number at position 0.
 pub const RATES: usize = 256;
 
 pub const BURSTS: usize = 512;
@@ -107,7 +107,7 @@ pub fn hop_sum(slots: &[u32], slot: usize) -> u64
     sum
 }
 
-// The place in the pool where a slot's entries start, and for slot 256 where the held ones end. The counts of a store sum to
+// The position in the pool where a slot's entries start, and for slot 256 where the held ones end. The counts of a store sum to
 // 1,024 at most, so that they are summed in their own width.
 fn start_of(slot: usize, slots: &[u32]) -> usize
     requires { ⌜ (length (now slots) ≡ 1536) × ((slot ≤ 256) × (countsFrom 256 0 (now slots) ≤ 1024)) ⌝ }
@@ -122,7 +122,7 @@ fn start_of(slot: usize, slots: &[u32]) -> usize
     sum as usize
 }
 
-// Copies n numbers from place `from` of one column to place `at` of another.
+// Copies n numbers from position `from` of one column to position `at` of another.
 fn copy(source: &[u32], from: usize, n: usize, target: &mut [u32], at: usize)
     requires { ⌜ (from + n ≤ length (now source)) × (at + n ≤ length (now target)) ⌝ }
     ensures { λ _. ⌜ now (target .exit) ≡ paste (now (target .entry)) at (drop from (now (source .entry))) n ⌝ }
@@ -134,7 +134,7 @@ fn copy(source: &[u32], from: usize, n: usize, target: &mut [u32], at: usize)
     }
 }
 
-// Moves the numbers from place `start` up to `end` up by `by` places, the last first.
+// Moves the numbers from position `start` up to `end` up by `by` positions, the last first.
 fn move_up(start: usize, end: usize, by: usize, pool: &mut [u32])
     requires { ⌜ (start ≤ end) × (end + by ≤ length (now pool)) ⌝ }
     ensures { λ _. ⌜ now (pool .exit) ≡ paste (now (pool .entry)) (start + by) (drop start (now (pool .entry))) (end - start) ⌝ }
@@ -146,7 +146,7 @@ fn move_up(start: usize, end: usize, by: usize, pool: &mut [u32])
     }
 }
 
-// Puts a path at place `start` of a pool that is held up to `end`.
+// Puts a path at position `start` of a pool that is held up to `end`.
 fn insert_path(start: usize, end: usize, entries: &[u32], pool: &mut [u32])
     requires { ⌜ (start ≤ end) × (end + length (now entries) ≤ length (now pool)) ⌝ }
     ensures { λ _. ⌜ now (pool .exit) ≡ pathInserted start end (now (entries .entry)) (now (pool .entry)) ⌝ }
@@ -199,7 +199,7 @@ pub fn path_into(slot: usize, slots: &[u32], pool: &[u32], entries: &mut [u32]) 
     n
 }
 
-// Moves the numbers from place `start + by` up to `end` down by `by` places, the first first.
+// Moves the numbers from position `start + by` up to `end` down by `by` positions, the first first.
 fn move_down(start: usize, end: usize, by: usize, pool: &mut [u32])
     requires { ⌜ (start + by ≤ end) × (end ≤ length (now pool)) ⌝ }
     ensures { λ _. ⌜ now (pool .exit) ≡ pathRemoved start end by (now (pool .entry)) ⌝ }

@@ -1,4 +1,5 @@
 -- Document 01, "Sums to check by hand", the starred ones: 100 Mbit/s, flows of rate 1,000, burst and frame 1,542.
+-- By computation. Assumes nothing.
 use Prim.Native.Nat.{ℕ}
 use mathlib.Core.Path.{_≡_, refl}
 use mathlib.Core.List.{List, [], _∷_, map}

@@ -1,4 +1,4 @@
--- The headline facts in a page: what one call on document 01's plain book does, when a registration is admitted, when room lacks, and that no frame is late.
+-- The headline facts in a page: what one call on the reference model (document 01: the plain book) does, when a registration is admitted, when room lacks, and that no frame is late.
 -- Each is a fact of another file, said again in the paper's terms. Assumes nothing.
 use Prim.Native.Nat.{ℕ}
 use mathlib.Core.Path.{_≡_, ap, subst}

@@ -1,4 +1,5 @@
 -- Document 01, "Whole batch", worked out from the definitions; and batches that show what counts as a line, and which refusal comes first.
+-- By computation. Assumes nothing.
 use Prim.Native.Nat.{ℕ, zero, suc}
 use Prim.Native.Char.{code}
 use Prim.Native.String.{String, len, charAt}

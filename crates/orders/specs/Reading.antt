@@ -15,7 +15,7 @@ use Rattle.orders.specs.declared.Hop.{Hop}
 use Rattle.orders.specs.declared.Hop.the-variants as hop
 use Rattle.orders.specs.declared.Path.{Path}
 
--- The hops of two arrays, place by place.
+-- The hops of two arrays, one by one.
 abbrev pub zipHops : List ℕ → List ℕ → List model.Hop
 zipHops [] levels = []
 zipHops (l ∷ links) [] = []

@@ -10,7 +10,7 @@ use Rattle.model.specs.QueueTable as model
 use Rattle.queue_table.specs.View.{upTo, queueAt, levelsAt, linkAt, linksOf, linkStored, queueStored, Placed}
 use Rattle.queue_table.proofs.ViewLaws.{up-same, down-same}
 
--- Numbers stored from `i` on: below that nothing changes, and each number stands in its place.
+-- Numbers stored from `i` on: below that nothing changes, and each number stands where it was stored.
 pub sets-below : (l : List ℕ) (i : ℕ) (vs : List ℕ) (k : ℕ) → k < i → getD (sets l i vs) k 0 ≡ getD l k 0
 sets-below l i [] k h = refl
 sets-below l i (v ∷ vs) k h = sets-below (set l i v) (suc i) vs k (omega arith) ∙ getD-set-other l i k v 0 (omega arith)
@@ -54,7 +54,7 @@ module _ (r : model.Row) (links queues : List ℕ) (placed : Placed r links queu
         buffer = sets-at queues at (r .threshold ∷ r .buffer ∷ []) 1 (omega arith) (omega arith) t;
       }
 
-  -- The levels of a link up to one that stands before the stored place.
+  -- The levels of a link up to one that stands before the stored numbers.
   levels-kept : (i n : ℕ) → 16 * i + 2 * n ≤ 16 * (r .link - 1) + 2 * (r .level - 1) → upTo n (queueAt (queueStored r queues) i) ≡ upTo n (queueAt queues i)
   levels-kept i n h = up-same n (queueAt (queueStored r queues) i) (queueAt queues i) (λ p lt. queue-kept i p (omega arith))
 

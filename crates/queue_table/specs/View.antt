@@ -93,7 +93,7 @@ linkStored r links = sets links (4 * (r .link - 1)) (r .from ∷ r .to ∷ r .sp
 unfoldable pub queueStored : model.Row → List ℕ → List ℕ
 queueStored r queues = sets queues (16 * (r .link - 1) + 2 * (r .level - 1)) (r .threshold ∷ r .buffer ∷ [])
 
--- The columns have a place for the row.
+-- The columns have room for the row.
 pub record Placed (r : model.Row) (links queues : List ℕ) : Type 0 where
   pub links-long : length links ≡ 256
   pub queues-long : length queues ≡ 1024
@@ -132,7 +132,7 @@ abbrev pub linksIn : Verdict → ℕ
 linksIn (Accepted n) = n
 linksIn (Refused code line) = 0
 
--- The columns hold what the text says, no link where it is refused. Places of the columns past the links and their levels are free.
+-- The columns hold what the text says, no link where it is refused. What stands in the columns past the links and their levels is free.
 pub record TableFilled (text : List ℕ) (v : Verdict) (links queues : List ℕ) : Type 0 where
   pub same : textOf v links queues ≡ model.readTable text
   pub kept : Columns (linksIn v) links queues

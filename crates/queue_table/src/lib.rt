@@ -22,7 +22,7 @@ struct Step {
     links: usize,
 }
 
-// The same of the line at a place of the text, and the place after it.
+// The same of the line at a position of the text, and the position after it.
 struct Advance {
     code: u32,
     links: usize,

@@ -26,7 +26,7 @@ use Rattle.figures.specs.View.{figureAt, Below, Figures, FlowOf, PathAdded}
 use Rattle.figures.proofs.AddLaws.{figures-added}
 use Rattle.recount.specs.View.{Counted, Recounted}
 
--- What stands before place i is 0.
+-- What stands before position i is 0.
 abbrev pub ZeroTo : (i : ℕ) (sums : List ℕ) → Type 0
 ZeroTo i sums = (j : ℕ) → j < i → getD sums j 0 ≡ 0
 

@@ -33,20 +33,20 @@ pub data Chain : (first : Registry) (calls : List Call) (answers : List Answer) 
       → Chain (called .registry) calls answers last
       → Chain before (c ∷ calls) (called .answer ∷ answers) last
 
--- The plain book of document 01 after these calls on this text, and its flows.
+-- The reference model (document 01: the plain book) after these calls on this text, and its flows.
 abbrev pub after : (text : List ℕ) (calls : List Call) → State
 after text calls = final (opened text) calls
 
 abbrev pub flowsAfter : (text : List ℕ) (calls : List Call) → List Flow
 flowsAfter text calls = heldFlows (after text calls .slots)
 
--- Another code than 42, a book not in order.
+-- Another code than 42, a registry not in order.
 abbrev pub NotSpoilt : Answer → Type 0
 NotSpoilt a = answerOf a .code ≡ 42 → ⊥
 
 -- What the mission's third line says after these calls on this text.
 pub record Claimed (text : List ℕ) (calls : List Call) (answers : List Answer) (last : Registry) : Type 0 where
-  -- All answers, the table and the flow at each place, and every queue's figures are the plain book's.
+  -- All answers, the table and the flow at each slot, and every queue's figures are the reference model's.
   pub answered : map answerOf answers ≡ model.answers (opened text) calls
   pub state : stateIn last ≡ after text calls
   pub figures : (e : ℕ) → e < 512 → figureAt (last .sums) e ≡ aggregateAt (after text calls .table) (flowsAfter text calls) (hopAt e)
@@ -54,11 +54,11 @@ pub record Claimed (text : List ℕ) (calls : List Call) (answers : List Answer)
   pub punctual : (r : Run (after text calls .table) (flowsAfter text calls)) → Conforming (flowsAfter text calls) (r .sent)
       → (n : ℕ) (h : Hop) (q : Queue) → queueAt (after text calls .table) h ≡ some q
       → Punctual (after text calls .table) (flowsAfter text calls) r n h q
-  -- A further registration with none of the causes before 30 against it lacks room exactly when every place is held or the hop entries don't suffice.
+  -- A further registration with none of the causes before 30 against it lacks room exactly when every slot is held or the hop entries don't suffice.
   pub room : (bytes : List ℕ) (f : Flow) (called : Called) → Performs last (callOf registering bytes) called
       → callOrder (callOf registering bytes) ≡ register f → NoneApplies (earlyFindings (after text calls) f)
       → NoRoom (answerOf (called .answer) .code) ↔ Full (after text calls) f
-  -- The book stays in order: no call answers 42, nor does the next.
+  -- The registry stays in order: no call answers 42, nor does the next.
   pub in-order : InOrder last
   pub never-spoilt : All NotSpoilt answers
   pub next-not-spoilt : (c : Call) (called : Called) → Performs last c called → NotSpoilt (called .answer)
@@ -88,7 +88,7 @@ claim text o opens calls answers last chain =
     not-spoilt : {before : Registry} {c : Call} {called : Called} → Performs before c called → InOrder before → NotSpoilt (called .answer)
     not-spoilt {before} {c} p k e = never-spoilt (stateIn before) c (sym (ap (λ a. a .code) (p .answer k)) ∙ e)
 
-    -- From any registry in order: it stays so, and answers and state are the plain book's from the state it holds.
+    -- From any registry in order: it stays so, and answers and state are the reference model's from the state it holds.
     follows : {first last : Registry} {calls : List Call} {answers : List Answer} → Chain first calls answers last → InOrder first
         → InOrder last
         × (map answerOf answers ≡ model.answers (stateIn first) calls)

@@ -26,7 +26,7 @@ pub record Sized (links queues slots pool sums : List ℕ) : Type 0 where
   pub pool-long : length pool ≡ 1024
   pub sums-long : length sums ≡ 1536
 
--- A book not in order.
+-- 42: a registry not in order.
 abbrev pub spoilt : model.Answer
 spoilt = record { code = 42; slot = 0; link = 0; level = 0 }
 

@@ -1,6 +1,5 @@
--- A function that hands the registry behind its `&mut` to a call by value, stores the registry that comes back and answers what it answered: a walk of its MIR, by hand, for a callee of either kind.
--- The borrow is opened, the record is copied out and passed with the bytes, the record of the result is stored over it, and the borrow is closed at that record. All that the walk knows of the callee is its contract.
--- Assumes nothing.
+-- A function that hands the registry behind its `&mut` to a call by value and stores the one that comes back does that call in place.
+-- A walk of its MIR, by hand, for a callee of either kind, of which only the contract is known. Assumes nothing.
 use mathlib.Core.Path.{refl, ap}
 use Prim.Native.Nat.{ℕ}
 use mathlib.Core.List.{[], _∷_, List}

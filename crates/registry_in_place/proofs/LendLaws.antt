@@ -1,6 +1,5 @@
--- A call that a registry in a local is lent to, of either kind: a lifetime is made for the call, the local is lent for it, and afterwards the local holds the registry that the call left.
--- All that the walk knows of the callee is its contract.
--- Assumes nothing.
+-- A registry in a local, lent to a call of either kind: afterwards the local holds the registry that the call left.
+-- A walk by hand: a lifetime is made for the call, of which only the contract is known. Assumes nothing.
 use Prim.Native.Nat.{ℕ}
 use mathlib.Core.List.{[], _∷_, List}
 use lib.ListN.{length}

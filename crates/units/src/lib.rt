@@ -9,10 +9,13 @@ ghost use mathlib.Core.Path.{_≡_};
 ghost use Prim.Native.Nat.{_+_, _*_, _^_, _≤_, _<_};
 ghost use Rattle.model.specs.Formula.{ceilDiv, burstAtHop, residual, withinRate, delayBound, backlogBound};
 
+// Bytes on the wire.
 pub struct Bytes(pub u64);
+
 // Kilobits per second.
 pub struct Rate(pub u64);
 
+// Microseconds.
 pub struct Micros(pub u64);
 
 // The quotient rounded up.

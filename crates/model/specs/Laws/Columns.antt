@@ -1,4 +1,4 @@
--- One step of the readers of fields and lines at a place of a list, for loops that go by an index. What is left of the list is `drop i s`.
+-- One step of the readers of fields and lines at a position of a list, for loops that go by an index. What is left of the list is `drop i s`.
 -- Assumes nothing.
 use Prim.Native.Nat.{ℕ, zero, suc, _+_, _-_, _*_, _/_, _%_, _≤_, _<_}
 use mathlib.Core.Path.{_≡_, refl, sym, ap, _∙_}

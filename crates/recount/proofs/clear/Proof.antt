@@ -1,4 +1,4 @@
--- `recount::clear` meets its contract. The invariant: what stands before place `i` is 0.
+-- `recount::clear` meets its contract. The invariant: what stands before position `i` is 0.
 -- Assumes nothing.
 use borrow.Author.Needs.{needs}
 use Prim.Native.Nat.{_-_, _≤_}

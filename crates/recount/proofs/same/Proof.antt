@@ -1,4 +1,4 @@
--- `recount::same` meets its contract. The invariant: the columns agree before place `i`.
+-- `recount::same` meets its contract. The invariant: the columns agree before position `i`.
 -- Assumes nothing.
 use borrow.Author.Needs.{needs}
 use Prim.Native.Nat.{ℕ, _-_, _≤_, _<_}

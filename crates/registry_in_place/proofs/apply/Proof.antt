@@ -1,6 +1,5 @@
--- `registry_in_place::apply` meets its contract: a walk of its MIR, by hand. The registry stands in a local, which is lent to the call of its kind (`LendLaws`), and is given back with the answer.
--- Up to the switch the walk holds for any kind. The switch goes by cases on it, and only the arm that runs is walked.
--- Assumes nothing.
+-- `registry_in_place::apply` meets its contract: its local is lent to the call of its kind (`LendLaws`) and given back with the answer.
+-- A walk of its MIR, by hand: for any kind up to the switch, then by cases, the arm that runs. Assumes nothing.
 use mathlib.Core.Path.{_≡_, refl, ap, subst}
 use Prim.Native.Nat.{ℕ}
 use mathlib.Core.List.{[], _∷_, List}
