@@ -131,7 +131,8 @@ fn check_hop(
 }
 
 // The links of a path one by one, with the flow counted in at its level and with its burst there: 21 for the link, then
-// level by level 22 before 23.
+// level by level 22 before 23. The answer is free where the path meets a link twice or leaves the table, or where the
+// figures are no flows' on the table.
 pub fn check_path(
     rate: Rate,
     burst: Bytes,
@@ -346,7 +347,7 @@ fn link_meets(link: usize, links: &[u32], queues: &[u32], sums: &[u64]) -> bool
     }
 }
 
-// Whether every link meets 21 to 23 with these figures.
+// Whether every link meets 21 to 23 with these figures. The answer is free where they are no flows' on the table.
 pub fn links_meet(n: usize, links: &[u32], queues: &[u32], sums: &[u64]) -> bool
     requires { ⌜ Columns n (now links) (now queues) × Bounded (now sums) ⌝ }
     requires { ⌜ LinkSpeeds n (now links) ⌝ }

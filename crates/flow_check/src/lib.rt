@@ -30,7 +30,7 @@ pub enum Cause {
     At(u32, u32, u32),
 }
 
-// What is against a flow by itself; where that is nothing, the entries name its path.
+// What is against a flow by itself; where that is nothing, the entries name its path, else they are free.
 pub struct Judged {
     pub cause: Cause,
     pub entries: [u32; 12],
@@ -135,7 +135,7 @@ pub fn judge_flow(
     judge_path(flow, hop_links, hop_levels, n, links, queues)
 }
 
-// 30, then 31 for a path of so many hops.
+// 30, then 31 for a path of so many hops. The cause is free where the counts exceed the pool, as no store's do.
 pub fn judge_room(hops: u32, slots: &[u32]) -> Room
     requires { ⌜ (length (now slots) ≡ 1536) × (hops ≤ 12) ⌝ }
     ensures { λ r. ⌜ RoomJudged hops (now (slots .entry)) r ⌝ }

@@ -187,7 +187,7 @@ pub fn insert(slot: usize, flow: Flow, entries: &[u32], slots: &mut [u32], pool:
     store_flow(slot, flow, slots);
 }
 
-// Copies the path of a slot to the front of `entries` and answers its hop count.
+// Copies the path of a slot to the front of `entries` and answers its hop count. What stands behind it then is free.
 pub fn path_into(slot: usize, slots: &[u32], pool: &[u32], entries: &mut [u32]) -> usize
     requires { ⌜ Store (now slots) (now pool) × (slot < 256) × (countAt (now slots) slot ≤ 12) × (length (now entries) ≡ 12) ⌝ }
     ensures { λ r. ⌜ r ≡ countAt (now (slots .entry)) slot ⌝ }

@@ -2,7 +2,7 @@
 // sum of thresholds that 20 asks for.
 //
 // An entry names a queue by one number: 8 × (link - 1) + (level - 1). A search answers the index of the hop that it
-// finds, the path's length where it finds none.
+// finds, the path's length where it finds none; of hops with the same link and level it may answer any.
 ghost use mathlib.Core.Path.{_≡_};
 ghost use mathlib.Core.List.{List, [], map};
 ghost use Prim.Native.Nat.{ℕ, _*_, _/_, _≤_, _<_};
@@ -12,7 +12,7 @@ ghost use Rattle.model.specs.Reference.{atHop, isNone, noQueue, metEarlier, sta
 ghost use Rattle.queue_table.specs.View.{tableOf, levelsAt, hopAt, isQueue};
 ghost use Rattle.path_check.specs.Causes.{causeAt, AllQueues, earlierThan, EntryOf, PathLocated};
 
-// The first hop without a queue, and the entries of the hops before it.
+// The first hop without a queue, and the hop count where each has one: then the entries name the path, else they are free.
 pub struct Located {
     pub missing: usize,
     pub entries: [u32; 12],
