@@ -2,7 +2,7 @@
 //! with and without the 42 check; and the stack that a batch needs.
 
 use crate::book;
-use crate::calls::Calls;
+use crate::calls::Version;
 use crate::clock::thread_time;
 use crate::compare::{versions, Batch, PROVED};
 use crate::fast;
@@ -199,7 +199,7 @@ const PASSES: usize = 20;
 const CHUNK: usize = 50;
 
 /// Between two passes the flows that are left make room for the first ones, untimed.
-fn call_round<R: Calls>(load: &Load, checked: bool) -> Round {
+fn call_round<R: Version>(load: &Load, checked: bool) -> Round {
     let mut registry = Box::new(R::EMPTY);
     registry.open(&load.table);
     let mut chunks = Vec::new();

@@ -2,7 +2,7 @@
 //! process beside the plain version and the others, for its answers and for its time.
 
 use crate::book;
-use crate::calls::{call_bytes, Calls};
+use crate::calls::{call_bytes, Version};
 use crate::clock::children_time;
 use crate::compare::{BOOK, FAST, PROVED};
 use crate::fast;
@@ -22,7 +22,7 @@ use std::process::{Command, Stdio};
 pub const VERSION_REPLAY: &str = "version-replay";
 
 /// What `replay` prints, from a version's registry; every call makes the 42 check.
-pub fn version_replay<R: Calls>(table: &[u8], calls: &[u8]) -> Vec<u8> {
+pub fn version_replay<R: Version>(table: &[u8], calls: &[u8]) -> Vec<u8> {
     let mut printed = Vec::new();
     let mut registry = Box::new(R::EMPTY);
     let (code, line) = registry.open(table);

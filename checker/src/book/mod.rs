@@ -11,6 +11,7 @@ mod store;
 mod table;
 
 use crate::answer::{put_answer, Answer, ANSWER_LINE};
+use crate::calls::Calls;
 pub use figures::Aggregate;
 use orders::{read_call, read_order, Hop, Order};
 pub use store::{Slot, Store};
@@ -35,34 +36,33 @@ pub struct Registry {
     pub sums: [Aggregate; QUEUES],
 }
 
-impl Registry {
-    pub const EMPTY: Registry = Registry {
+impl Calls for Registry {
+    const EMPTY: Registry = Registry {
         table: Table::EMPTY,
         store: Store::EMPTY,
         sums: [Aggregate::NONE; QUEUES],
     };
 
-    /// Opens this registry anew on a table text; code and line where it is refused.
-    pub fn open(&mut self, table: &[u8]) -> (u32, u32) {
+    fn open(&mut self, table: &[u8]) -> (u32, u32) {
         *self = Registry::EMPTY;
         self.table.read(table)
     }
 
-    /// A direct call of either kind, 42 first.
-    pub fn call(&mut self, kind: u32, bytes: &[u8]) -> Answer {
+    fn call(&mut self, kind: u32, bytes: &[u8]) -> Answer {
         if !self.consistent() {
             return Answer::plain(42);
         }
         self.call_unchecked(kind, bytes)
     }
 
-    /// A direct call on a registry known to be in order.
-    pub fn call_unchecked(&mut self, kind: u32, bytes: &[u8]) -> Answer {
+    fn call_unchecked(&mut self, kind: u32, bytes: &[u8]) -> Answer {
         let mut hops = [Hop::NONE; HOPS];
         let order = read_call(kind, bytes, &mut hops);
         self.perform(order, &hops)
     }
+}
 
+impl Registry {
     #[inline]
     fn perform(&mut self, order: Order, hops: &[Hop; HOPS]) -> Answer {
         let done = match order {

@@ -1,7 +1,6 @@
-//! The fast registry's direct calls.
+//! The fast registry, as the runs see and damage it.
 
-use super::{near, Calls, View};
-use crate::answer::Answer;
+use super::{near, Version, View};
 use crate::compare::FAST;
 use crate::fast;
 use crate::plain::formula::Aggregate;
@@ -9,21 +8,8 @@ use crate::plain::orders::{Flow, Hop};
 use crate::plain::table::Queue;
 use crate::rng::Rng;
 
-impl Calls for fast::Registry {
+impl Version for fast::Registry {
     const NAME: &'static str = FAST;
-    const EMPTY: Self = fast::Registry::EMPTY;
-
-    fn open(&mut self, table: &[u8]) -> (u32, u32) {
-        self.open(table)
-    }
-
-    fn call(&mut self, kind: u32, bytes: &[u8]) -> Answer {
-        self.call(kind, bytes)
-    }
-
-    fn call_unchecked(&mut self, kind: u32, bytes: &[u8]) -> Answer {
-        self.call_unchecked(kind, bytes)
-    }
 
     fn consistent(&self) -> bool {
         self.consistent()

@@ -23,7 +23,6 @@ pub struct View {
 
 /// A version's registry with its direct calls.
 pub trait Calls: Clone {
-    const NAME: &'static str;
     const EMPTY: Self;
 
     /// Opens it anew on a table text; code and line where it is refused.
@@ -32,6 +31,12 @@ pub trait Calls: Clone {
     fn call(&mut self, kind: u32, bytes: &[u8]) -> answer::Answer;
     /// The same on a registry known to be in order.
     fn call_unchecked(&mut self, kind: u32, bytes: &[u8]) -> answer::Answer;
+}
+
+/// What the runs ask of a version's registry beside its calls.
+pub trait Version: Calls {
+    const NAME: &'static str;
+
     fn consistent(&self) -> bool;
     fn view(&self) -> View;
     /// Changes one of its numbers.
@@ -70,7 +75,11 @@ pub fn one_list(rng: &mut Rng, given: &Input, counts: &mut Counts) -> Result<(),
     version_list::<crate::fast::Registry>(&mut again, given, &mut Counts::new())
 }
 
-fn version_list<R: Calls>(rng: &mut Rng, given: &Input, counts: &mut Counts) -> Result<(), String> {
+fn version_list<R: Version>(
+    rng: &mut Rng,
+    given: &Input,
+    counts: &mut Counts,
+) -> Result<(), String> {
     let (mut plain, refused) = Registry::open(&given.table);
     let mut quick = Box::new(R::EMPTY);
     let outcome = quick.open(&given.table);
@@ -105,7 +114,7 @@ fn version_list<R: Calls>(rng: &mut Rng, given: &Input, counts: &mut Counts) -> 
     Ok(())
 }
 
-fn same_state<R: Calls>(plain: &Registry, quick: &R) -> Result<(), String> {
+fn same_state<R: Version>(plain: &Registry, quick: &R) -> Result<(), String> {
     let seen = quick.view();
     if seen.queues != plain.queues || seen.slots != plain.slots {
         return Err(format!(
@@ -127,7 +136,7 @@ fn same_state<R: Calls>(plain: &Registry, quick: &R) -> Result<(), String> {
 }
 
 /// Changes one number of a registry; a call then answers 42 exactly when it isn't in order.
-fn one_damage<R: Calls>(rng: &mut Rng, sound: &R, counts: &mut Counts) -> Result<(), String> {
+fn one_damage<R: Version>(rng: &mut Rng, sound: &R, counts: &mut Counts) -> Result<(), String> {
     let mut damaged = Box::new(sound.clone());
     damaged.damage(rng);
     let seen = damaged.view();

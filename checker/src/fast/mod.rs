@@ -7,6 +7,7 @@ mod link;
 mod read;
 
 use crate::answer::{put_answer, Answer, ANSWER_LINE};
+use crate::calls::Calls;
 use read::{Flow, Order};
 
 pub const LINKS: usize = 64;
@@ -79,8 +80,8 @@ fn burst_at_hop(burst: u32, rate: u32, earlier: u32) -> u64 {
     u64::from(burst) + (u64::from(rate) * u64::from(earlier)).div_ceil(8000)
 }
 
-impl Registry {
-    pub const EMPTY: Registry = Registry {
+impl Calls for Registry {
+    const EMPTY: Registry = Registry {
         links: 0,
         levels: [0; LINKS],
         from: [0; LINKS],
@@ -99,27 +100,26 @@ impl Registry {
         last: [0; NUMBERS],
     };
 
-    /// Opens this registry anew on a table text; code and line where it is refused.
-    pub fn open(&mut self, table: &[u8]) -> (u32, u32) {
+    fn open(&mut self, table: &[u8]) -> (u32, u32) {
         *self = Registry::EMPTY;
         read::table(self, table)
     }
 
-    /// A direct call of either kind, 42 first.
-    pub fn call(&mut self, kind: u32, line: &[u8]) -> Answer {
+    fn call(&mut self, kind: u32, line: &[u8]) -> Answer {
         if !self.consistent() {
             return Answer::plain(42);
         }
         self.call_unchecked(kind, line)
     }
 
-    /// A direct call on a registry known to be in order.
-    pub fn call_unchecked(&mut self, kind: u32, line: &[u8]) -> Answer {
+    fn call_unchecked(&mut self, kind: u32, line: &[u8]) -> Answer {
         let mut flow = Flow::EMPTY;
         let order = read::call(kind, line, &mut flow);
         self.step(&order, &flow)
     }
+}
 
+impl Registry {
     #[inline(always)]
     fn step(&mut self, order: &Order, flow: &Flow) -> Answer {
         match *order {

@@ -102,6 +102,22 @@ fn mixed_lines(rng: &mut Rng, queues: &[Queue], demand: Demand, most: u64) -> Ve
     order_lines(rng, queues, demand, mix, count)
 }
 
+/// A registration over these hops with the greatest deadline.
+fn unhurried(
+    rng: &mut Rng,
+    queues: &[Queue],
+    demand: Demand,
+    number: u64,
+    hops: Vec<Hop>,
+) -> Vec<u8> {
+    write_registration(&Flow {
+        number,
+        hops,
+        deadline: 10_000_000,
+        ..flow(rng, queues, demand)
+    })
+}
+
 /// More flows than there are slots, and releases once they are full. Four hops each fill the hop
 /// pool as well.
 fn full_slots(rng: &mut Rng) -> (Vec<Queue>, Vec<Vec<u8>>) {
@@ -110,29 +126,17 @@ fn full_slots(rng: &mut Rng) -> (Vec<Queue>, Vec<Vec<u8>>) {
     let mut lines = Vec::new();
     for number in 1..=rng.between(256, 300) {
         let hops = walk(rng, &queues, hops as usize);
-        let deadline = 10_000_000;
-        let new = Flow {
-            number,
-            hops,
-            deadline,
-            ..flow(rng, &queues, SMALL)
-        };
-        lines.push(write_registration(&new));
+        lines.push(unhurried(rng, &queues, SMALL, number, hops));
     }
     let reused = Demand {
         numbers: 320,
         ..rng.pick(&[SMALL, WIDE])
     };
-    lines.extend(order_lines(
-        rng,
-        &queues,
-        reused,
-        Mix {
-            releases: 4,
-            odd: 2,
-        },
-        60,
-    ));
+    let mix = Mix {
+        releases: 4,
+        odd: 2,
+    };
+    lines.extend(order_lines(rng, &queues, reused, mix, 60));
     (queues, lines)
 }
 
@@ -150,29 +154,17 @@ fn full_hops(rng: &mut Rng) -> (Vec<Queue>, Vec<Vec<u8>>) {
     for number in 1..=rng.between(84, 88) {
         let start = rng.between(1, links - 11);
         let hops = chain_path(rng, &queues, start, 12);
-        let deadline = 10_000_000;
-        let new = Flow {
-            number,
-            hops,
-            deadline,
-            ..flow(rng, &queues, demand)
-        };
-        lines.push(write_registration(&new));
+        lines.push(unhurried(rng, &queues, demand, number, hops));
     }
     let reused = Demand {
         numbers: 100,
         ..demand
     };
-    lines.extend(order_lines(
-        rng,
-        &queues,
-        reused,
-        Mix {
-            releases: 3,
-            odd: 1,
-        },
-        40,
-    ));
+    let mix = Mix {
+        releases: 3,
+        odd: 1,
+    };
+    lines.extend(order_lines(rng, &queues, reused, mix, 40));
     (queues, lines)
 }
 
