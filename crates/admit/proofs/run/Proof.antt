@@ -20,7 +20,7 @@ array-share-prefix-answers : tie.Need-array-share-prefix-answers
 array-share-prefix-answers c = omega (arith, few c, long c)
 
 slice-aggregate-write-all : tie.Need-slice-aggregate-write-all
-slice-aggregate-write-all c = sym (length-take-le _ _ (omega (arith, few (c .before), long (c .before))))
+slice-aggregate-write-all c = sym (length-take-le _ _ (array-share-prefix-answers (c .before)))
 
 pub run-spec : {M : Type 1} → statement M
 run-spec =

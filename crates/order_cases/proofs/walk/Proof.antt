@@ -3,7 +3,6 @@
 use borrow.Author.Needs.{needs}
 use Prim.Native.Nat.{_-_, _≤_, _<_}
 use mathlib.Core.Path.{subst}
-use native.Mathlib.Nat.{le-of-lt}
 use native.Mathlib.Omega.{arith}
 use lib.ListN.{length}
 use Rattle.columns.specs.Reading.{endsWithin}
@@ -20,35 +19,10 @@ abbrev μ-loop : tie.MeasureT-loop
 within : (c : tie.After-end Inv-loop μ-loop) → (c .before .before .before .before .loop .at ≤ c .end .given .0 .0) × (c .end .given .0 .0 < length (c .before .before .before .before .before .before .args .text .now))
 within c = subst (endsWithin (c .before .before .before .before .before .before .args .text .now) (c .before .before .before .before .loop .at)) (c .end .given .1) (c .before .before .next-line .ensures .within)
 
-loop-holds : tie.Need-loop-holds Inv-loop μ-loop
-loop-holds c = tt
-
-returns : tie.Need-returns Inv-loop μ-loop
-returns c = tt
-
-sub-judge : tie.Need-sub-judge Inv-loop μ-loop
-sub-judge c = within (c .before) .0
-
-part-judge-start : tie.Need-part-judge-start Inv-loop μ-loop
-part-judge-start c = within (c .before) .0
-
-part-judge-end : tie.Need-part-judge-end Inv-loop μ-loop
-part-judge-end c = le-of-lt (within (c .before) .1)
-
-add-at : tie.Need-add-at Inv-loop μ-loop
-add-at c = omega (arith, within (c .before .before .before) .1, c .before .before .before .before .before .before .before .before .before .good)
-
-loop-less : tie.Need-loop-less Inv-loop μ-loop
-loop-less c = omega (arith, within (c .before .before .before), c .before .before .before .before .before .before .loop-test .taken)
-
-loop-again : tie.Need-loop-again Inv-loop μ-loop
-loop-again c = tt
-
-returns-2 : tie.Need-returns-2 Inv-loop μ-loop
-returns-2 c = tt
-
 pub walk-spec : {M : Type 1} → statement M
 walk-spec =
     tie.close
-    (tie.spec Inv-loop μ-loop loop-holds (λ c κs. search needs) (λ c. search needs) (λ c. search needs) (λ c κs. search needs) returns sub-judge
-    part-judge-start part-judge-end (λ c κs. search needs) add-at loop-less loop-again returns-2)
+    (tie.spec Inv-loop μ-loop (λ c. tt) (λ c κs. search needs) (λ c. search needs) (λ c. search needs) (λ c κs. search needs) (λ c. tt)
+    (λ c. within (c .before) .0) (λ c. within (c .before) .0) (λ c. omega (arith, within (c .before))) (λ c κs. search needs)
+    (λ c. omega (arith, within (c .before .before .before) .1, c .before .before .before .before .before .before .before .before .before .good))
+    (λ c. omega (arith, within (c .before .before .before), c .before .before .before .before .before .before .loop-test .taken)) (λ c. tt) (λ c. tt))
