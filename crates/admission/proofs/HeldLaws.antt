@@ -1,33 +1,30 @@
 -- Held flows that are each right by themselves can be recounted.
 -- Assumes nothing.
-use Prim.Native.Nat.{ℕ, zero, suc, _+_, _*_, _/_, _%_, _≤_, _<_}
-use mathlib.Core.Path.{_≡_, refl, sym, ap, ap₂, subst, _∙_}
-use mathlib.Core.Bool.{Bool, true, false, _&&_}
-use mathlib.Core.List.{List, [], _∷_, _++_, map}
+use Prim.Native.Nat.{ℕ, zero, suc, _+_, _≤_, _<_}
+use mathlib.Core.Path.{_≡_, refl, ap, subst, _∙_}
+use mathlib.Core.Bool.{true, _&&_}
+use mathlib.Core.List.{List, [], _∷_, _++_}
 use mathlib.Core.Option.{none, some, Option·some-injective, Option·none-ne-some}
-use native.Mathlib.Nat.{div-add-mod, mod-lt}
 use native.Mathlib.Omega.{arith}
 use lib.ListN.{getD}
-use lib.Dec.{leb, eqb}
-use borrow.Author.Tests.{ne-eqb, eqb-true, le-leb}
-use Rattle.model.specs.Formula.{Aggregate}
+use lib.Dec.{leb}
+use borrow.Author.Tests.{ne-eqb, le-leb}
 use Rattle.model.specs.QueueTable.{Table}
 use Rattle.model.specs.Orders.{Flow}
 use Rattle.model.specs.Schedulable.{All}
-use Rattle.model.specs.Reference.{Slot, State, heldFlows, withNumber, every, isNone, firstCause, atHop, noQueue, lineFindings, deadlineFinding}
+use Rattle.model.specs.Reference.{Slot, State, heldFlows, withNumber, every, isNone, atHop, noQueue, lineFindings, deadlineFinding}
 use Rattle.model.specs.Consistent.{flowInRange, tableConsistent}
 use Rattle.model.specs.Laws.Test.{and-both, both-and, every-all, all-every}
 use Rattle.model.specs.Laws.All.{all-append, all-imp}
 use Rattle.model.specs.Laws.Finding.{none-applies, applies-none, is-none}
 use Rattle.model.specs.Laws.Consistent.{FlowRules}
 use Rattle.model.specs.Laws.Reached.{StateRules}
-use Rattle.queue_table.specs.View.{Columns, tableOf, hopAt, isQueue}
+use Rattle.queue_table.specs.View.{Columns, tableOf, isQueue}
 use Rattle.path_check.proofs.EntryLaws.{all-queues}
 use Rattle.flow_store.specs.View.{Store, slotsOf, slotOf, flowAt, countAt, entriesIn, flowIn}
 use Rattle.flow_store.proofs.ViewLaws.{slot-at, entries-long, flow-long}
 use Rattle.flow_check.specs.Findings.{flowAlone}
-use Rattle.figures.specs.View.{Figures, Hops, figureAt}
-use Rattle.recount.specs.View.{Ranged, Countable, OnQueues}
+use Rattle.recount.specs.View.{Countable, OnQueues}
 use Rattle.admission.proofs.KeptLaws.{Ranges, ranges, hops-ranged}
 
 -- What holds of each held flow holds of the one in a slot.

@@ -19,8 +19,8 @@ use Rattle.model.specs.QueueTable as table
 use Rattle.model.specs.Orders as line
 use Rattle.model.specs.Orders.{Order, register, flowOf, headInRange, hopsInRange, numberInRange}
 use Rattle.model.specs.Aggregates as lookup
-use Rattle.model.specs.Schedulable.{All, Named, FlowMeets}
-use Rattle.model.specs.Reference.{Slot, State, Cause, Outcome, heldFlows, heldHops, hopEntries, isNone, isHeld, every, firstIndex, firstCause, atHop, metEarlier, roomFindings, findings, refuse, fill, perform, decide, apply}
+use Rattle.model.specs.Schedulable.{All, Named}
+use Rattle.model.specs.Reference.{Slot, State, Cause, Outcome, heldFlows, hopEntries, isNone, isHeld, every, firstIndex, firstCause, atHop, metEarlier, roomFindings, findings, refuse, fill, perform, decide, apply}
 use Rattle.model.specs.Consistent.{flowInRange, headOf, tableConsistent, consistent}
 use Rattle.model.specs.Laws.Finding.{none-applies}
 use Rattle.model.specs.Laws.Slot.{index-below}
@@ -32,8 +32,8 @@ use Rattle.orders.specs.declared.Flow.{Flow}
 use Rattle.orders.specs.Reading.{fieldsOf}
 use Rattle.queue_table.specs.View.{Columns, tableOf, hopAt, isQueue, linkAt}
 use Rattle.queue_table.proofs.LookupLaws.{link-found}
-use Rattle.path_check.specs.Causes.{AllQueues, linePath}
-use Rattle.flow_store.specs.View.{Store, slotsOf, countAt, countsFrom, Narrow, Insertable}
+use Rattle.path_check.specs.Causes.{AllQueues}
+use Rattle.flow_store.specs.View.{Store, slotsOf, Insertable}
 use Rattle.flow_store.proofs.ViewLaws.{length-slots, held-hops}
 use Rattle.flow_store.proofs.ScanLaws.{free-count}
 use Rattle.flow_check.specs.Findings as judged

@@ -44,7 +44,7 @@ none-held zero = refl
 none-held (suc n) = none-held n
 
 no-figures : (m : ℕ) (t : Table) (e : ℕ) → figureAt (replicate m 0) e ≡ lookup.aggregateAt t [] (hopAt e)
-unfolding figureAt lookup.aggregateAt lookup.allEntries total largest
+unfolding figureAt lookup.aggregateAt lookup.allShares total largest
 no-figures m t e = λ i. record { rate = zeros m (3 * e) i; burst = zeros m (3 * e + 1) i; frame = zeros m (3 * e + 2) i }
 
 module _ (text links queues : List ℕ) (v : Verdict) (filled : TableFilled text v links queues) where

@@ -19,7 +19,7 @@ use Rattle.model.specs.Laws.All.{all-imp}
 use Rattle.model.specs.Laws.Figures.{carried}
 use Rattle.model.specs.Laws.Slot.{index-found, number-index}
 use Rattle.model.specs.Laws.Reached.{StateRules, state-rules, rules-state, clear-keeps}
-use Rattle.queue_table.specs.View.{tableOf, hopAt, isQueue}
+use Rattle.queue_table.specs.View.{tableOf, hopAt}
 use Rattle.flow_store.specs.View.{Store, slotsOf, slotOf, rateAt, burstAt, frameAt, flowAt, countAt, entriesIn, flowIn}
 use Rattle.flow_store.proofs.ViewLaws.{length-slots, slot-at}
 use Rattle.figures.specs.View.{Figures, FlowOf, PathCounted, Carried, Left, PathRemoved, figureAt, raised}

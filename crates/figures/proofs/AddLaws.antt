@@ -14,7 +14,7 @@ use Rattle.model.specs.Aggregates as model
 use Rattle.model.specs.Schedulable.{All}
 use Rattle.model.specs.WithFlow.{withFlow, together}
 use Rattle.model.specs.Laws.Aggregates.{hop-same}
-use Rattle.model.specs.Laws.Figures.{entriesAt, entries-nothing, entries-other, entries-here, aggregate-alone, aggregate-more}
+use Rattle.model.specs.Laws.Figures.{sharesAt, shares-nothing, shares-other, shares-here, aggregate-alone, aggregate-more}
 use Rattle.queue_table.specs.View.{tableOf, hopAt, isQueue}
 use Rattle.figures.specs.View.{figureAt, Below, figureStored, FlowOf, PathAdded, Figures}
 use Rattle.figures.proofs.FigureLaws.{stored-length, stored-here, stored-other, stored-below}
@@ -28,7 +28,7 @@ pub record Adding (rate burst frame : ℕ) (queues entries before sums : List �
   pub below : (bound : ℕ) → Below bound before → Below (bound + i * 2 ^ 31) sums
   pub left : (n : ℕ) (links : List ℕ) (f : Flow) → All (λ e. isQueue n links e ≡ true) entries → FlowOf rate burst frame entries f
       → (e : ℕ) → e < 512
-      → together (entriesAt (hopAt e) (model.entries (tableOf n links queues) f sum (drop i (f .path)))) (figureAt sums e)
+      → together (sharesAt (hopAt e) (model.entries (tableOf n links queues) f sum (drop i (f .path)))) (figureAt sums e)
       ≡ together (model.aggregateAt (tableOf n links queues) (f ∷ []) (hopAt e)) (figureAt before e)
 
 module _ (rate burst frame : ℕ) (queues entries before : List ℕ) where
@@ -48,8 +48,8 @@ module _ (rate burst frame : ℕ) (queues entries before : List ℕ) where
         record {
           long = so-far .long;
           same = λ n links f named is e lt.
-              let nothing = ap (λ l. together (entriesAt (hopAt e) l) (figureAt sums e)) (entries-end is n links queues sum i end) in
-              sym (entries-nothing (hopAt e) (figureAt sums e)) ∙ sym nothing ∙ so-far .left n links f named is e lt;
+              let nothing = ap (λ l. together (sharesAt (hopAt e) l) (figureAt sums e)) (entries-end is n links queues sum i end) in
+              sym (shares-nothing (hopAt e) (figureAt sums e)) ∙ sym nothing ∙ so-far .left n links f named is e lt;
           below = λ bound b j. omega (arith, so-far .below bound b j, so-far .within);
         }
 
@@ -82,23 +82,23 @@ module _ (rate burst frame : ℕ) (queues entries before : List ℕ) where
         entry = record { hop = hopAt x; adds = record { rate = rate; burst = burstAtHop rate burst sum; frame = frame } }
 
         step : (e : ℕ) → Dec (e ≡ x)
-            → together (entriesAt (hopAt e) rest) (figureAt sums′ e) ≡ together (entriesAt (hopAt e) (entry ∷ rest)) (figureAt sums e)
+            → together (sharesAt (hopAt e) rest) (figureAt sums′ e) ≡ together (sharesAt (hopAt e) (entry ∷ rest)) (figureAt sums e)
         unfolding entry
         step e (yes same) =
             rw same
-            (ap (together (entriesAt (hopAt x) rest)) (stored-here sums x there (omega (arith, so-far .long)))
-            ∙ sym (entries-here (hopAt x) entry rest (figureAt sums x) (hop-same (hopAt x) (hopAt x) refl)))
+            (ap (together (sharesAt (hopAt x) rest)) (stored-here sums x there (omega (arith, so-far .long)))
+            ∙ sym (shares-here (hopAt x) entry rest (figureAt sums x) (hop-same (hopAt x) (hopAt x) refl)))
         step e (no other) =
-            ap (together (entriesAt (hopAt e) rest)) (stored-other sums x there e other)
-            ∙ ap (λ a. together a (figureAt sums e)) (sym (entries-other (hopAt e) entry rest (other-entry e x other)))
+            ap (together (sharesAt (hopAt e) rest)) (stored-other sums x there e other)
+            ∙ ap (λ a. together a (figureAt sums e)) (sym (shares-other (hopAt e) entry rest (other-entry e x other)))
 
         next-left : (e : ℕ) → e < 512
-            → together (entriesAt (hopAt e) (model.entries t f (sum + getD queues (2 * x) 0) (drop (i + 1) (f .path)))) (figureAt sums′ e)
+            → together (sharesAt (hopAt e) (model.entries t f (sum + getD queues (2 * x) 0) (drop (i + 1) (f .path)))) (figureAt sums′ e)
             ≡ together (model.aggregateAt t (f ∷ []) (hopAt e)) (figureAt before e)
         unfolding t rest entry
         next-left e lt =
             step e (ℕ-discrete e x)
-            ∙ ap (λ l. together (entriesAt (hopAt e) l) (figureAt sums e)) (sym (entries-next is n links queues sum i named more))
+            ∙ ap (λ l. together (sharesAt (hopAt e) l) (figureAt sums e)) (sym (entries-next is n links queues sum i named more))
             ∙ so-far .left n links f named is e lt
 
       pub adding-next : Adding rate burst frame queues entries before sums′ (sum + getD queues (2 * x) 0) (i + 1)

@@ -15,7 +15,7 @@ use Rattle.model.specs.Formula.{Aggregate}
 use Rattle.model.specs.QueueTable.{Table}
 use Rattle.model.specs.Aggregates as model
 use Rattle.model.specs.Laws.Aggregates.{hop-same}
-use Rattle.model.specs.Laws.Figures.{entriesAt, aggregate-alone}
+use Rattle.model.specs.Laws.Figures.{sharesAt, aggregate-alone}
 use Rattle.queue_table.specs.View.{hopAt}
 use Rattle.figures.specs.View.{figureAt, raised, FrameRaised}
 use Rattle.figures.proofs.EntryLaws.{other-entry}
@@ -28,8 +28,8 @@ abbrev pub frameAt : (frame : ℕ) (entries : List ℕ) (e : ℕ) → ℕ
 frameAt frame entries e = largest (hopFrame frame e) entries
 
 frame-entries : (t : Table) (f : Flow) (sum : ℕ) (entries : List ℕ) (e : ℕ)
-    → entriesAt (hopAt e) (model.entries t f sum (map hopAt entries)) .frame ≡ frameAt (f .frame) entries e
-unfolding entriesAt model.entries model.addsAt largest
+    → sharesAt (hopAt e) (model.entries t f sum (map hopAt entries)) .frame ≡ frameAt (f .frame) entries e
+unfolding sharesAt model.entries model.addsAt largest
 frame-entries t f sum [] e = refl
 frame-entries t f sum (x ∷ entries) e =
     ap (max (hopFrame (f .frame) e x)) (frame-entries t f (sum + model.thresholdOf (model.queueAt t (hopAt x))) entries e)
@@ -37,7 +37,7 @@ frame-entries t f sum (x ∷ entries) e =
 frame-alone : (t : Table) (f : Flow) (entries : List ℕ) → f .path ≡ map hopAt entries → (e : ℕ)
     → model.aggregateAt t (f ∷ []) (hopAt e) .frame ≡ frameAt (f .frame) entries e
 frame-alone t f entries path e =
-    ap (λ (a : Aggregate). a .frame) (aggregate-alone t f (hopAt e) ∙ ap (λ l. entriesAt (hopAt e) (model.entries t f 0 l)) path)
+    ap (λ (a : Aggregate). a .frame) (aggregate-alone t f (hopAt e) ∙ ap (λ l. sharesAt (hopAt e) (model.entries t f 0 l)) path)
     ∙ frame-entries t f 0 entries e
 
 pub raised-none : (a : Aggregate) → raised a 0 ≡ a

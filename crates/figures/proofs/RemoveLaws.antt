@@ -3,7 +3,7 @@
 use Prim.Native.Nat.{ℕ, _+_, _*_, _-_, _≤_, _<_, max}
 use mathlib.Core.Path.{_≡_, refl, sym, ap, subst, _∙_}
 use mathlib.Core.Bool.{Bool, true, false, true≢false}
-use mathlib.Core.List.{List, [], _∷_}
+use mathlib.Core.List.{List, _∷_}
 use native.Mathlib.Omega.{arith}
 use native.Mathlib.Decide.{ℕ-discrete}
 use lib.ListN.{length, getD, set, drop}
@@ -14,7 +14,7 @@ use Rattle.model.specs.Aggregates as model
 use Rattle.model.specs.Schedulable.{All}
 use Rattle.model.specs.WithFlow.{withFlow, together}
 use Rattle.model.specs.Laws.Aggregates.{hop-same}
-use Rattle.model.specs.Laws.Figures.{entriesAt, entries-nothing, entries-other, entries-here, entries-carried, aggregate-alone, aggregate-more}
+use Rattle.model.specs.Laws.Figures.{sharesAt, shares-nothing, shares-other, shares-here, shares-carried, aggregate-alone, aggregate-more}
 use Rattle.queue_table.specs.View.{tableOf, hopAt, isQueue}
 use Rattle.figures.specs.View.{figureAt, figureStored, FlowOf, Figures, PathCounted, Carried, FrameLeft, no-flow, unknown, another, HopRemoved, PathRemoved}
 use Rattle.figures.proofs.FigureLaws.{stored-length, stored-here, stored-other, frame-stored, frame-kept}
@@ -70,7 +70,7 @@ pub record Removing (rate burst frame : ℕ) (queues entries before sums : List 
       → Figures (tableOf n links queues) (f ∷ fs) before
       → (e : ℕ) → e < 512
       → Near ((1 ≤ rate) × Carried (tableOf n links queues) fs × (again ≡ false)) (figureAt sums e)
-      (together (entriesAt (hopAt e) (model.entries (tableOf n links queues) f sum (drop i (f .path)))) (model.aggregateAt (tableOf n links queues) fs (hopAt e)))
+      (together (sharesAt (hopAt e) (model.entries (tableOf n links queues) f sum (drop i (f .path)))) (model.aggregateAt (tableOf n links queues) fs (hopAt e)))
 
 near-same : {sure : Type 0} {a b : Aggregate} → a ≡ b → Near sure a b
 near-same {a = a} {b = b} e = record { rate = rates; burst = ap (λ (x : Aggregate). x .burst) e; low = omega (arith, frames); frame = λ s. frames }
@@ -131,7 +131,7 @@ module _ (rate burst frame : ℕ) (queues entries before : List ℕ) where
           left = λ n links f fs named is figures one carried e lt.
               let t = tableOf n links queues in
               let a = model.aggregateAt t fs (hopAt e) in
-              let nothing = ap (λ l. together (entriesAt (hopAt e) l) a) (entries-end is n links queues sum i end) ∙ entries-nothing (hopAt e) a in
+              let nothing = ap (λ l. together (sharesAt (hopAt e) l) a) (entries-end is n links queues sum i end) ∙ shares-nothing (hopAt e) a in
               let near = subst (Near ((1 ≤ rate) × Carried t fs × (again ≡ false)) (figureAt sums e)) nothing (so-far .left n links f fs named is figures e lt) in
               record { rate = near .rate; burst = near .burst; low = near .low; frame = λ known. near .frame (one, carried, known) };
         }
@@ -155,43 +155,43 @@ module _ (rate burst frame : ℕ) (queues entries before : List ℕ) where
         Sure again = (1 ≤ rate) × Carried t fs × (again ≡ false)
 
         -- What was left is this hop's entry and what is left then.
-        left-now : (e : ℕ) → e < 512 → Near (Sure again) (figureAt sums e) (together (entriesAt (hopAt e) (entry ∷ rest)) (model.aggregateAt t fs (hopAt e)))
+        left-now : (e : ℕ) → e < 512 → Near (Sure again) (figureAt sums e) (together (sharesAt (hopAt e) (entry ∷ rest)) (model.aggregateAt t fs (hopAt e)))
         left-now e lt =
-            subst (λ l. Near (Sure again) (figureAt sums e) (together (entriesAt (hopAt e) l) (model.aggregateAt t fs (hopAt e))))
+            subst (λ l. Near (Sure again) (figureAt sums e) (together (sharesAt (hopAt e) l) (model.aggregateAt t fs (hopAt e))))
             (entries-next is n links queues sum i named more) (so-far .left n links f fs named is figures e lt)
 
-        left-here : Near (Sure again) (figureAt sums x) (together (entriesAt (hopAt x) rest) (withFlow (model.aggregateAt t fs (hopAt x)) rate (burstAtHop rate burst sum) frame))
+        left-here : Near (Sure again) (figureAt sums x) (together (sharesAt (hopAt x) rest) (withFlow (model.aggregateAt t fs (hopAt x)) rate (burstAtHop rate burst sum) frame))
         left-here =
             subst (Near (Sure again) (figureAt sums x))
-            (entries-here (hopAt x) entry rest (model.aggregateAt t fs (hopAt x)) (hop-same (hopAt x) (hopAt x) refl)) (left-now x e₁)
+            (shares-here (hopAt x) entry rest (model.aggregateAt t fs (hopAt x)) (hop-same (hopAt x) (hopAt x) refl)) (left-now x e₁)
 
         here-room : (rate ≤ figureAt sums x .rate) × (burstAtHop rate burst sum ≤ figureAt sums x .burst)
         unfolding together withFlow
         here-room = (omega (arith, left-here .rate), omega (arith, left-here .burst))
 
-        none-left : 1 ≤ rate → Carried t fs → entriesAt (hopAt x) rest .rate + model.aggregateAt t fs (hopAt x) .rate ≡ 0
-            → max (entriesAt (hopAt x) rest .frame) (model.aggregateAt t fs (hopAt x) .frame) ≡ 0
+        none-left : 1 ≤ rate → Carried t fs → sharesAt (hopAt x) rest .rate + model.aggregateAt t fs (hopAt x) .rate ≡ 0
+            → max (sharesAt (hopAt x) rest .frame) (model.aggregateAt t fs (hopAt x) .frame) ≡ 0
         none-left one carried z =
             omega (
               arith,
-              entries-carried t f (subst (λ r. 1 ≤ r) (sym (is .rate-is)) one) (hopAt x) (sum + getD queues (2 * x) 0) (drop (i + 1) (f .path)) (omega arith),
+              shares-carried t f (subst (λ r. 1 ≤ r) (sym (is .rate-is)) one) (hopAt x) (sum + getD queues (2 * x) 0) (drop (i + 1) (f .path)) (omega arith),
               carried (hopAt x) (omega arith),
             )
 
         module _ {sums′ : List ℕ} {own again′ : Bool} (removed : HopRemoved rate (burstAtHop rate burst sum) frame sums x sums′ own)
             (both : again′ ≡ false → (again ≡ false) × (own ≡ false)) where
           step : (e : ℕ) → e < 512 → Dec (e ≡ x)
-              → Near (Sure again′) (figureAt sums′ e) (together (entriesAt (hopAt e) rest) (model.aggregateAt t fs (hopAt e)))
+              → Near (Sure again′) (figureAt sums′ e) (together (sharesAt (hopAt e) rest) (model.aggregateAt t fs (hopAt e)))
           step e lt (yes same) =
               rw (same, removed .stored, stored-here sums x (removed .left) (omega (arith, so-far .long)))
-              (taken-out rate (burstAtHop rate burst sum) frame (figureAt sums x) (removed .left) (entriesAt (hopAt x) rest) (model.aggregateAt t fs (hopAt x))
+              (taken-out rate (burstAtHop rate burst sum) frame (figureAt sums x) (removed .left) (sharesAt (hopAt x) rest) (model.aggregateAt t fs (hopAt x))
               (removed .rate-left) (removed .burst-left) left-here
               (λ s. let no = both (s .2) in ((s .0, s .1, no .0), no .1, none-left (s .0) (s .1))) (removed .frame-left))
           step e lt (no other) =
               rw (removed .stored, stored-other sums x (removed .left) e other)
               (near-less (λ s. (s .0, s .1, both (s .2) .0))
               (subst (λ a. Near (Sure again) (figureAt sums e) (together a (model.aggregateAt t fs (hopAt e))))
-              (entries-other (hopAt e) entry rest (other-entry e x other)) (left-now e lt)))
+              (shares-other (hopAt e) entry rest (other-entry e x other)) (left-now e lt)))
 
       -- The flow is counted in at the hop.
       pub removing-room : PathCounted rate burst frame queues entries before → (rate ≤ figureAt sums x .rate) × (burstAtHop rate burst sum ≤ figureAt sums x .burst)

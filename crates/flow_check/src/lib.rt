@@ -1,7 +1,7 @@
 // The causes against a registration before its links are checked (document 01, "Order"): 12, 17, 14, 16, 15, 20, and
 // then 30 and 31; and whether each held flow meets 11 and those before 30 beside the others.
 ghost use mathlib.Core.Path.{_≡_};
-ghost use mathlib.Core.List.{List, [], _∷_, map};
+ghost use mathlib.Core.List.{List, map};
 ghost use mathlib.Core.Option.{none, some};
 ghost use Prim.Native.Nat.{ℕ, _+_, _/_, _%_, _≤_, _<_};
 ghost use lib.ListN.{length, getD};

@@ -27,36 +27,36 @@ unfoldable pub thresholdOf : Option Queue → ℕ
 thresholdOf none = 0
 thresholdOf (some q) = q .threshold
 
--- What a flow adds at one of its hops: its rate, its burst at that hop and its largest frame.
-pub record Entry : Type 0 where
+-- A flow's share at one of its hops is what it adds there: its rate, its burst at that hop and its largest frame.
+pub record Share : Type 0 where
   pub hop : Hop
   pub adds : Aggregate
 
--- The entries of the hops `path`, before which the thresholds sum to `sum`.
-unfoldable pub entries : Table → Flow → (sum : ℕ) → (path : List Hop) → List Entry
-entries t f sum [] = []
-entries t f sum (h ∷ path) =
+-- The shares at the hops `path`, before which the thresholds sum to `sum`.
+unfoldable pub shares : Table → Flow → (sum : ℕ) → (path : List Hop) → List Share
+shares t f sum [] = []
+shares t f sum (h ∷ path) =
     record { hop = h; adds = record { rate = f .rate; burst = burstAtHop (f .rate) (f .burst) sum; frame = f .frame } }
-    ∷ entries t f (sum + thresholdOf (queueAt t h)) path
+    ∷ shares t f (sum + thresholdOf (queueAt t h)) path
 
-unfoldable pub allEntries : Table → List Flow → List Entry
-allEntries t [] = []
-allEntries t (f ∷ fs) = entries t f 0 (f .path) ++ allEntries t fs
+unfoldable pub allShares : Table → List Flow → List Share
+allShares t [] = []
+allShares t (f ∷ fs) = shares t f 0 (f .path) ++ allShares t fs
 
 unfoldable pub sameHop : Hop → Hop → Bool
 sameHop a b = eqb (a .link) (b .link) && eqb (a .level) (b .level)
 
--- What an entry adds at queue `q`, by a measure of aggregates: 0 at every queue but its own.
-unfoldable pub addsAt : Hop → (Aggregate → ℕ) → Entry → ℕ
+-- What a share adds at queue `q`, by a measure of aggregates: 0 at every queue but its own.
+unfoldable pub addsAt : Hop → (Aggregate → ℕ) → Share → ℕ
 addsAt q measure e = cond (sameHop q (e .hop)) (measure (e .adds)) 0
 
 -- Sum of rates, sum of bursts, largest frame (0 where none).
 unfoldable pub aggregateAt : Table → List Flow → Hop → Aggregate
 aggregateAt t fs q =
     record {
-      rate = total (addsAt q (λ a. a .rate)) (allEntries t fs);
-      burst = total (addsAt q (λ a. a .burst)) (allEntries t fs);
-      frame = largest (addsAt q (λ a. a .frame)) (allEntries t fs);
+      rate = total (addsAt q (λ a. a .rate)) (allShares t fs);
+      burst = total (addsAt q (λ a. a .burst)) (allShares t fs);
+      frame = largest (addsAt q (λ a. a .frame)) (allShares t fs);
     }
 
 -- One aggregate for each of the queues, which are those of link `link` from level `n` on.

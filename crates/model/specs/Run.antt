@@ -91,13 +91,13 @@ send l =
     ]
 
 -- The time of one bit: a free link takes a frame, then one bit is sent.
-unfoldable pub slot : LinkState → LinkState
-slot l = send (take l)
+unfoldable pub bitSlot : LinkState → LinkState
+bitSlot l = send (take l)
 
 -- So many bit slots. From one instant to the next a link has as many as its speed, in bits per µs.
 unfoldable pub interval : ℕ → LinkState → LinkState
 interval zero l = l
-interval (suc n) l = slot (interval n l)
+interval (suc n) l = bitSlot (interval n l)
 
 -- The queue that a frame is on its way to or stands in: none once its path has ended.
 unfoldable pub hopOf : List Flow → Frame → Option Hop

@@ -12,9 +12,9 @@ use Rattle.model.specs.Formula.{ceilDiv, burstAtHop, residual, withinRat
 use Rattle.model.specs.QueueTable.{Queue, Link, Table}
 use Rattle.model.specs.Orders.{Hop, Flow}
 use Rattle.model.specs.LinkCheck.{isEmpty, levelCode, orElse, levelsFinding, rateCode, linkFinding}
-use Rattle.model.specs.Aggregates.{nth, linkAt, queueAt, thresholdOf, entries, allEntries, sameHop, addsAt, aggregateAt, levelAggregates}
+use Rattle.model.specs.Aggregates.{nth, linkAt, queueAt, thresholdOf, shares, allShares, sameHop, addsAt, aggregateAt, levelAggregates}
 use Rattle.model.specs.Schedulable.{All, FlowMeets, Schedulable}
-use Rattle.model.specs.Run.{Frame, sending, pastEmpty, pick, bits, start, take, send, slot, interval, hopOf, next, departed, moving, reaching, append, enter, emptyLevels, emptyLink, speedOf, Sends, Run, window, bytesOf, Conforming}
+use Rattle.model.specs.Run.{Frame, sending, pastEmpty, pick, bits, start, take, send, bitSlot, interval, hopOf, next, departed, moving, reaching, append, enter, emptyLevels, emptyLink, speedOf, Sends, Run, window, bytesOf, Conforming}
 use Rattle.model.specs.Run.Windows.{window-join, window-within}
 use Rattle.model.specs.Run.Exists.{coming, states, runOf}
 use Rattle.model.specs.Punctual.{Punctual, punctual}
@@ -86,7 +86,7 @@ pub the-run : (worked .before 1 1 ≡ record { wire = sending 2 (frame 1 0) 223;
     ∷ record { flow = 1; came = 1; gone = 6 }
     ∷ record { flow = 1; came = 2; gone = 8 }
     ∷ [])
-unfolding stays runOf states coming pastEmpty pick bits start take send slot interval hopOf next departed moving reaching append enter emptyLevels emptyLink speedOf nth linkAt sameHop
+unfolding stays runOf states coming pastEmpty pick bits start take send bitSlot interval hopOf next departed moving reaching append enter emptyLevels emptyLink speedOf nth linkAt sameHop
 the-run = (refl, refl)
 
 -- The table and its flows meet the rules.
@@ -109,7 +109,7 @@ abbrev Checks : Link → Type 0
 Checks k = linkFinding (k .speed) (k .levels) (levelAggregates table flows 1 1 (k .levels)) .code ≡ 0
 
 link-meets : Checks theLink
-unfolding linkFinding rateCode levelsFinding orElse levelCode isEmpty levelAggregates aggregateAt addsAt sameHop allEntries entries thresholdOf queueAt linkAt nth total largest ceilDiv burstAtHop residual withinRate delayBound backlogBound interference levelResidual delay backlog
+unfolding linkFinding rateCode levelsFinding orElse levelCode isEmpty levelAggregates aggregateAt addsAt sameHop allShares shares thresholdOf queueAt linkAt nth total largest ceilDiv burstAtHop residual withinRate delayBound backlogBound interference levelResidual delay backlog
 link-meets = refl
 
 flow-meets : (q : Queue) (n b : ℕ) → queueAt table (record { link = 1; level = n }) ≡ some q → FlowMeets table flows (flow n b)

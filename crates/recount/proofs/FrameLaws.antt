@@ -10,7 +10,7 @@ use Rattle.model.specs.Total.{largest}
 use Rattle.model.specs.Formula.{Aggregate}
 use Rattle.model.specs.QueueTable.{Table}
 use Rattle.model.specs.Orders.{Flow, Hop}
-use Rattle.model.specs.Aggregates.{entries, allEntries, aggregateAt}
+use Rattle.model.specs.Aggregates.{shares, allShares, aggregateAt}
 use Rattle.model.specs.Reference.{Slot, heldFlows}
 use Rattle.model.specs.WithFlow.{together}
 use Rattle.model.specs.Laws.Figures.{aggregate-more}
@@ -35,7 +35,7 @@ pub record Raising (slots pool before sums : List ℕ) (at slot : ℕ) : Type 0 
 
 -- A flow without hops is nowhere.
 frame-nowhere : (t : Table) (f : Flow) (q : Hop) → f .path ≡ [] → aggregateAt t (f ∷ []) q .frame ≡ 0
-unfolding aggregateAt allEntries entries largest
+unfolding aggregateAt allShares shares largest
 frame-nowhere t f q e = rw e
 
 module _ (slots pool : List ℕ) where
@@ -75,7 +75,7 @@ module _ (slots pool : List ℕ) where
           }
 
       pub raising-all : 256 ≤ slot → FramesRaised slots pool before sums
-      unfolding slotsFrom heldFlows aggregateAt allEntries largest
+      unfolding slotsFrom heldFlows aggregateAt allShares largest
       raising-all end =
           record {
             long = so-far .long;

@@ -16,7 +16,7 @@ use Rattle.model.specs.Total.{total, largest}
 use Rattle.model.specs.Formula.{Aggregate}
 use Rattle.model.specs.QueueTable.{Table}
 use Rattle.model.specs.Orders.{Flow}
-use Rattle.model.specs.Aggregates.{allEntries, aggregateAt}
+use Rattle.model.specs.Aggregates.{allShares, aggregateAt}
 use Rattle.model.specs.Reference.{Slot, heldFlows}
 use Rattle.model.specs.Laws.List.{before-next}
 use Rattle.queue_table.specs.View.{tableOf}
@@ -42,7 +42,7 @@ zero-all i sums h z j = go (decLt j i)
     go (no ge) = omega (arith, List·getD-eq-default sums 0 {n = j} (omega arith))
 
 figures-none : (t : Table) (sums : List ℕ) → length sums ≡ 1536 → Below 0 sums → Figures t [] sums
-unfolding figureAt aggregateAt allEntries total largest
+unfolding figureAt aggregateAt allShares total largest
 figures-none t sums long below =
     record { long = long; same = λ e lt i. record { rate = none-at (3 * e) i; burst = none-at (3 * e + 1) i; frame = none-at (3 * e + 2) i } }
   where

@@ -1,27 +1,26 @@
 -- When a registry is in order, part by part: its table, each flow by itself, the figures, the links.
 -- Assumes nothing.
-use Prim.Native.Nat.{ℕ, _+_, _≤_, _<_}
-use mathlib.Core.Path.{_≡_, refl, sym, ap, _∙_}
+use Prim.Native.Nat.{ℕ, _+_}
+use mathlib.Core.Path.{_≡_}
 use mathlib.Core.Bool.{true, _&&_}
 use mathlib.Core.List.{List, [], _∷_, _++_}
 use mathlib.Core.Option.{none}
 use native.Mathlib.Omega.{arith}
 use lib.ListN.{length}
 use lib.Dec.{leb}
-use borrow.Author.Tests.{leb-true, le-leb}
-use Rattle.model.specs.Columns.{between}
+use borrow.Author.Tests.{leb-true}
 use Rattle.model.specs.QueueTable.{Table}
 use Rattle.model.specs.Orders.{Hop, Flow}
 use Rattle.model.specs.Schedulable.{All, Named, LinkMeets}
-use Rattle.model.specs.Reference.{State, heldFlows, slotCount, hopEntries, withNumber, every, isNone, firstCause, lineFindings, deadlineFinding}
-use Rattle.model.specs.Consistent.{flowInRange, tableConsistent, linkConsistent, consistent}
-use Rattle.model.specs.Laws.Test.{and-both, both-and, every-all, all-every}
-use Rattle.model.specs.Laws.All.{append-all, all-append, all-imp, member-all}
+use Rattle.model.specs.Reference.{heldFlows, slotCount, hopEntries, withNumber, every, lineFindings, deadlineFinding}
+use Rattle.model.specs.Consistent.{flowInRange, tableConsistent, linkConsistent}
+use Rattle.model.specs.Laws.Test.{and-both, every-all}
+use Rattle.model.specs.Laws.All.{append-all, all-imp, member-all}
 use Rattle.model.specs.Laws.Columns.{between-true}
-use Rattle.model.specs.Laws.Finding.{none-applies, applies-none, is-none}
+use Rattle.model.specs.Laws.Finding.{none-applies, is-none}
 use Rattle.model.specs.Laws.Slot.{held-length}
-use Rattle.model.specs.Laws.Consistent.{FlowRules, FlowsRules}
-use Rattle.model.specs.Laws.Reached.{StateRules, state-rules, rules-state}
+use Rattle.model.specs.Laws.Consistent.{FlowRules}
+use Rattle.model.specs.Laws.Reached.{StateRules, rules-state}
 use Rattle.model.specs.Laws.Schedulable.{link-bounds, named}
 use Rattle.model.specs.Laws.Bounds.{speed-below}
 use Rattle.queue_table.specs.View.{Columns, tableOf, linkAt, levelsAt, queueAt}

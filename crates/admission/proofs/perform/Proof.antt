@@ -2,8 +2,6 @@
 -- Assumes nothing.
 use borrow.Author.Needs.{needs}
 use mathlib.Core.Path.{_≡_, refl, sym, ap, subst}
-use mathlib.Core.List.{List}
-use Prim.Native.Nat.{ℕ}
 use Rattle.model.specs.Orders as line
 use Rattle.model.specs.Reference.{State}
 use Rattle.orders.specs.declared.Order.{Order}

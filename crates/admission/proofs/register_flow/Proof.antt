@@ -14,7 +14,6 @@ use Rattle.model.specs.Orders.{register}
 use Rattle.model.specs.Reference as model
 use Rattle.model.specs.Reference.{State, heldFlows, firstIndex, isNone, firstCause, roomFindings, findings}
 use Rattle.model.specs.Outcomes.{earlyFindings}
-use Rattle.flow_store.specs.View.{slotsOf}
 use Rattle.flow_check.specs.declared.Cause.{Cause}
 use Rattle.flow_check.specs.declared.Cause.the-variants.{Nothing, Whole, At}
 use Rattle.flow_check.proofs.Cause as cause

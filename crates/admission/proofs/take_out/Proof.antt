@@ -3,16 +3,13 @@
 use borrow.Author.Needs.{needs, length-unmapped}
 use Prim.Native.Nat.{ℕ, _≤_}
 use mathlib.Core.Path.{_≡_, refl, sym}
-use mathlib.Core.Bool.{Bool}
 use mathlib.Core.List.{List}
-use mathlib.Core.Option.{none}
 use native.Mathlib.Omega.{arith}
-use lib.ListN.{length, set, take}
+use lib.ListN.{length, take}
 use lib.Seq.{length-take-le}
-use Rattle.flow_store.specs.View.{Store, slotsOf, rateAt, burstAt, frameAt, countAt, entriesIn}
+use Rattle.flow_store.specs.View.{rateAt, burstAt, frameAt, entriesIn}
 use Rattle.figures.specs.View.{PathRemoved}
 use Rattle.recount.specs.View.{Ranged}
-use Rattle.admission.specs.View.{Kept}
 use Rattle.admission.proofs.ReleaseLaws as released
 use Rattle.admission.proofs.take_out.Statement.{statement}
 use Rattle.admission.proofs.take_out.Tie as tie

@@ -7,7 +7,7 @@ use mathlib.Core.Bool.{true}
 use mathlib.Core.Option.{none}
 use native.Mathlib.Omega.{arith}
 use borrow.Author.Tests.{not-true, not-false}
-use lib.ListN.{length, getD, take, drop}
+use lib.ListN.{getD, take, drop}
 use Rattle.model.specs.Laws.List.{before-next}
 use Rattle.queue_table.specs.View.{tableOf}
 use Rattle.flow_store.specs.View.{countAt, countsFrom, slotsOf, entriesIn}

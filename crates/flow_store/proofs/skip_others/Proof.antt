@@ -1,7 +1,7 @@
 -- `flow_store::skip_others` meets its contract. The invariant: no slot before the next block has the number.
 -- Assumes nothing.
 use borrow.Author.Needs.{needs}
-use Prim.Native.Nat.{_+_, _-_, _%_, _≤_}
+use Prim.Native.Nat.{_-_, _%_, _≤_}
 use mathlib.Core.Path.{_≡_}
 use native.Mathlib.Omega.{arith}
 use Rattle.flow_store.specs.View.{OthersFrom}

@@ -1,5 +1,5 @@
 -- The aggregates of a part of the flows are at most those of all, and a flow that doesn't cross a link adds nothing there.
--- The entries of all flows are the flows' own entries one after the other, so the laws of sums apply flow by flow. Assumes nothing.
+-- The shares of all flows are the flows' own shares one after the other, so the laws of sums apply flow by flow. Assumes nothing.
 use Prim.Native.Nat.{ℕ, suc, _+_, _≤_, max}
 use mathlib.Core.Path.{_≡_, refl, ap, sym, _∙_}
 use mathlib.Core.Bool.{true, false}
@@ -14,7 +14,7 @@ use Rattle.model.specs.Formula.{Aggregate}
 use Rattle.model.specs.Laws.Formula.{AtMost}
 use Rattle.model.specs.QueueTable.{Queue, Table}
 use Rattle.model.specs.Orders.{Hop, Flow}
-use Rattle.model.specs.Aggregates.{Entry, thresholdOf, queueAt, entries, allEntries, sameHop, addsAt, aggregateAt, levelAggregates}
+use Rattle.model.specs.Aggregates.{Share, thresholdOf, queueAt, shares, allShares, sameHop, addsAt, aggregateAt, levelAggregates}
 use Rattle.model.specs.Schedulable.{All}
 use Rattle.model.specs.Laws.Test.{and-both, both-and, or-neither}
 use Rattle.model.specs.Reference.{crosses}
@@ -31,25 +31,25 @@ hop-same q h e = both-and (eq-eqb (q .link) (h .link) (ap (λ h. h .link) e)) (e
 
 module _ (t : Table) where
   -- Flow by flow.
-  total-all : (m : Entry → ℕ) (fs : List Flow) → total m (allEntries t fs) ≡ total (λ f. total m (entries t f 0 (f .path))) fs
-  unfolding total allEntries
+  total-all : (m : Share → ℕ) (fs : List Flow) → total m (allShares t fs) ≡ total (λ f. total m (shares t f 0 (f .path))) fs
+  unfolding total allShares
   total-all m [] = refl
-  total-all m (f ∷ fs) = total-append m (entries t f 0 (f .path)) (allEntries t fs) ∙ ap (λ n. total m (entries t f 0 (f .path)) + n) (total-all m fs)
+  total-all m (f ∷ fs) = total-append m (shares t f 0 (f .path)) (allShares t fs) ∙ ap (λ n. total m (shares t f 0 (f .path)) + n) (total-all m fs)
 
-  largest-all : (m : Entry → ℕ) (fs : List Flow) → largest m (allEntries t fs) ≡ largest (λ f. largest m (entries t f 0 (f .path))) fs
-  unfolding largest allEntries
+  largest-all : (m : Share → ℕ) (fs : List Flow) → largest m (allShares t fs) ≡ largest (λ f. largest m (shares t f 0 (f .path))) fs
+  unfolding largest allShares
   largest-all m [] = refl
   largest-all m (f ∷ fs) =
-      largest-append m (entries t f 0 (f .path)) (allEntries t fs) ∙ ap (λ n. max (largest m (entries t f 0 (f .path))) n) (largest-all m fs)
+      largest-append m (shares t f 0 (f .path)) (allShares t fs) ∙ ap (λ n. max (largest m (shares t f 0 (f .path))) n) (largest-all m fs)
 
   pub aggregate-part : {part fs : List Flow} → Part part fs → (q : Hop) → AtMost (aggregateAt t part q) (aggregateAt t fs q)
   unfolding aggregateAt
   aggregate-part {part} {fs} p q = record { rate = sum (λ a. a .rate); burst = sum (λ a. a .burst); frame = most (λ a. a .frame) }
     where
-      sum : (m : Aggregate → ℕ) → total (addsAt q m) (allEntries t part) ≤ total (addsAt q m) (allEntries t fs)
+      sum : (m : Aggregate → ℕ) → total (addsAt q m) (allShares t part) ≤ total (addsAt q m) (allShares t fs)
       sum m = rw (total-all (addsAt q m) part, total-all (addsAt q m) fs) (total-part _ p)
 
-      most : (m : Aggregate → ℕ) → largest (addsAt q m) (allEntries t part) ≤ largest (addsAt q m) (allEntries t fs)
+      most : (m : Aggregate → ℕ) → largest (addsAt q m) (allShares t part) ≤ largest (addsAt q m) (allShares t fs)
       most m = rw (largest-all (addsAt q m) part, largest-all (addsAt q m) fs) (largest-part _ p)
 
   -- What holds of the aggregates at each queue of a link holds level by level.
@@ -62,15 +62,15 @@ module _ (t : Table) where
   level-pairs fs fs′ link h n (q ∷ qs) = pair (h n) (level-pairs fs fs′ link h (suc n) qs)
 
   module _ (f : Flow) (link p : ℕ) (m : Aggregate → ℕ) where
-    -- An entry at another link.
+    -- A share at another link.
     off-hop : (h : Hop) (a : Aggregate) → eqb (h .link) link ≡ false
         → addsAt (record { link = link; level = p }) m (record { hop = h; adds = a }) ≡ 0
     unfolding addsAt sameHop
     off-hop h a e = rw (ne-eqb link (h .link) (λ q. eqb-false (h .link) link e (sym q)))
 
     pub off-path : (sum : ℕ) (path : List Hop) → crosses link path ≡ false
-        → All (λ e. addsAt (record { link = link; level = p }) m e ≡ 0) (entries t f sum path)
-    unfolding entries crosses
+        → All (λ e. addsAt (record { link = link; level = p }) m e ≡ 0) (shares t f sum path)
+    unfolding shares crosses
     off-path sum [] e = tt
     off-path sum (h ∷ path) e =
         let (here, later) = or-neither (eqb (h .link) link) (crosses link path) e in
@@ -78,24 +78,24 @@ module _ (t : Table) where
 
   pub aggregate-off : (f : Flow) (fs : List Flow) (link p : ℕ) → crosses link (f .path) ≡ false
       → AtMost (aggregateAt t (f ∷ fs) (record { link = link; level = p })) (aggregateAt t fs (record { link = link; level = p }))
-  unfolding aggregateAt allEntries
+  unfolding aggregateAt allShares
   aggregate-off f fs link p off = record { rate = sum (λ a. a .rate); burst = sum (λ a. a .burst); frame = most (λ a. a .frame) }
     where
       q : Hop
       q = record { link = link; level = p }
 
-      sum : (m : Aggregate → ℕ) → total (addsAt q m) (entries t f 0 (f .path) ++ allEntries t fs) ≤ total (addsAt q m) (allEntries t fs)
+      sum : (m : Aggregate → ℕ) → total (addsAt q m) (shares t f 0 (f .path) ++ allShares t fs) ≤ total (addsAt q m) (allShares t fs)
       sum m =
           omega (
             arith,
-            total-append (addsAt q m) (entries t f 0 (f .path)) (allEntries t fs),
-            total-zero (addsAt q m) (entries t f 0 (f .path)) (off-path f link p m 0 (f .path) off),
+            total-append (addsAt q m) (shares t f 0 (f .path)) (allShares t fs),
+            total-zero (addsAt q m) (shares t f 0 (f .path)) (off-path f link p m 0 (f .path) off),
           )
 
-      most : (m : Aggregate → ℕ) → largest (addsAt q m) (entries t f 0 (f .path) ++ allEntries t fs) ≤ largest (addsAt q m) (allEntries t fs)
+      most : (m : Aggregate → ℕ) → largest (addsAt q m) (shares t f 0 (f .path) ++ allShares t fs) ≤ largest (addsAt q m) (allShares t fs)
       most m =
           omega (
             arith,
-            largest-append (addsAt q m) (entries t f 0 (f .path)) (allEntries t fs),
-            largest-zero (addsAt q m) (entries t f 0 (f .path)) (off-path f link p m 0 (f .path) off),
+            largest-append (addsAt q m) (shares t f 0 (f .path)) (allShares t fs),
+            largest-zero (addsAt q m) (shares t f 0 (f .path)) (off-path f link p m 0 (f .path) off),
           )

@@ -12,7 +12,7 @@ use Rattle.model.specs.Total.{total, largest}
 use Rattle.model.specs.Formula.{Aggregate, backlog, backlogBound}
 use Rattle.model.specs.QueueTable.{Queue, Link, Table}
 use Rattle.model.specs.Orders.{Hop, Flow}
-use Rattle.model.specs.Aggregates.{Entry, nth, linkAt, queueAt, thresholdOf, entries, allEntries, sameHop, addsAt, aggregateAt, levelAggregates}
+use Rattle.model.specs.Aggregates.{Share, nth, linkAt, queueAt, thresholdOf, shares, allShares, sameHop, addsAt, aggregateAt, levelAggregates}
 use Rattle.model.specs.Reference.{State, heldFlows}
 use Rattle.model.specs.Consistent.{tableConsistent}
 use Rattle.model.specs.Admissible.{own}
@@ -46,16 +46,16 @@ speed-below t ok n k e = speed-range t ok n k e .1
 
 module _ (t : Table) where
   -- What holds of each flow's largest frame holds of each entry's.
-  path-frames : (P : ℕ → Type 0) (f : Flow) → P (f .frame) → (sum : ℕ) (path : List Hop) → All (λ e. P (e .adds .frame)) (entries t f sum path)
-  unfolding entries
+  path-frames : (P : ℕ → Type 0) (f : Flow) → P (f .frame) → (sum : ℕ) (path : List Hop) → All (λ e. P (e .adds .frame)) (shares t f sum path)
+  unfolding shares
   path-frames P f p sum [] = tt
   path-frames P f p sum (h ∷ path) = (p, path-frames P f p (sum + thresholdOf (queueAt t h)) path)
 
-  entry-frames : (P : ℕ → Type 0) (fs : List Flow) → All (λ f. P (f .frame)) fs → All (λ e. P (e .adds .frame)) (allEntries t fs)
-  unfolding allEntries
+  entry-frames : (P : ℕ → Type 0) (fs : List Flow) → All (λ f. P (f .frame)) fs → All (λ e. P (e .adds .frame)) (allShares t fs)
+  unfolding allShares
   entry-frames P [] a = tt
   entry-frames P (f ∷ fs) a =
-      all-append (λ e. P (e .adds .frame)) (entries t f 0 (f .path)) (allEntries t fs) (path-frames P f (a .0) 0 (f .path)) (entry-frames P fs (a .1))
+      all-append (λ e. P (e .adds .frame)) (shares t f 0 (f .path)) (allShares t fs) (path-frames P f (a .0) 0 (f .path)) (entry-frames P fs (a .1))
 
   -- A level's aggregate is counted in the sum over the link.
   level-within : (fs : List Flow) (m : Aggregate → ℕ) (link n : ℕ) (qs : List Queue) (i p : ℕ) {q : Queue} → p ≡ n + i → getElem? qs i ≡ some q
@@ -74,7 +74,7 @@ module _ (t : Table) where
   level-below fs m link qs (suc i) g = level-within fs m link 1 qs i (suc i) (omega arith) g
 
 -- Entries with frames that aren't 0, and no frame at the queue: none of them is there.
-no-frame : (q : Hop) (m : Aggregate → ℕ) (es : List Entry) → All (λ e. 1 ≤ e .adds .frame) es → largest (addsAt q (λ a. a .frame)) es ≡ 0
+no-frame : (q : Hop) (m : Aggregate → ℕ) (es : List Share) → All (λ e. 1 ≤ e .adds .frame) es → largest (addsAt q (λ a. a .frame)) es ≡ 0
     → total (addsAt q m) es ≡ 0
 unfolding total largest addsAt
 no-frame q m [] a z = refl
@@ -88,7 +88,7 @@ module _ (s : State) (r : StateRules s) (h : Hop) where
   abbrev figures : Aggregate
   figures = aggregateAt (s .table) (heldFlows (s .slots)) h
 
-  frames : All (λ e. (84 ≤ e .adds .frame) × (e .adds .frame ≤ 1542)) (allEntries (s .table) (heldFlows (s .slots)))
+  frames : All (λ e. (84 ≤ e .adds .frame) × (e .adds .frame ≤ 1542)) (allShares (s .table) (heldFlows (s .slots)))
   frames =
       entry-frames (s .table) (λ n. (84 ≤ n) × (n ≤ 1542)) (heldFlows (s .slots))
       (all-imp (heldFlows (s .slots)) (λ f m. frame-range f (m .range)) (r .flows .flows))
@@ -96,17 +96,17 @@ module _ (s : State) (r : StateRules s) (h : Hop) where
   frame-small : figures .frame ≤ 1542
   unfolding aggregateAt addsAt
   frame-small =
-      largest-le (addsAt h (λ a. a .frame)) 1542 (allEntries (s .table) (heldFlows (s .slots)))
-      (all-imp (allEntries (s .table) (heldFlows (s .slots))) (λ e m. le-trans (cond-le (sameHop h (e .hop)) (e .adds .frame)) (m .1)) frames)
+      largest-le (addsAt h (λ a. a .frame)) 1542 (allShares (s .table) (heldFlows (s .slots)))
+      (all-imp (allShares (s .table) (heldFlows (s .slots))) (λ e m. le-trans (cond-le (sameHop h (e .hop)) (e .adds .frame)) (m .1)) frames)
 
   none-there : figures .frame ≡ 0 → (figures .rate ≡ 0) × (figures .burst ≡ 0)
   unfolding aggregateAt
   none-there z = (zero-there (λ a. a .rate), zero-there (λ a. a .burst))
     where
-      zero-there : (m : Aggregate → ℕ) → total (addsAt h m) (allEntries (s .table) (heldFlows (s .slots))) ≡ 0
+      zero-there : (m : Aggregate → ℕ) → total (addsAt h m) (allShares (s .table) (heldFlows (s .slots))) ≡ 0
       zero-there m =
-          no-frame h m (allEntries (s .table) (heldFlows (s .slots)))
-          (all-imp (allEntries (s .table) (heldFlows (s .slots))) (λ e m. omega (arith, m .0)) frames)
+          no-frame h m (allShares (s .table) (heldFlows (s .slots)))
+          (all-imp (allShares (s .table) (heldFlows (s .slots))) (λ e m. omega (arith, m .0)) frames)
           z
 
   some-there : 1 ≤ figures .frame → (figures .rate ≤ 10000000) × (figures .burst ≤ 16777215)

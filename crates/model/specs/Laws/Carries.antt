@@ -11,7 +11,7 @@ use Rattle.model.specs.Laws.Total.{largest-append}
 use Rattle.model.specs.Formula.{Aggregate}
 use Rattle.model.specs.QueueTable.{Table}
 use Rattle.model.specs.Orders.{Hop, Flow}
-use Rattle.model.specs.Aggregates.{Entry, thresholdOf, queueAt, entries, allEntries, sameHop, addsAt, aggregateAt}
+use Rattle.model.specs.Aggregates.{Share, thresholdOf, queueAt, shares, allShares, sameHop, addsAt, aggregateAt}
 use Rattle.model.specs.Schedulable.{All}
 use Rattle.model.specs.Laws.All.{all-member}
 use Rattle.model.specs.Laws.Aggregates.{same-hop, hop-same}
@@ -22,7 +22,7 @@ one-positive zero b h = inr (omega arith)
 one-positive (suc a) b h = inl (omega arith)
 
 module _ (t : Table) (q : Hop) where
-  abbrev frameAt : Entry → ℕ
+  abbrev frameAt : Share → ℕ
   frameAt = addsAt q (λ a. a .frame)
 
   -- A hop that adds something is at the queue.
@@ -34,8 +34,8 @@ module _ (t : Table) (q : Hop) where
       go true e p = same-hop q h e
       go false e p = absurd (not-suc-le-zero p)
 
-  on-path : (f : Flow) (sum : ℕ) (path : List Hop) → 1 ≤ largest frameAt (entries t f sum path) → List·Memᴰ q path
-  unfolding largest entries
+  on-path : (f : Flow) (sum : ℕ) (path : List Hop) → 1 ≤ largest frameAt (shares t f sum path) → List·Memᴰ q path
+  unfolding largest shares
   on-path f sum [] p = absurd (not-suc-le-zero p)
   on-path f sum (h ∷ path) p =
       ⊎-elim
@@ -43,14 +43,14 @@ module _ (t : Table) (q : Hop) where
       (λ b. List·Memᴰ·tail (on-path f (sum + thresholdOf (queueAt t h)) path b))
       (one-positive _ _ p)
 
-  some-flow : (fs : List Flow) → 1 ≤ largest frameAt (allEntries t fs) → Carries fs q
-  unfolding largest allEntries
+  some-flow : (fs : List Flow) → 1 ≤ largest frameAt (allShares t fs) → Carries fs q
+  unfolding largest allShares
   some-flow [] p = absurd (not-suc-le-zero p)
   some-flow (f ∷ fs) p =
       ⊎-elim
       (λ a. record { flow = f; among = List·Memᴰ·head refl; hop = on-path f 0 (f .path) a })
       (λ b. let c = some-flow fs b in record { flow = c .flow; among = List·Memᴰ·tail (c .among); hop = c .hop })
-      (one-positive _ _ (subst (λ n. 1 ≤ n) (largest-append frameAt (entries t f 0 (f .path)) (allEntries t fs)) p))
+      (one-positive _ _ (subst (λ n. 1 ≤ n) (largest-append frameAt (shares t f 0 (f .path)) (allShares t fs)) p))
 
   pub frame-carries : (fs : List Flow) → 1 ≤ aggregateAt t fs q .frame → Carries fs q
   unfolding aggregateAt
@@ -61,21 +61,21 @@ module _ (t : Table) (q : Hop) where
   unfolding addsAt
   there h a e = rw (hop-same q h e)
 
-  path-frame : (f : Flow) (sum : ℕ) {path : List Hop} → List·Memᴰ q path → f .frame ≤ largest frameAt (entries t f sum path)
-  unfolding largest entries
+  path-frame : (f : Flow) (sum : ℕ) {path : List Hop} → List·Memᴰ q path → f .frame ≤ largest frameAt (shares t f sum path)
+  unfolding largest shares
   path-frame f sum (List·Memᴰ·head {x = h} e) = le-trans (le-of-eq (sym (there h _ e))) (le-max-left _ _)
   path-frame f sum (List·Memᴰ·tail {x = h} m) = omega (arith, path-frame f (sum + thresholdOf (queueAt t h)) m)
 
-  pub flow-frame : (f : Flow) {fs : List Flow} → List·Memᴰ f fs → List·Memᴰ q (f .path) → f .frame ≤ largest frameAt (allEntries t fs)
-  unfolding largest allEntries
+  pub flow-frame : (f : Flow) {fs : List Flow} → List·Memᴰ f fs → List·Memᴰ q (f .path) → f .frame ≤ largest frameAt (allShares t fs)
+  unfolding largest allShares
   flow-frame f (List·Memᴰ·head {x = g} {xs = fs} e) m =
       omega (
         arith,
-        subst (λ (g : Flow). f .frame ≤ largest frameAt (entries t g 0 (g .path))) e (path-frame f 0 m),
-        largest-append frameAt (entries t g 0 (g .path)) (allEntries t fs),
+        subst (λ (g : Flow). f .frame ≤ largest frameAt (shares t g 0 (g .path))) e (path-frame f 0 m),
+        largest-append frameAt (shares t g 0 (g .path)) (allShares t fs),
       )
   flow-frame f (List·Memᴰ·tail {x = g} {xs = fs} k) m =
-      omega (arith, flow-frame f k m, largest-append frameAt (entries t g 0 (g .path)) (allEntries t fs))
+      omega (arith, flow-frame f k m, largest-append frameAt (shares t g 0 (g .path)) (allShares t fs))
 
   pub carries-frame : (fs : List Flow) → All (λ f. 1 ≤ f .frame) fs → Carries fs q → 1 ≤ aggregateAt t fs q .frame
   unfolding aggregateAt

@@ -1,5 +1,5 @@
 -- The figures with a flow more: at each queue, what the flow adds there and what the others have. On a link that its path crosses once that is one level.
--- The path is split at the hop; the entries before and after it add nothing at that link. Assumes nothing.
+-- The path is split at the hop; the shares before and after it add nothing at that link. Assumes nothing.
 use Prim.Native.Nat.{ℕ, zero, suc, _+_, _≤_, _<_, max}
 use mathlib.Core.Path.{_≡_, refl, sym, ap, ap₂, _∙_}
 use mathlib.Core.Bool.{Bool, true, false, cond}
@@ -18,15 +18,15 @@ use Rattle.model.specs.Laws.LinkSteps.{Empty}
 use Rattle.model.specs.Formula.{Aggregate, burstAtHop}
 use Rattle.model.specs.QueueTable.{Queue, Table}
 use Rattle.model.specs.Orders.{Hop, Flow}
-use Rattle.model.specs.Aggregates.{Entry, thresholdOf, queueAt, entries, allEntries, sameHop, addsAt, aggregateAt, levelAggregates}
+use Rattle.model.specs.Aggregates.{Share, thresholdOf, queueAt, shares, allShares, sameHop, addsAt, aggregateAt, levelAggregates}
 use Rattle.model.specs.Schedulable.{All, Named}
 use Rattle.model.specs.WithFlow.{noFlow, withFlow, together}
 use Rattle.model.specs.Laws.All.{append-all, all-imp}
 use Rattle.model.specs.Reference.{Cause, crosses, thresholdSum, atHop, metEarlier}
 
--- What a list of entries adds at a queue.
-unfoldable pub entriesAt : Hop → List Entry → Aggregate
-entriesAt q es =
+-- What a list of shares adds at a queue.
+unfoldable pub sharesAt : Hop → List Share → Aggregate
+sharesAt q es =
     record {
       rate = total (addsAt q (λ a. a .rate)) es;
       burst = total (addsAt q (λ a. a .burst)) es;
@@ -66,101 +66,101 @@ together-moved a b c = λ i. record { rate = rate i; burst = burst i; frame = fr
     frame = omega arith
 
 module _ (q : Hop) where
-  pub entries-nothing : (a : Aggregate) → together (entriesAt q []) a ≡ a
-  unfolding entriesAt total largest noFlow
-  entries-nothing a = together-none a
+  pub shares-nothing : (a : Aggregate) → together (sharesAt q []) a ≡ a
+  unfolding sharesAt total largest noFlow
+  shares-nothing a = together-none a
 
-  entries-append : (l m : List Entry) → entriesAt q (l ++ m) ≡ together (entriesAt q l) (entriesAt q m)
-  unfolding entriesAt together
-  entries-append l m =
+  shares-append : (l m : List Share) → sharesAt q (l ++ m) ≡ together (sharesAt q l) (sharesAt q m)
+  unfolding sharesAt together
+  shares-append l m =
       λ i. record { rate = total-append (addsAt q (λ a. a .rate)) l m i; burst = total-append (addsAt q (λ a. a .burst)) l m i; frame = largest-append (addsAt q (λ a. a .frame)) l m i }
 
-  -- An entry of another queue.
-  pub entries-other : (x : Entry) (es : List Entry) → sameHop q (x .hop) ≡ false → entriesAt q (x ∷ es) ≡ entriesAt q es
-  unfolding entriesAt total largest addsAt together noFlow
-  entries-other x es e = rw e (together-none (entriesAt q es))
+  -- A share at another queue.
+  pub shares-other : (x : Share) (es : List Share) → sameHop q (x .hop) ≡ false → sharesAt q (x ∷ es) ≡ sharesAt q es
+  unfolding sharesAt total largest addsAt together noFlow
+  shares-other x es e = rw e (together-none (sharesAt q es))
 
-  -- An entry of this queue, counted in there and then taken as done.
-  pub entries-here : (x : Entry) (es : List Entry) (a : Aggregate) → sameHop q (x .hop) ≡ true
-      → together (entriesAt q (x ∷ es)) a ≡ together (entriesAt q es) (withFlow a (x .adds .rate) (x .adds .burst) (x .adds .frame))
-  unfolding entriesAt total largest addsAt together
-  entries-here x es a e = rw e (together-moved (x .adds) (entriesAt q es) a)
+  -- A share at this queue, counted in there and then taken as done.
+  pub shares-here : (x : Share) (es : List Share) (a : Aggregate) → sameHop q (x .hop) ≡ true
+      → together (sharesAt q (x ∷ es)) a ≡ together (sharesAt q es) (withFlow a (x .adds .rate) (x .adds .burst) (x .adds .frame))
+  unfolding sharesAt total largest addsAt together
+  shares-here x es a e = rw e (together-moved (x .adds) (sharesAt q es) a)
 
--- An entry and those after it, of which none has the rate 0, add no rate, so that they add no frame.
+-- A share and those after it, of which none has the rate 0, add no rate, so that they add no frame.
 none-here : (b : Bool) (rate frame : ℕ) {rates frames : ℕ} → 1 ≤ rate → (rates ≡ 0 → frames ≡ 0) → cond b rate 0 + rates ≡ 0 → max (cond b frame 0) frames ≡ 0
 none-here true rate frame one later z = absurd (omega arith)
 none-here false rate frame one later z = omega (arith, later (omega arith))
 
 module _ (t : Table) where
-  pub aggregate-alone : (f : Flow) (q : Hop) → aggregateAt t (f ∷ []) q ≡ entriesAt q (entries t f 0 (f .path))
-  unfolding aggregateAt allEntries entriesAt
-  aggregate-alone f q = ap (entriesAt q) (append-nil (entries t f 0 (f .path)))
+  pub aggregate-alone : (f : Flow) (q : Hop) → aggregateAt t (f ∷ []) q ≡ sharesAt q (shares t f 0 (f .path))
+  unfolding aggregateAt allShares sharesAt
+  aggregate-alone f q = ap (sharesAt q) (append-nil (shares t f 0 (f .path)))
 
-  added : (f : Flow) (fs : List Flow) (q : Hop) → aggregateAt t (f ∷ fs) q ≡ together (entriesAt q (entries t f 0 (f .path))) (aggregateAt t fs q)
-  unfolding aggregateAt allEntries entriesAt
-  added f fs q = entries-append q (entries t f 0 (f .path)) (allEntries t fs)
+  added : (f : Flow) (fs : List Flow) (q : Hop) → aggregateAt t (f ∷ fs) q ≡ together (sharesAt q (shares t f 0 (f .path))) (aggregateAt t fs q)
+  unfolding aggregateAt allShares sharesAt
+  added f fs q = shares-append q (shares t f 0 (f .path)) (allShares t fs)
 
   -- The new flow's own aggregate and that of the others.
   pub aggregate-more : (f : Flow) (fs : List Flow) (q : Hop) → aggregateAt t (f ∷ fs) q ≡ together (aggregateAt t (f ∷ []) q) (aggregateAt t fs q)
   aggregate-more f fs q = added f fs q ∙ ap (λ (a : Aggregate). together a (aggregateAt t fs q)) (sym (aggregate-alone f q))
 
   -- The hops of a flow whose rate isn't 0 are at other queues, where they add no rate.
-  pub entries-carried : (f : Flow) → 1 ≤ f .rate → (q : Hop) (sum : ℕ) (path : List Hop)
-      → entriesAt q (entries t f sum path) .rate ≡ 0 → entriesAt q (entries t f sum path) .frame ≡ 0
-  unfolding entries entriesAt total largest addsAt
-  entries-carried f one q sum [] z = refl
-  entries-carried f one q sum (h ∷ path) z =
-      none-here (sameHop q h) (f .rate) (f .frame) one (entries-carried f one q (sum + thresholdOf (queueAt t h)) path) z
+  pub shares-carried : (f : Flow) → 1 ≤ f .rate → (q : Hop) (sum : ℕ) (path : List Hop)
+      → sharesAt q (shares t f sum path) .rate ≡ 0 → sharesAt q (shares t f sum path) .frame ≡ 0
+  unfolding shares sharesAt total largest addsAt
+  shares-carried f one q sum [] z = refl
+  shares-carried f one q sum (h ∷ path) z =
+      none-here (sameHop q h) (f .rate) (f .frame) one (shares-carried f one q (sum + thresholdOf (queueAt t h)) path) z
 
   -- A queue whose rate sum is 0 has no largest frame, since no flow has the rate 0.
   pub carried : (fs : List Flow) → All (λ f. 1 ≤ f .rate) fs → (q : Hop) → aggregateAt t fs q .rate ≡ 0 → aggregateAt t fs q .frame ≡ 0
-  unfolding aggregateAt allEntries total largest together
+  unfolding aggregateAt allShares total largest together
   carried [] a q z = refl
   carried (f ∷ fs) a q z =
       let rates = ap (λ (a : Aggregate). a .rate) (added f fs q) in
       let frames = ap (λ (a : Aggregate). a .frame) (added f fs q) in
-      omega (arith, frames, entries-carried f (a .0) q 0 (f .path) (omega (arith, rates)), carried fs (a .1) q (omega (arith, rates)))
+      omega (arith, frames, shares-carried f (a .0) q 0 (f .path) (omega (arith, rates)), carried fs (a .1) q (omega (arith, rates)))
 
-  entries-off : (f : Flow) (sum : ℕ) (q : Hop) (path : List Hop) → crosses (q .link) path ≡ false → entriesAt q (entries t f sum path) ≡ noFlow
-  unfolding entriesAt noFlow
-  entries-off f sum q path off =
+  shares-off : (f : Flow) (sum : ℕ) (q : Hop) (path : List Hop) → crosses (q .link) path ≡ false → sharesAt q (shares t f sum path) ≡ noFlow
+  unfolding sharesAt noFlow
+  shares-off f sum q path off =
       λ i. record {
-        rate = total-zero (addsAt q (λ a. a .rate)) (entries t f sum path) (off-path t f (q .link) (q .level) (λ a. a .rate) sum path off) i;
-        burst = total-zero (addsAt q (λ a. a .burst)) (entries t f sum path) (off-path t f (q .link) (q .level) (λ a. a .burst) sum path off) i;
-        frame = largest-zero (addsAt q (λ a. a .frame)) (entries t f sum path) (off-path t f (q .link) (q .level) (λ a. a .frame) sum path off) i;
+        rate = total-zero (addsAt q (λ a. a .rate)) (shares t f sum path) (off-path t f (q .link) (q .level) (λ a. a .rate) sum path off) i;
+        burst = total-zero (addsAt q (λ a. a .burst)) (shares t f sum path) (off-path t f (q .link) (q .level) (λ a. a .burst) sum path off) i;
+        frame = largest-zero (addsAt q (λ a. a .frame)) (shares t f sum path) (off-path t f (q .link) (q .level) (λ a. a .frame) sum path off) i;
       }
 
-  entries-split : (f : Flow) (sum : ℕ) (before after : List Hop)
-      → entries t f sum (before ++ after) ≡ entries t f sum before ++ entries t f (sum + thresholdSum t before) after
-  unfolding entries thresholdSum total
-  entries-split f sum [] after = rw (add-zero sum)
-  entries-split f sum (h ∷ before) after =
+  shares-split : (f : Flow) (sum : ℕ) (before after : List Hop)
+      → shares t f sum (before ++ after) ≡ shares t f sum before ++ shares t f (sum + thresholdSum t before) after
+  unfolding shares thresholdSum total
+  shares-split f sum [] after = rw (add-zero sum)
+  shares-split f sum (h ∷ before) after =
       let d : ℕ = thresholdOf (queueAt t h) in
       let e : sum + d + thresholdSum t before ≡ sum + (d + thresholdSum t before) = omega arith in
-      ap₂ (λ (x : Entry) (l : List Entry). x ∷ l) refl
-      (entries-split f (sum + d) before after ∙ ap (λ (n : ℕ). entries t f (sum + d) before ++ entries t f n after) e)
+      ap₂ (λ (x : Share) (l : List Share). x ∷ l) refl
+      (shares-split f (sum + d) before after ∙ ap (λ (n : ℕ). shares t f (sum + d) before ++ shares t f n after) e)
 
   module _ (f : Flow) (fs : List Flow) {before after : List Hop} {h : Hop} (c : Crossed (f .path) before h after) where
     sum : ℕ
     sum = thresholdSum t before
 
-    entry : Entry
-    entry = record { hop = h; adds = record { rate = f .rate; burst = burstAtHop (f .rate) (f .burst) sum; frame = f .frame } }
+    share : Share
+    share = record { hop = h; adds = record { rate = f .rate; burst = burstAtHop (f .rate) (f .burst) sum; frame = f .frame } }
 
-    after-entries : List Entry
-    after-entries = entries t f (sum + thresholdOf (queueAt t h)) after
+    after-shares : List Share
+    after-shares = shares t f (sum + thresholdOf (queueAt t h)) after
 
     only : (p : ℕ) → let q : Hop = record { link = h .link; level = p } in
-        aggregateAt t (f ∷ fs) q ≡ together (entriesAt q (entry ∷ after-entries)) (aggregateAt t fs q)
-    unfolding entries sum entry after-entries
+        aggregateAt t (f ∷ fs) q ≡ together (sharesAt q (share ∷ after-shares)) (aggregateAt t fs q)
+    unfolding shares sum share after-shares
     only p =
         let q : Hop = record { link = h .link; level = p } in
-        let front : entriesAt q (entries t f 0 (f .path)) ≡ entriesAt q (entry ∷ after-entries)
-        = ap (λ (l : List Hop). entriesAt q (entries t f 0 l)) (c .split)
-        ∙ ap (entriesAt q) (entries-split f 0 before (h ∷ after))
-        ∙ entries-append q (entries t f 0 before) (entries t f (0 + thresholdSum t before) (h ∷ after))
-        ∙ ap (λ (a : Aggregate). together a (entriesAt q (entries t f (0 + thresholdSum t before) (h ∷ after)))) (entries-off f 0 q before (c .before-off))
-        ∙ together-none (entriesAt q (entries t f (0 + thresholdSum t before) (h ∷ after)))
+        let front : sharesAt q (shares t f 0 (f .path)) ≡ sharesAt q (share ∷ after-shares)
+        = ap (λ (l : List Hop). sharesAt q (shares t f 0 l)) (c .split)
+        ∙ ap (sharesAt q) (shares-split f 0 before (h ∷ after))
+        ∙ shares-append q (shares t f 0 before) (shares t f (0 + thresholdSum t before) (h ∷ after))
+        ∙ ap (λ (a : Aggregate). together a (sharesAt q (shares t f (0 + thresholdSum t before) (h ∷ after)))) (shares-off f 0 q before (c .before-off))
+        ∙ together-none (sharesAt q (shares t f (0 + thresholdSum t before) (h ∷ after)))
         ∙ rw (zero-add (thresholdSum t before)) in
         added f fs q ∙ ap (λ (a : Aggregate). together a (aggregateAt t fs q)) front
 
@@ -168,28 +168,28 @@ module _ (t : Table) where
     unfolding sameHop
     other-level p ne = rw (eq-eqb (h .link) (h .link) refl) (ne-eqb p (h .level) ne)
 
-    after-off : (p : ℕ) → entriesAt (record { link = h .link; level = p }) after-entries ≡ noFlow
-    unfolding after-entries
-    after-off p = entries-off f (sum + thresholdOf (queueAt t h)) (record { link = h .link; level = p }) after (c .after-off)
+    after-off : (p : ℕ) → sharesAt (record { link = h .link; level = p }) after-shares ≡ noFlow
+    unfolding after-shares
+    after-off p = shares-off f (sum + thresholdOf (queueAt t h)) (record { link = h .link; level = p }) after (c .after-off)
 
     -- The aggregate at the hop, with the flow's burst there.
     unfoldable pub counted : Aggregate
     counted = withFlow (aggregateAt t fs h) (f .rate) (burstAtHop (f .rate) (f .burst) (thresholdSum t before)) (f .frame)
 
     at-level : aggregateAt t (f ∷ fs) h ≡ counted
-    unfolding counted entry sum
+    unfolding counted share sum
     at-level =
         only (h .level)
-        ∙ entries-here h entry after-entries (aggregateAt t fs h) (hop-same h h refl)
+        ∙ shares-here h share after-shares (aggregateAt t fs h) (hop-same h h refl)
         ∙ ap (λ (a : Aggregate). together a counted) (after-off (h .level))
         ∙ together-none counted
 
     beside : (p : ℕ) → (p ≡ h .level → ⊥) → let q : Hop = record { link = h .link; level = p } in aggregateAt t (f ∷ fs) q ≡ aggregateAt t fs q
-    unfolding entry
+    unfolding share
     beside p ne =
         let q : Hop = record { link = h .link; level = p } in
         only p
-        ∙ ap (λ (a : Aggregate). together a (aggregateAt t fs q)) (entries-other q entry after-entries (other-level p ne) ∙ after-off p)
+        ∙ ap (λ (a : Aggregate). together a (aggregateAt t fs q)) (shares-other q share after-shares (other-level p ne) ∙ after-off p)
         ∙ together-none (aggregateAt t fs q)
 
     levels-past : (n : ℕ) (qs : List Queue) → h .level < n → levelAggregates t (f ∷ fs) (h .link) n qs ≡ levelAggregates t fs (h .link) n qs
@@ -231,8 +231,8 @@ module _ (t : Table) where
   levels-empty fs link n (q ∷ qs) z = (z n (omega arith), levels-empty fs link (suc n) qs (λ p le. z p (omega arith)))
 
   -- Flows that add nothing at a queue.
-  aggregate-none : (q : Hop) (fs : List Flow) → All (λ f. entriesAt q (entries t f 0 (f .path)) ≡ noFlow) fs → aggregateAt t fs q ≡ noFlow
-  unfolding aggregateAt allEntries total largest noFlow
+  aggregate-none : (q : Hop) (fs : List Flow) → All (λ f. sharesAt q (shares t f 0 (f .path)) ≡ noFlow) fs → aggregateAt t fs q ≡ noFlow
+  unfolding aggregateAt allShares total largest noFlow
   aggregate-none q [] a = refl
   aggregate-none q (f ∷ fs) a =
       added f fs q
@@ -242,7 +242,7 @@ module _ (t : Table) where
 
   -- No path crosses the link of the queue.
   pub aggregate-uncrossed : (q : Hop) (fs : List Flow) → All (λ f. crosses (q .link) (f .path) ≡ false) fs → aggregateAt t fs q ≡ noFlow
-  aggregate-uncrossed q fs a = aggregate-none q fs (all-imp fs (λ f off. entries-off f 0 q (f .path) off) a)
+  aggregate-uncrossed q fs a = aggregate-none q fs (all-imp fs (λ f off. shares-off f 0 q (f .path) off) a)
 
   -- No flow has a hop where the table has no queue.
   module _ (q : Hop) (missing : queueAt t q ≡ none) where
@@ -253,15 +253,15 @@ module _ (t : Table) where
         go false e = e
         go true e = absurd (Option·none-ne-some _ (sym missing ∙ ap (queueAt t) (same-hop q h e) ∙ n .found))
 
-    entries-unnamed : (f : Flow) (sum : ℕ) (path : List Hop) → All (Named t) path → entriesAt q (entries t f sum path) ≡ noFlow
-    unfolding entries entriesAt total largest noFlow
-    entries-unnamed f sum [] a = refl
-    entries-unnamed f sum (h ∷ path) a =
-        entries-other q _ (entries t f (sum + thresholdOf (queueAt t h)) path) (unnamed h (a .0))
-        ∙ entries-unnamed f (sum + thresholdOf (queueAt t h)) path (a .1)
+    shares-unnamed : (f : Flow) (sum : ℕ) (path : List Hop) → All (Named t) path → sharesAt q (shares t f sum path) ≡ noFlow
+    unfolding shares sharesAt total largest noFlow
+    shares-unnamed f sum [] a = refl
+    shares-unnamed f sum (h ∷ path) a =
+        shares-other q _ (shares t f (sum + thresholdOf (queueAt t h)) path) (unnamed h (a .0))
+        ∙ shares-unnamed f (sum + thresholdOf (queueAt t h)) path (a .1)
 
     pub aggregate-unnamed : (fs : List Flow) → All (λ f. All (Named t) (f .path)) fs → aggregateAt t fs q ≡ noFlow
-    aggregate-unnamed fs a = aggregate-none q fs (all-imp fs (λ f n. entries-unnamed f 0 (f .path) n) a)
+    aggregate-unnamed fs a = aggregate-none q fs (all-imp fs (λ f n. shares-unnamed f 0 (f .path) n) a)
 
 -- No hop of the path is on a link met earlier (16).
 module _ (code : ℕ) where

@@ -1,7 +1,7 @@
 -- A search along a path, and a sum along it: one hop on, at a hop that the search finds, and past the last hop.
 -- By taking hop i out of the path. Assumes nothing.
-use Prim.Native.Nat.{ℕ, suc, _+_, _≤_, _<_}
-use mathlib.Core.Path.{_≡_, refl, sym, ap, _∙_}
+use Prim.Native.Nat.{ℕ, _+_, _≤_, _<_}
+use mathlib.Core.Path.{_≡_, sym, ap, _∙_}
 use mathlib.Core.Bool.{Bool, true, false}
 use mathlib.Core.List.{List, [], _∷_, reverse, reverse-append}
 use mathlib.Core.Option.{Option, none, some}

@@ -1,11 +1,11 @@
--- Laws of sums and largest values over any element type and measure: of lists joined, mapped, in another order or with an element replaced,
+-- Laws of sums and largest values over any element type and measure: of lists joined, mapped or in another order,
 -- of a part, of one element, of lists or measures compared element by element. Each is an induction. Assumes nothing.
-use Prim.Native.Nat.{ℕ, zero, suc, _+_, _*_, _≤_, _<_, max, zero-le}
+use Prim.Native.Nat.{ℕ, zero, suc, _+_, _*_, _≤_, max, zero-le}
 use mathlib.Core.Path.{_≡_, refl, sym, ap, fun-ext, _∙_}
 use mathlib.Core.Bool.{Bool, true, false, cond}
 use mathlib.Core.List.{List, [], _∷_, _++_, map, reverse, reverseAux, List·Permᴰ, List·Permᴰ·nil, List·Permᴰ·cons, List·Permᴰ·swap, List·Permᴰ·trans}
 use native.Mathlib.Nat.{le-trans, zero-add}
-use lib.ListN.{length, getD, set, drop}
+use lib.ListN.{length, drop}
 use lib.Seq.{drop-nil}
 use native.Mathlib.Omega.{arith}
 use Rattle.model.specs.Total.{total, largest}
@@ -140,25 +140,6 @@ module _ {A : Type 0} where
   unfolding largest
   largest-le f k [] a = zero-le
   largest-le f k (x ∷ l) a = omega (arith, a .0, largest-le f k l (a .1))
-
-  -- One element, by its index.
-  pub total-getD : (f : A → ℕ) (l : List A) (i : ℕ) (d : A) → i < length l → f (getD l i d) ≤ total f l
-  unfolding total
-  total-getD f [] i d h = absurd (omega arith)
-  total-getD f (x ∷ l) zero d h = omega arith
-  total-getD f (x ∷ l) (suc i) d h = omega (arith, total-getD f l i d (omega arith))
-
-  pub getD-largest : (f : A → ℕ) (l : List A) (i : ℕ) (d : A) → i < length l → f (getD l i d) ≤ largest f l
-  unfolding largest
-  getD-largest f [] i d h = absurd (omega arith)
-  getD-largest f (x ∷ l) zero d h = omega arith
-  getD-largest f (x ∷ l) (suc i) d h = omega (arith, getD-largest f l i d (omega arith))
-
-  pub total-set : (f : A → ℕ) (l : List A) (i : ℕ) (x d : A) → i < length l → total f (set l i x) + f (getD l i d) ≡ total f l + f x
-  unfolding total
-  total-set f [] i x d h = absurd (omega arith)
-  total-set f (y ∷ l) zero x d h = omega arith
-  total-set f (y ∷ l) (suc i) x d h = omega (arith, total-set f l i x d (omega arith))
 
   module _ (R : A → A → Type 0) (f : A → ℕ) (mono : (x y : A) → R x y → f x ≤ f y) where
     pub total-mono : {l m : List A} → Pairs R l m → total f l ≤ total f m

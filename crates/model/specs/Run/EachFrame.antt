@@ -1,5 +1,5 @@
 -- One link: a property of each frame and its level, and the order of each level, are kept by an interval and by the arrivals of an instant.
--- A slot moves the head of a level to the wire and from there to those that have left. Assumes nothing.
+-- A bit slot moves the head of a level to the wire and from there to those that have left. Assumes nothing.
 use Prim.Native.Nat.{ℕ, zero, suc, _≤_}
 use mathlib.Core.Path.{_≡_}
 use mathlib.Core.List.{List, [], _∷_, _++_}

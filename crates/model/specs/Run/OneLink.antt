@@ -9,7 +9,7 @@ use lib.ListN.{length}
 use Rattle.model.specs.Total.{total}
 use Rattle.model.specs.QueueTable.{Queue, Link}
 use Rattle.model.specs.Schedulable.{All}
-use Rattle.model.specs.Run.{Frame, Wire, idle, sending, LinkState, Pick, pastEmpty, pick, start, take, send, slot, interval, append, enter, emptyLevels, emptyLink, window}
+use Rattle.model.specs.Run.{Frame, Wire, idle, sending, LinkState, Pick, pastEmpty, pick, start, take, send, bitSlot, interval, append, enter, emptyLevels, emptyLink, window}
 use Rattle.model.specs.Laws.All.{member-all}
 use Rattle.model.specs.Laws.Total.{total-append, total-zero, total-each}
 use Rattle.model.specs.Run.Windows.{window-front}
@@ -56,7 +56,7 @@ link w qs d = record { wire = w; levels = qs; left = d }
 -- What taking a frame and sending a bit keep, an interval keeps.
 pub interval-keeps : (K : LinkState → Type 0) → ((l : LinkState) → K l → K (take l)) → ((l : LinkState) → K l → K (send l)) →
     (n : ℕ) (l : LinkState) → K l → K (interval n l)
-unfolding interval slot
+unfolding interval bitSlot
 interval-keeps K t s zero l h = h
 interval-keeps K t s (suc n) l h = s (take (interval n l)) (t (interval n l) (interval-keeps K t s n l h))
 
@@ -91,8 +91,8 @@ module _ (m : ℕ → Frame → ℕ) where
   send-held (sending n f zero) qs d = omega arith
   send-held (sending n f (suc more)) qs d = omega arith
 
-  pub slot-held : (l : LinkState) → held m (slot l) ≤ held m l
-  unfolding slot
+  pub slot-held : (l : LinkState) → held m (bitSlot l) ≤ held m l
+  unfolding bitSlot
   slot-held l =
       let k = take l in
       omega (arith, take-held (l .wire) (l .levels) (l .left), send-held (k .wire) (k .levels) (k .left))

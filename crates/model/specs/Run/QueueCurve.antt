@@ -12,7 +12,7 @@ use Rattle.model.specs.Total.{total}
 use Rattle.model.specs.Formula.{Aggregate, burstAtHop}
 use Rattle.model.specs.QueueTable.{Table}
 use Rattle.model.specs.Orders.{Hop, Flow}
-use Rattle.model.specs.Aggregates.{queueAt, thresholdOf, Entry, entries, allEntries, sameHop, addsAt, aggregateAt}
+use Rattle.model.specs.Aggregates.{queueAt, thresholdOf, Share, shares, allShares, sameHop, addsAt, aggregateAt}
 use Rattle.model.specs.Schedulable.{Schedulable}
 use Rattle.model.specs.Run.{Frame, Run, Conforming, hopOf, isAt}
 use Rattle.model.specs.Laws.Total.{total-append, total-add, total-zeros, total-cond, total-each, total-perm}
@@ -69,7 +69,7 @@ module _ (q : Hop) where
 
 module _ (t : Table) (fs : List Flow) (sch : Schedulable t fs) (r : Run t fs) (conforming : Conforming fs (r .sent))
     (h : ℕ) (ok : (m : ℕ) → m < h → NotLate t fs r m) (q : Hop) where
-  abbrev sum : (Aggregate → ℕ) → List Entry → ℕ
+  abbrev sum : (Aggregate → ℕ) → List Share → ℕ
   sum measure es = total (addsAt q measure) es
 
   -- The curve of flow `j` at its hop `i`, before which the thresholds sum to `s`.
@@ -81,12 +81,12 @@ module _ (t : Table) (fs : List Flow) (sch : Schedulable t fs) (r : Run t fs) (c
       subst (λ z. HopCurve fl z i′ s′) a (subst (λ z. HopCurve fl j z s′) b (subst (λ z. HopCurve fl j i z) d c))
 
   hops-curve : (j i s : ℕ) (fl : Flow) (path : List Hop) → ((k : ℕ) → HopCurve fl j (i + k) (s + upstream t path k)) →
-      Curve h (sum (λ a. a .burst) (entries t fl s path)) (sum (λ a. a .rate) (entries t fl s path)) (λ x. total (hopsShare q j i path) (moved r x))
-  unfolding hopsShare entries total addsAt reached upstream
+      Curve h (sum (λ a. a .burst) (shares t fl s path)) (sum (λ a. a .rate) (shares t fl s path)) (λ x. total (hopsShare q j i path) (moved r x))
+  unfolding hopsShare shares total addsAt reached upstream
   hops-curve j i s fl [] c = curve-zero h 0 0 (λ x. total (λ f. 0) (moved r x)) (λ x. total-zeros (moved r x))
   hops-curve j i s fl (g ∷ path) c =
-      curve-le h (head (burstAtHop (fl .rate) (fl .burst) s) + sum (λ a. a .burst) (entries t fl next path))
-      (head (fl .rate) + sum (λ a. a .rate) (entries t fl next path))
+      curve-le h (head (burstAtHop (fl .rate) (fl .burst) s) + sum (λ a. a .burst) (shares t fl next path))
+      (head (fl .rate) + sum (λ a. a .rate) (shares t fl next path))
       (λ x. total (hopsShare q j i (g ∷ path)) (moved r x))
       (λ x. head (reached t fs r (atHop anyBirth j i) x) + total (hopsShare q j (suc i) path) (moved r x))
       (λ x u.
@@ -96,8 +96,8 @@ module _ (t : Table) (fs : List Flow) (sch : Schedulable t fs) (r : Run t fs) (c
         total-cond (sameHop q g) (atHop anyBirth j i) (moved r x),
       ))
       (curve-add h (head (burstAtHop (fl .rate) (fl .burst) s)) (head (fl .rate))
-      (sum (λ a. a .burst) (entries t fl next path))
-      (sum (λ a. a .rate) (entries t fl next path))
+      (sum (λ a. a .burst) (shares t fl next path))
+      (sum (λ a. a .rate) (shares t fl next path))
       (λ x. head (reached t fs r (atHop anyBirth j i) x))
       (λ x. total (hopsShare q j (suc i) path) (moved r x))
       (curve-cond h (sameHop q g) (burstAtHop (fl .rate) (fl .burst) s) (fl .rate) (reached t fs r (atHop anyBirth j i))
@@ -112,8 +112,8 @@ module _ (t : Table) (fs : List Flow) (sch : Schedulable t fs) (r : Run t fs) (c
       head v = cond (sameHop q g) v 0
 
   flows-curve : (j : ℕ) (gs : List Flow) → ((k : ℕ) (fl : Flow) → getElem? gs k ≡ some fl → (i : ℕ) → HopCurve fl (j + k) i (upstream t (fl .path) i)) →
-      Curve h (sum (λ a. a .burst) (allEntries t gs)) (sum (λ a. a .rate) (allEntries t gs)) (λ x. total (flowsShare q j gs) (moved r x))
-  unfolding flowsShare allEntries total
+      Curve h (sum (λ a. a .burst) (allShares t gs)) (sum (λ a. a .rate) (allShares t gs)) (λ x. total (flowsShare q j gs) (moved r x))
+  unfolding flowsShare allShares total
   flows-curve j [] c = curve-zero h 0 0 (λ x. total (λ f. 0) (moved r x)) (λ x. total-zeros (moved r x))
   flows-curve j (fl ∷ gs) c = λ s n u.
       omega (
@@ -128,8 +128,8 @@ module _ (t : Table) (fs : List Flow) (sch : Schedulable t fs) (r : Run t fs) (c
         window-ext (λ x. total (flowsShare q j (fl ∷ gs)) (moved r x))
             (λ x. total (hopsShare q j 0 (fl .path)) (moved r x) + total (flowsShare q (suc j) gs) (moved r x)) s (suc n)
             (λ x. total-add (hopsShare q j 0 (fl .path)) (flowsShare q (suc j) gs) (moved r x)),
-        total-append (addsAt q (λ a. a .burst)) (entries t fl 0 (fl .path)) (allEntries t gs),
-        ap (λ z. z * n) (total-append (addsAt q (λ a. a .rate)) (entries t fl 0 (fl .path)) (allEntries t gs)),
+        total-append (addsAt q (λ a. a .burst)) (shares t fl 0 (fl .path)) (allShares t gs),
+        ap (λ z. z * n) (total-append (addsAt q (λ a. a .rate)) (shares t fl 0 (fl .path)) (allShares t gs)),
       )
 
   -- Where the network and the one link meet.

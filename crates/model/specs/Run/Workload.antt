@@ -1,5 +1,5 @@
 -- One link, one level: an interval works off as many bits as the link has slots, or leaves nothing of that level and the levels above.
--- A slot with such a frame there never starts another one, as the levels are served in turn and each in order of arrival. Assumes nothing.
+-- A bit slot with such a frame there never starts another one, as the levels are served in turn and each in order of arrival. Assumes nothing.
 use Prim.Native.Nat.{ℕ, zero, suc, _+_, _*_, _≤_, _<_}
 use mathlib.Core.Path.{_≡_, refl, ap, _∙_}
 use mathlib.Core.Logic.{_⊎_, inl, inr}
@@ -11,7 +11,7 @@ use lib.Dec.{ltb, leb, eqb}
 use borrow.Author.Tests.{ltb-false, leb-false, eqb-true, eqb-false, le-ltb, ne-eqb, lt-leb}
 use Rattle.model.specs.Total.{total}
 use Rattle.model.specs.Schedulable.{All}
-use Rattle.model.specs.Run.{Frame, Wire, idle, sending, LinkState, Pick, pastEmpty, pick, bits, start, take, send, slot, interval}
+use Rattle.model.specs.Run.{Frame, Wire, idle, sending, LinkState, Pick, pastEmpty, pick, bits, start, take, send, bitSlot, interval}
 use Rattle.model.specs.Laws.All.{all-imp}
 use Rattle.model.specs.Laws.Total.{total-zero}
 use Rattle.model.specs.Laws.Test.{cond-same}
@@ -122,8 +122,8 @@ module _ (p a : ℕ) where
   send-unsent (sending n f (suc more)) qs d h = omega arith
 
   slot-unsent : (l : LinkState) → Each Long l → All Rising (l .levels) → 1 ≤ held (whole p a) l →
-      unsent p a (slot l) + 1 ≡ unsent p a l
-  unfolding slot
+      unsent p a (bitSlot l) + 1 ≡ unsent p a l
+  unfolding bitSlot
   slot-unsent l long r h =
       let k = take l in
       let t = take-unsent (l .wire) (l .levels) (l .left) (long .levels) r h in
@@ -139,7 +139,7 @@ module _ (p a : ℕ) where
       i = interval n l
 
       go : (unsent p a i + n ≡ unsent p a l) ⊎ (held (whole p a) i ≡ 0) → (k : ℕ) → held (whole p a) i ≡ k →
-          (unsent p a (slot i) + suc n ≡ unsent p a l) ⊎ (held (whole p a) (slot i) ≡ 0)
+          (unsent p a (bitSlot i) + suc n ≡ unsent p a l) ⊎ (held (whole p a) (bitSlot i) ≡ 0)
       go (inr z) k e = inr (omega (arith, slot-held (whole p a) i))
       go (inl u) zero e = inr (omega (arith, slot-held (whole p a) i))
       go (inl u) (suc k) e =

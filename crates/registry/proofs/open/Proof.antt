@@ -1,8 +1,7 @@
 -- `registry::open` meets its contract: zeros on the table that was read.
 -- Assumes nothing.
 use borrow.Author.Needs.{needs}
-use mathlib.Core.Path.{refl, sym, subst}
-use Prim.Native.Nat.{ℕ}
+use mathlib.Core.Path.{refl}
 use Rattle.registry.proofs.OpenLaws.{opens}
 use Rattle.registry.proofs.open.Statement.{statement}
 use Rattle.registry.proofs.open.Tie as tie
