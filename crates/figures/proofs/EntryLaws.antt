@@ -44,9 +44,14 @@ module _ (P : ℕ → Type 0) where
   all-at (x ∷ l) zero a h = a .0
   all-at (x ∷ l) (suc i) a h = all-at l i (a .1) (omega arith)
 
-pub hop-at : {queues entries : List ℕ} → Hops queues entries → (i : ℕ) → i < length entries
-    → (getD entries i 0 < 512) × (getD queues (2 * getD entries i 0) 0 ≤ 100000)
-hop-at {queues} {entries} hops i h = all-at (λ e. (e < 512) × (getD queues (2 * e) 0 ≤ 100000)) entries i (hops .each) h
+-- The hop at `i` and its threshold, where those before it sum to `sum`.
+abbrev pub HopAt : (queues entries : List ℕ) (sum i : ℕ) → Type 0
+HopAt queues entries sum i = (getD entries i 0 < 512) × (getD queues (2 * getD entries i 0) 0 ≤ 100000) × (sum ≤ 1200000)
+
+pub hop-at : {queues entries : List ℕ} {sum i : ℕ} → Hops queues entries → sum ≤ i * 100000 → i < length entries → HopAt queues entries sum i
+hop-at {queues} {entries} {sum} {i} hops below more =
+    let hop = all-at (λ e. (e < 512) × (getD queues (2 * e) 0 ≤ 100000)) entries i (hops .each) more in
+    (hop .0, hop .1, omega (arith, hops .few))
 
 -- What the hops of a path from `i` on add, where the thresholds before them sum to `sum`.
 module _ {rate burst frame : ℕ} {entries : List ℕ} {f : Flow} (is : FlowOf rate burst frame entries f) (n : ℕ) (links queues : List ℕ) (sum i : ℕ) where
@@ -69,8 +74,8 @@ module _ {rate burst frame : ℕ} {entries : List ℕ} {f : Flow} (is : FlowOf r
   entries-end end = ap (model.entries (tableOf n links queues) f sum) (ap (drop i) (is .path-is) ∙ mapped-end hopAt entries i end)
 
 -- A burst at a hop, in the ranges of document 01.
-pub burst-small : (rate burst sum : ℕ) → rate ≤ 10000000 → burst ≤ 1000000 → sum ≤ 1200000 → burstAtHop rate burst sum ≤ 2 ^ 31
+pub burst-small : {rate burst sum : ℕ} → rate ≤ 10000000 → burst ≤ 1000000 → sum ≤ 1200000 → burstAtHop rate burst sum ≤ 2 ^ 31
 unfolding burstAtHop
-burst-small rate burst sum r b s =
+burst-small {rate} {burst} {sum} r b s =
     let product : rate * sum ≤ 10000000 * 1200000 = mul-le-mul {n₂ = 10000000} {m₂ = 1200000} r s in
     omega (arith, ceilDiv-le (rate * sum) 8000 1500000000 (omega arith) (omega arith))

@@ -40,6 +40,14 @@ struct LinkQueues {
     buffers: [Bytes; LEVELS],
 }
 
+// The threshold of queue e in µs.
+fn threshold(e: usize, queues: &[u32]) -> u64
+    requires { ⌜ (e < 512) × (length (now queues) ≡ 1024) ⌝ }
+    ensures { λ r. ⌜ r ≡ getD (now (queues .entry)) (2 * e) 0 ⌝ }
+{
+    queues[2 * e] as u64
+}
+
 // The figures of queue e.
 fn figure(e: usize, sums: &[u64]) -> Aggregate
     requires { ⌜ (e < 512) × (length (now sums) ≡ 1536) ⌝ }
@@ -163,7 +171,7 @@ pub fn check_path(
         let PathFinding::Fits = found else {
             return found;
         };
-        sum += queues[2 * e] as u64;
+        sum += threshold(e, queues);
         i += 1;
     }
     PathFinding::Fits
@@ -206,7 +214,7 @@ pub fn add_path(
         let e = entries[i] as usize;
         let there = burst_at_hop(rate, burst, Micros(sum));
         add_hop(e, rate, there, frame, sums);
-        sum += queues[2 * e] as u64;
+        sum += threshold(e, queues);
         i += 1;
     }
 }
@@ -256,7 +264,7 @@ pub fn remove_path(
         let e = entries[i] as usize;
         let there = burst_at_hop(rate, burst, Micros(sum));
         let own = remove_hop(e, rate, there, frame, sums);
-        sum += queues[2 * e] as u64;
+        sum += threshold(e, queues);
         i += 1;
         if own {
             again = true;

@@ -1,12 +1,11 @@
 -- `figures::add_path` meets its contract. The invariant: what the hops left add and the figures so far make the whole.
 -- Assumes nothing.
 use borrow.Author.Needs.{needs}
-use Prim.Native.Nat.{ℕ, _*_, _-_, _^_, _≤_, _<_}
+use Prim.Native.Nat.{_-_, _^_}
 use mathlib.Core.Path.{sym, _∙_}
 use native.Mathlib.Omega.{arith}
-use lib.ListN.{length, getD}
-use Rattle.model.specs.Formula.{burstAtHop}
-use Rattle.figures.proofs.EntryLaws.{hop-at, burst-small}
+use lib.ListN.{length}
+use Rattle.figures.proofs.EntryLaws.{HopAt, hop-at, burst-small}
 use Rattle.figures.proofs.AddLaws.{Adding, adding-none, adding-next, adding-all}
 use Rattle.figures.proofs.add_path.Statement.{statement}
 use Rattle.figures.proofs.add_path.Tie as tie
@@ -17,22 +16,12 @@ Inv-loop rate burst frame queues entries sums₀ sum₀ i₀ sums sum i = Adding
 abbrev μ-loop : tie.MeasureT-loop
 μ-loop rate burst frame queues entries sums₀ sum₀ i₀ sums sum i = length entries - i
 
--- The hop at `i`, and the thresholds before it.
-module _ (c : tie.In-loop Inv-loop μ-loop) where
-  abbrev start : tie.Start Inv-loop μ-loop
-  start = c .before .before .before .before .before
+abbrev start : tie.In-loop Inv-loop μ-loop → tie.Start Inv-loop μ-loop
+start c = c .before .before .before .before .before
 
-  abbrev e : ℕ
-  e = getD (start .args .entries .now) (c .before .loop .i) 0
-
-  hop : (e < 512) × (getD (start .args .queues .now) (2 * e) 0 ≤ 100000)
-  hop = hop-at (start .pre .1 .0) (c .before .loop .i) (c .loop-test .taken)
-
-  low : c .before .loop .sum ≤ 1200000
-  low = omega (arith, c .before .loop .inv .sum-below, c .loop-test .taken, start .pre .1 .0 .few)
-
-  burst-low : burstAtHop (start .args .rate .0) (start .args .burst .0) (c .before .loop .sum) ≤ 2 ^ 31
-  burst-low = burst-small (start .args .rate .0) (start .args .burst .0) (c .before .loop .sum) (start .pre .0 .0) (start .pre .0 .1 .0) low
+hop : (c : tie.In-loop Inv-loop μ-loop) → let args = start c .args in
+    HopAt (args .queues .now) (args .entries .now) (c .before .loop .sum) (c .before .loop .i)
+hop c = hop-at (start c .pre .1 .0) (c .before .loop .inv .sum-below) (c .loop-test .taken)
 
 loop-holds : tie.Need-loop-holds Inv-loop μ-loop
 loop-holds c = adding-none _ _ _ _ _ _ (c .before .before .before .pre .1 .1 .0)
@@ -41,38 +30,29 @@ cast-e : tie.Need-cast-e Inv-loop μ-loop
 cast-e c = omega (arith, hop (c .before))
 
 burst-at-hop-requires : tie.Need-burst-at-hop-requires Inv-loop μ-loop
-burst-at-hop-requires c κs = (start (c .before) .pre .0 .0, (start (c .before) .pre .0 .1 .0, low (c .before)))
+burst-at-hop-requires c κs = (start (c .before) .pre .0 .0, (start (c .before) .pre .0 .1 .0, hop (c .before) .2))
 
 add-hop-requires : tie.Need-add-hop-requires Inv-loop μ-loop
 add-hop-requires c κs =
     let at = c .before .before .before in
     let now = at .before .loop .inv in (
       (hop at .0, (now .long, λ j. omega (arith, now .below (2 ^ 62) (start at .pre .1 .1 .1) j, at .loop-test .taken, start at .pre .1 .0 .few))),
-      (omega (arith, start at .pre .0), rw (c .before .burst-at-hop .ensures) (burst-low at)),
+      (omega (arith, start at .pre .0), rw (c .before .burst-at-hop .ensures) (burst-small (start at .pre .0 .0) (start at .pre .0 .1 .0) (hop at .2))),
     )
 
-mul-sum : tie.Need-mul-sum Inv-loop μ-loop
-mul-sum c = omega (arith, hop (c .before .before .before .before .before .before))
-
-mul-sum-2 : tie.Need-mul-sum-2 Inv-loop μ-loop
-mul-sum-2 c = omega (arith, hop (c .before .before .before .before .before .before))
-
-shared-slice-read-sum : tie.Need-shared-slice-read-sum Inv-loop μ-loop
-shared-slice-read-sum c = omega (arith, hop (c .before .before .before .before .before .before .before), start (c .before .before .before .before .before .before .before) .pre .1 .0 .queues-long)
-
-cast-sum : tie.Need-cast-sum Inv-loop μ-loop
-cast-sum c = omega (arith, hop (c .before .before .before .before .before .before .before))
+threshold-requires : tie.Need-threshold-requires Inv-loop μ-loop
+threshold-requires c κs = (hop (c .before .before .before .before .before .before) .0, start (c .before .before .before .before .before .before) .pre .1 .0 .queues-long)
 
 add-sum : tie.Need-add-sum Inv-loop μ-loop
-add-sum c = omega (arith, hop (c .before .before .before .before .before .before .before), low (c .before .before .before .before .before .before .before))
+add-sum c = omega (arith, c .threshold .ensures, hop (c .before .before .before .before .before .before .before))
 
 loop-again : tie.Need-loop-again Inv-loop μ-loop
 loop-again c =
     let at = c .before .before .before .before .before .before .before in
     let args = start at .args in
-    rw (c .before .before .before .add-hop .ensures, c .before .before .before .before .before .burst-at-hop .ensures)
+    rw (c .threshold .ensures, c .before .before .before .add-hop .ensures, c .before .before .before .before .before .burst-at-hop .ensures)
     (adding-next (args .rate .0) (args .burst .0) (args .frame .0) (args .queues .now) (args .entries .now) (args .sums .now) (at .before .loop .inv)
-    (at .loop-test .taken) (hop at .0) (hop at .1) (omega (arith, start at .pre .0), burst-low at, omega (arith, start at .pre .0)))
+    (at .loop-test .taken) (hop at .0) (hop at .1) (omega (arith, start at .pre .0), burst-small (start at .pre .0 .0) (start at .pre .0 .1 .0) (hop at .2), omega (arith, start at .pre .0)))
 
 same-length : tie.Need-same-length Inv-loop μ-loop
 same-length c = c .before .loop .inv .long ∙ sym (c .before .before .before .before .before .pre .1 .1 .0)
@@ -83,5 +63,5 @@ returns c = adding-all _ _ _ _ _ _ (c .before .loop .inv) (c .loop-test .left) (
 pub add-path-spec : {M : Type 1} → statement M
 add-path-spec =
     tie.close
-    (tie.spec Inv-loop μ-loop loop-holds (λ c. search needs) (λ c. search needs) cast-e burst-at-hop-requires add-hop-requires mul-sum mul-sum-2
-    shared-slice-read-sum cast-sum add-sum (λ c. search needs) (λ c. search needs) loop-again same-length returns)
+    (tie.spec Inv-loop μ-loop loop-holds (λ c. search needs) (λ c. search needs) cast-e burst-at-hop-requires add-hop-requires threshold-requires
+    add-sum (λ c. search needs) (λ c. search needs) loop-again same-length returns)

@@ -1,7 +1,7 @@
 -- `figures::check_path` meets its contract. The invariant: what the hops left say is what the whole path says.
 -- Assumes nothing.
 use borrow.Author.Needs.{needs}
-use Prim.Native.Nat.{ℕ, _*_, _/_, _+_, _-_, _^_, _≤_, _<_}
+use Prim.Native.Nat.{ℕ, _*_, _/_, _+_, _-_, _≤_}
 use mathlib.Core.Path.{_≡_, ap}
 use mathlib.Core.List.{[], _∷_}
 use mathlib.Core.Option.{none, Option·some-ne-none}
@@ -17,7 +17,7 @@ use Rattle.model.specs.LinkCheck.{linkFinding}
 use Rattle.model.specs.Reference.{linkCause}
 use Rattle.queue_table.specs.View.{upTo, queueAt}
 use Rattle.figures.specs.View.{causeOf, levelsWith}
-use Rattle.figures.proofs.EntryLaws.{all-at, hop-at, burst-small}
+use Rattle.figures.proofs.EntryLaws.{all-at, HopAt, hop-at, burst-small}
 use Rattle.figures.proofs.CheckLaws.{Checking, checking-none, checking-all, checking-found, checking-next}
 use Rattle.figures.proofs.check_path.Statement.{statement}
 use Rattle.figures.proofs.check_path.Tie as tie
@@ -35,7 +35,6 @@ faulty OverRate k e = Option·some-ne-none _ e
 faulty (OverDelay link level) k e = Option·some-ne-none _ e
 faulty (OverBacklog link level) k e = Option·some-ne-none _ e
 
--- The hop at `i`, and the thresholds before it.
 module _ (c : tie.In-loop Inv-loop μ-loop) where
   abbrev start : tie.Start Inv-loop μ-loop
   start = c .before .before .before .before .before .before
@@ -43,19 +42,13 @@ module _ (c : tie.In-loop Inv-loop μ-loop) where
   abbrev e : ℕ
   e = getD (start .args .entries .now) (c .before .loop .i) 0
 
-  hop : (e < 512) × (getD (start .args .queues .now) (2 * e) 0 ≤ 100000)
-  hop = hop-at (start .pre .1 .0) (c .before .loop .i) (c .loop-test .taken)
+  hop : HopAt (start .args .queues .now) (start .args .entries .now) (c .before .loop .sum) (c .before .loop .i)
+  hop = hop-at (start .pre .1 .0) (c .before .loop .inv .sum-below) (c .loop-test .taken)
 
   speed : getD (start .args .links .now) (4 * (e / 8) + 2) 0 ≤ 10000
   speed =
       all-at (λ e. getD (start .args .links .now) (4 * (e / 8) + 2) 0 ≤ 10000) (start .args .entries .now) (c .before .loop .i) (start .pre .1 .1 .0 .each)
       (c .loop-test .taken)
-
-  low : c .before .loop .sum ≤ 1200000
-  low = omega (arith, c .before .loop .inv .sum-below, c .loop-test .taken, start .pre .1 .0 .few)
-
-  burst-low : burstAtHop (start .args .rate .0) (start .args .burst .0) (c .before .loop .sum) ≤ 2 ^ 31
-  burst-low = burst-small (start .args .rate .0) (start .args .burst .0) (c .before .loop .sum) (start .pre .0 .0) (start .pre .0 .1 .0) low
 
 -- What the check of the hop tells.
 found : (c : tie.After-check-hop Inv-loop μ-loop) → let at = c .before .before .before in
@@ -71,14 +64,14 @@ cast-e : tie.Need-cast-e Inv-loop μ-loop
 cast-e c = omega (arith, hop (c .before))
 
 burst-at-hop-requires : tie.Need-burst-at-hop-requires Inv-loop μ-loop
-burst-at-hop-requires c κs = (start (c .before) .pre .0 .0, (start (c .before) .pre .0 .1 .0, low (c .before)))
+burst-at-hop-requires c κs = (start (c .before) .pre .0 .0, (start (c .before) .pre .0 .1 .0, hop (c .before) .2))
 
 check-hop-requires : tie.Need-check-hop-requires Inv-loop μ-loop
 check-hop-requires c κs =
     let at = c .before .before in
     let pre = start at .pre in (
       (hop at .0, (pre .1 .1 .0 .links-long, (pre .1 .0 .queues-long, pre .1 .1 .1))),
-      (speed at, (pre .0 .0, (rw (c .burst-at-hop .ensures) (burst-low at), pre .0 .1 .1))),
+      (speed at, (pre .0 .0, (rw (c .burst-at-hop .ensures) (burst-small (pre .0 .0) (pre .0 .1 .0) (hop at .2)), pre .0 .1 .1))),
     )
 
 returns : tie.Need-returns Inv-loop μ-loop
@@ -87,26 +80,18 @@ returns c =
     let result = c .before .check-hop .result in
     checking-found _ _ _ _ _ _ _ (at .before .loop .inv) (at .loop-test .taken) result (found (c .before)) (faulty result (c .match .keys2))
 
-mul-sum : tie.Need-mul-sum Inv-loop μ-loop
-mul-sum c = omega (arith, hop (c .before .before .before .before .before))
-
-mul-sum-2 : tie.Need-mul-sum-2 Inv-loop μ-loop
-mul-sum-2 c = omega (arith, hop (c .before .before .before .before .before))
-
-shared-slice-read-sum : tie.Need-shared-slice-read-sum Inv-loop μ-loop
-shared-slice-read-sum c = omega (arith, hop (c .before .before .before .before .before .before), start (c .before .before .before .before .before .before) .pre .1 .0 .queues-long)
-
-cast-sum : tie.Need-cast-sum Inv-loop μ-loop
-cast-sum c = omega (arith, hop (c .before .before .before .before .before .before))
+threshold-requires : tie.Need-threshold-requires Inv-loop μ-loop
+threshold-requires c κs = (hop (c .before .before .before .before .before) .0, start (c .before .before .before .before .before) .pre .1 .0 .queues-long)
 
 add-sum : tie.Need-add-sum Inv-loop μ-loop
-add-sum c = omega (arith, hop (c .before .before .before .before .before .before), low (c .before .before .before .before .before .before))
+add-sum c = omega (arith, c .threshold .ensures, hop (c .before .before .before .before .before .before))
 
 loop-again : tie.Need-loop-again Inv-loop μ-loop
 loop-again c =
     let at = c .before .before .before .before .before .before in
-    checking-next _ _ _ _ _ _ _ (at .before .loop .inv) (at .loop-test .taken) (c .before .before .before .check-hop .result) (found (c .before .before .before))
-    (ap causeOf (c .before .enum-told .given .1)) (hop at .1)
+    rw (c .threshold .ensures)
+    (checking-next _ _ _ _ _ _ _ (at .before .loop .inv) (at .loop-test .taken) (c .before .before .before .check-hop .result) (found (c .before .before .before))
+    (ap causeOf (c .before .enum-told .given .1)) (hop at .1))
 
 returns-2 : tie.Need-returns-2 Inv-loop μ-loop
 returns-2 c = checking-all _ _ _ _ _ _ _ (c .before .loop .inv) (c .loop-test .left)
@@ -115,4 +100,4 @@ pub check-path-spec : {M : Type 1} → statement M
 check-path-spec =
     tie.close
     (tie.spec Inv-loop μ-loop loop-holds (λ c. search needs) (λ c. search needs) cast-e burst-at-hop-requires check-hop-requires (λ c. search needs)
-    returns mul-sum mul-sum-2 shared-slice-read-sum cast-sum add-sum (λ c. search needs) (λ c. search needs) loop-again returns-2)
+    returns threshold-requires add-sum (λ c. search needs) (λ c. search needs) loop-again returns-2)
