@@ -106,28 +106,29 @@ module _ (frame : ℕ) (entries before : List ℕ) where
               ∙ ap (raised (figureAt before e)) (sym (frame-alone t f entries path e ∙ ap (λ m. frameAt m entries e) is));
         }
 
-    -- The hop at `i` is raised.
-    module _ (more : i < length entries) (low : getD entries i 0 < 512) where
+    -- The hop at `i` is raised, whose largest frame stands at `place`.
+    module _ (more : i < length entries) {place : ℕ} (there : (place ≡ 3 * getD entries i 0 + 2) × (place < 1536)) where
       abbrev x : ℕ
       x = getD entries i 0
 
       next : {sums′ : List ℕ} → length sums′ ≡ 1536 → ((e : ℕ) → figureAt sums′ e ≡ raised (figureAt sums e) (hopFrame frame e x))
           → Raising frame entries before sums′ (i + 1)
       unfolding largest
-      next {sums′} long there =
+      next {sums′} long same =
           let hops : drop i entries ≡ x ∷ drop (i + 1) entries = rw add-one (drop-cons entries i 0 more) in
           record {
             long = long;
             left = λ e.
-                ap (λ a. raised a (frameAt frame (drop (i + 1) entries) e)) (there e)
+                ap (λ a. raised a (frameAt frame (drop (i + 1) entries) e)) (same e)
                 ∙ raised-twice (figureAt sums e) (hopFrame frame e x) (frameAt frame (drop (i + 1) entries) e)
                 ∙ ap (λ l. raised (figureAt sums e) (frameAt frame l e)) (sym hops)
                 ∙ so-far .left e;
           }
 
-      pub raising-grows : getD sums (3 * x + 2) 0 < frame → Raising frame entries before (set sums (3 * x + 2) frame) (i + 1)
+      pub raising-grows : getD sums place 0 < frame → Raising frame entries before (set sums place frame) (i + 1)
       raising-grows lt =
-          next (length-set sums (3 * x + 2) frame ∙ so-far .long) (raised-grows sums x (omega (arith, so-far .long)) frame lt)
+          rw (there .0)
+          (next (length-set sums (3 * x + 2) frame ∙ so-far .long) (raised-grows sums x (omega (arith, so-far .long, there)) frame (rw (there .0) at lt)))
 
-      pub raising-stays : frame ≤ getD sums (3 * x + 2) 0 → Raising frame entries before sums (i + 1)
-      raising-stays le = next (so-far .long) (raised-stays sums x (omega (arith, so-far .long)) frame le)
+      pub raising-stays : frame ≤ getD sums place 0 → Raising frame entries before sums (i + 1)
+      raising-stays le = next (so-far .long) (raised-stays sums x (omega (arith, so-far .long, there)) frame (rw (there .0) at le))

@@ -273,6 +273,15 @@ pub fn remove_path(
     again
 }
 
+// Where the largest frame of the queue of entry i stands.
+fn frame_place(i: usize, entries: &[u32]) -> usize
+    requires { ⌜ All (λ e. e < 512) (now entries) × (i < length (now entries)) ⌝ }
+    ensures { λ r. ⌜ r ≡ 3 * getD (now (entries .entry)) i 0 + 2 ⌝ }
+    ensures { λ r. ⌜ r < 1536 ⌝ }
+{
+    3 * (entries[i] as usize) + 2
+}
+
 // Whether a queue of the path may have a smaller largest frame. It only reads, which is faster than a loop that may store.
 fn any_lower(frame: Bytes, entries: &[u32], sums: &[u64]) -> bool
     requires { ⌜ All (λ e. e < 512) (now entries) × (length (now sums) ≡ 1536) ⌝ }
@@ -280,8 +289,7 @@ fn any_lower(frame: Bytes, entries: &[u32], sums: &[u64]) -> bool
 {
     let mut i = 0;
     while i < entries.len() {
-        let e = entries[i] as usize;
-        if sums[3 * e + 2] < frame.0 {
+        if sums[frame_place(i, entries)] < frame.0 {
             return true;
         }
         i += 1;
@@ -296,7 +304,7 @@ fn raise_each(frame: Bytes, entries: &[u32], sums: &mut [u64])
 {
     let mut i = 0;
     while i < entries.len() {
-        let at = 3 * (entries[i] as usize) + 2;
+        let at = frame_place(i, entries);
         if sums[at] < frame.0 {
             sums[at] = frame.0;
         }
