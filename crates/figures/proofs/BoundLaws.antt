@@ -7,7 +7,7 @@ use native.Mathlib.Omega.{arith}
 use native.Mathlib.Nat.{div-add-mod}
 use native.Mathlib.Decide.{decLt}
 use lib.ListN.{length, set, length-set}
-use Rattle.model.specs.Total.{total, largest}
+use Rattle.model.specs.Total.{total}
 use Rattle.model.specs.Formula.{Aggregate}
 use Rattle.model.specs.WithFlow.{withFlow}
 use Rattle.model.specs.Schedulable.{All}
@@ -15,7 +15,7 @@ use Rattle.model.specs.Laws.Total.{total-le, largest-le}
 use Rattle.model.specs.Laws.All.{all-append}
 use Rattle.queue_table.specs.View.{upTo}
 use Rattle.queue_table.proofs.ViewLaws.{length-up}
-use Rattle.figures.specs.View.{figureAt, levelFigures, levelsWith, Bounded}
+use Rattle.figures.specs.View.{figureAt, levelFigures, levelsWith, Room, Bounded}
 
 module _ {A : Type 0} where
   set-all : (P : A → Type 0) (l : List A) (i : ℕ) (v : A) → All P l → P v → All P (set l i v)
@@ -32,10 +32,6 @@ pub map-set : {A B : Type 0} (f : A → B) (l : List A) (i : ℕ) (a : A) → ma
 map-set f [] i a = refl
 map-set f (x ∷ l) zero a = refl
 map-set f (x ∷ l) (suc i) a = ap₂ (λ y m. y ∷ m) refl (map-set f l i a)
-
--- What the check of a link asks of its levels.
-abbrev pub Room : List Aggregate → Type 0
-Room levels = (total (λ a. a .rate) levels < 2 ^ 40) × (total (λ a. a .burst) levels + 2 * largest (λ a. a .frame) levels ≤ 2 ^ 40)
 
 levels-room : (levels : List Aggregate) → length levels ≡ 8 → All (λ a. a .rate ≤ 20000000) levels → All (λ a. a .burst ≤ 2 ^ 33) levels
     → All (λ a. a .frame ≤ 1542) levels

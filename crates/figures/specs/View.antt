@@ -6,6 +6,7 @@ use mathlib.Core.List.{List, [], _∷_, map}
 use mathlib.Core.Option.{Option, none, some}
 use lib.ListN.{length, getD, set}
 use lib.Seq.{sets}
+use Rattle.model.specs.Total.{total, largest}
 use Rattle.model.specs.Formula.{Aggregate}
 use Rattle.model.specs.QueueTable.{Table}
 use Rattle.model.specs.Orders.{Hop, Flow}
@@ -29,6 +30,10 @@ levelFigures sums link = upTo 8 (λ p. figureAt sums (8 * link + p))
 -- The levels of the link of queue `e`, with a flow counted in there: its rate, its burst there and its largest frame.
 unfoldable pub levelsWith : (sums : List ℕ) (e rate burst frame : ℕ) → List Aggregate
 levelsWith sums e rate burst frame = set (levelFigures sums (e / 8)) (e % 8) (withFlow (figureAt sums e) rate burst frame)
+
+-- What the check of a link asks of its levels.
+abbrev pub Room : List Aggregate → Type 0
+Room levels = (total (λ a. a .rate) levels < 2 ^ 40) × (total (λ a. a .burst) levels + 2 * largest (λ a. a .frame) levels ≤ 2 ^ 40)
 
 -- The column holds the figures of the flows.
 pub record Figures (t : Table) (fs : List Flow) (sums : List ℕ) : Type 0 where

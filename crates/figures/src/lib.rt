@@ -16,7 +16,7 @@ ghost use Rattle.model.specs.Reference.{linkCause};
 ghost use Rattle.model.specs.Schedulable.{All};
 ghost use Rattle.queue_table.specs.View.{upTo, queueAt, Columns};
 ghost use Rattle.link_check.specs.Levels.{aggregateOf, aggregatesOf, queuesOf, findingOf};
-ghost use Rattle.figures.specs.View.{figureAt, levelFigures, levelsWith, Below, figureStored, Hops, PathAdded, PathCounted, HopRemoved, PathRemoved, FrameRaised, Bounded, Speeds, causeOf, PathChecked, codeAt, LinkSpeeds, LinksMet};
+ghost use Rattle.figures.specs.View.{figureAt, levelFigures, levelsWith, Room, Below, figureStored, Hops, PathAdded, PathCounted, HopRemoved, PathRemoved, FrameRaised, Bounded, Speeds, causeOf, PathChecked, codeAt, LinkSpeeds, LinksMet};
 use link_check::Aggregate;
 use link_check::Finding;
 use link_check::LEVELS;
@@ -98,6 +98,21 @@ fn link_queues(link: usize, queues: &[u32]) -> LinkQueues
     }
 }
 
+// What the check of a link, counted from 0, finds with these levels.
+fn find_on(link: usize, levels: [Aggregate; LEVELS], links: &[u32], queues: &[u32]) -> Finding
+    requires { ⌜ (link < 64) × ((length (now links) ≡ 256) × (length (now queues) ≡ 1024)) ⌝ }
+    requires { ⌜ getD (now links) (4 * link + 2) 0 ≤ 10000 ⌝ }
+    requires { ⌜ Room (aggregatesOf levels) ⌝ }
+    ensures { λ r. ⌜ findingOf r ≡ linkFinding (getD (now (links .entry)) (4 * link + 2) 0) (upTo 8 (queueAt (now (queues .entry)) link)) (aggregatesOf levels) ⌝ }
+{
+    let held = link_queues(link, queues);
+    let speed = links[4 * link + 2] as u64;
+    let thresholds = held.thresholds;
+    let buffers = held.buffers;
+    let checked = check_link(speed, thresholds, buffers, levels);
+    checked.finding
+}
+
 // A link's finding with its number.
 fn on_link(link: u32, found: Finding) -> PathFinding
     ensures { λ r. ⌜ causeOf r ≡ linkCause link (findingOf found) ⌝ }
@@ -129,13 +144,7 @@ fn check_hop(
     let mut levels = link_levels(link, sums);
     let own = figure(e, sums);
     levels[e % LEVELS] = own.with_flow(rate, burst, frame);
-    let held = link_queues(link, queues);
-    let speed = links[4 * link + 2] as u64;
-    let thresholds = held.thresholds;
-    let buffers = held.buffers;
-    let checked = check_link(speed, thresholds, buffers, levels);
-    let finding = checked.finding;
-    on_link(link as u32 + 1, finding)
+    on_link(link as u32 + 1, find_on(link, levels, links, queues))
 }
 
 // The links of a path one by one, with the flow counted in at its level and with its burst there: 21 for the link, then
@@ -351,13 +360,8 @@ fn link_meets(link: usize, links: &[u32], queues: &[u32], sums: &[u64]) -> bool
     ensures { λ r. ⌜ r ≡ eqb (codeAt (now (links .entry)) (now (queues .entry)) (now (sums .entry)) link) 0 ⌝ }
 {
     let levels = link_levels(link, sums);
-    let held = link_queues(link, queues);
-    let speed = links[4 * link + 2] as u64;
-    let thresholds = held.thresholds;
-    let buffers = held.buffers;
-    let checked = check_link(speed, thresholds, buffers, levels);
-    let finding = checked.finding;
-    match finding {
+    let found = find_on(link, levels, links, queues);
+    match found {
         Finding::Fits => true,
         _ => false,
     }

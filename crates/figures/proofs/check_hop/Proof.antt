@@ -11,6 +11,7 @@ use Rattle.model.specs.Formula as model
 use Rattle.model.specs.WithFlow.{withFlow}
 use Rattle.model.specs.LinkCheck.{linkFinding}
 use Rattle.model.specs.Reference.{linkCause}
+use Rattle.queue_table.specs.View.{upTo, queueAt}
 use Rattle.link_check.specs.Levels.{aggregateOf, aggregatesOf}
 use Rattle.figures.specs.View.{levelsWith}
 use Rattle.figures.proofs.BoundLaws.{map-set, room}
@@ -40,31 +41,34 @@ with-flow-requires c κs =
       start .pre .1 .1,
     )
 
-check-link-requires : tie.Need-check-link-requires
-check-link-requires c κs =
-    let start = c .before .before .before .before .before .before .before .before .before .before in
-    let small = start .pre .1 .1 in (
-      start .pre .1 .0,
-      rw (counted (c .before .before .before .before))
-          (room (start .args .sums .now) (start .pre .0 .1 .1 .1) (start .args .e) (start .pre .0 .0) (start .args .rate .0) (start .args .burst .0) (start .args .frame .0) (small .0, small .1 .0, small .1 .1)),
-    )
-
 cast-on-link : tie.Need-cast-on-link
-cast-on-link c = omega (arith, c .before .before .before .before .before .before .before .before .before .before .before .pre .0 .0, div-add-mod (c .before .before .before .before .before .before .before .before .before .before .before .args .e) 8)
+cast-on-link c = omega (arith, c .before .before .before .before .before .before .pre .0 .0, div-add-mod (c .before .before .before .before .before .before .args .e) 8)
 
 add-on-link : tie.Need-add-on-link
-add-on-link c = omega (arith, c .before .before .before .before .before .before .before .before .before .before .before .pre .0 .0, div-add-mod (c .before .before .before .before .before .before .before .before .before .before .before .args .e) 8)
+add-on-link c = omega (arith, c .before .before .before .before .before .before .pre .0 .0, div-add-mod (c .before .before .before .before .before .before .args .e) 8)
+
+find-on-requires : tie.Need-find-on-requires
+find-on-requires c κs =
+    let start = c .before .before .before .before .before .before in
+    let small = start .pre .1 .1 in (
+      (omega (arith, start .pre .0 .0, div-add-mod (start .args .e) 8), (start .pre .0 .1 .0, start .pre .0 .1 .1 .0)),
+      (
+        start .pre .1 .0,
+        rw (counted c)
+            (room (start .args .sums .now) (start .pre .0 .1 .1 .1) (start .args .e) (start .pre .0 .0) (start .args .rate .0) (start .args .burst .0) (start .args .frame .0) (small .0, small .1 .0, small .1 .1)),
+      ),
+    )
 
 returns : tie.Need-returns
 returns c =
-    let args = c .before .before .before .before .before .before .before .before .before .before .before .before .args in
+    let args = c .before .before .before .before .before .before .before .before .args in
     c .on-link .ensures
     ∙ ap (linkCause (args .e / 8 + 1))
-    (c .before .check-link .ensures .1 ∙ ap₂ (linkFinding (getD (args .links .now) (4 * (args .e / 8) + 2) 0)) (c .before .before .before .before .before .link-queues .ensures) (counted (c .before .before .before .before .before .before)))
+    (c .before .find-on .ensures
+    ∙ ap (linkFinding (getD (args .links .now) (4 * (args .e / 8) + 2) 0) (upTo 8 (queueAt (args .queues .now) (args .e / 8)))) (counted (c .before .before)))
 
 pub check-hop-spec : {M : Type 1} → statement M
 check-hop-spec =
     tie.close
-    (tie.spec (λ c κs. search needs) (λ c κs. search needs) with-flow-requires (λ c. search needs) (λ c. search needs) (λ c κs. search needs)
-    (λ c. search needs) (λ c. search needs) (λ c. search needs) (λ c. search needs) (λ c. search needs) check-link-requires cast-on-link add-on-link
-    (λ c κs. search needs) returns)
+    (tie.spec (λ c κs. search needs) (λ c κs. search needs) with-flow-requires (λ c. search needs) (λ c. search needs) cast-on-link add-on-link
+    find-on-requires (λ c κs. search needs) returns)
