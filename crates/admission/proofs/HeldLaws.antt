@@ -19,7 +19,7 @@ use Rattle.model.specs.Laws.All.{all-append, all-imp}
 use Rattle.model.specs.Laws.Finding.{none-applies, applies-none, is-none}
 use Rattle.model.specs.Laws.Consistent.{FlowRules}
 use Rattle.model.specs.Laws.Reached.{StateRules}
-use Rattle.queue_table.specs.View.{Columns, tableOf, isQueue}
+use Rattle.queue_table.specs.View.{Columns, tableOf, AllQueues}
 use Rattle.path_check.proofs.EntryLaws.{all-queues}
 use Rattle.flow_store.specs.View.{Store, slotsOf, slotOf, flowAt, countAt, entriesIn, flowIn}
 use Rattle.flow_store.proofs.ViewLaws.{slot-at, entries-long, flow-long}
@@ -59,14 +59,14 @@ module _ (n : ℕ) (links queues slots pool : List ℕ) (columns : Columns n lin
       let passed = none-applies (lineFindings t (flow i) ++ deadlineFinding t (flow i) ∷ []) (is-none _ causes) in
       (range, passed .1 .0)
 
-  held-queues : (i : ℕ) → i < 256 → 1 ≤ countAt slots i → All (λ e. isQueue n links e ≡ true) (entriesIn slots pool i)
+  held-queues : (i : ℕ) → i < 256 → 1 ≤ countAt slots i → AllQueues n links (entriesIn slots pool i)
   unfolding flowAt isNone
   held-queues i lt held = all-queues n links queues (entriesIn slots pool i) (ap isNone (by-itself i lt held .1))
 
   pub on-queues : OnQueues n links slots pool
   on-queues i lt = go (countAt slots i) refl
     where
-      go : (k : ℕ) → countAt slots i ≡ k → All (λ e. isQueue n links e ≡ true) (entriesIn slots pool i)
+      go : (k : ℕ) → countAt slots i ≡ k → AllQueues n links (entriesIn slots pool i)
       go zero e = rw e tt
       go (suc k) e = held-queues i lt (omega arith)
 

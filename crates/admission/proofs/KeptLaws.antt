@@ -30,9 +30,8 @@ use Rattle.model.specs.Laws.Schedulable.{schedulable}
 use Rattle.model.specs.Laws.Bounds.{threshold-below, speed-below, figures-bounded}
 use Rattle.orders.specs.declared.Flow.{Flow}
 use Rattle.orders.specs.Reading.{fieldsOf}
-use Rattle.queue_table.specs.View.{Columns, tableOf, hopAt, isQueue, linkAt}
+use Rattle.queue_table.specs.View.{Columns, tableOf, hopAt, isQueue, linkAt, AllQueues}
 use Rattle.queue_table.proofs.LookupLaws.{link-found}
-use Rattle.path_check.specs.Causes.{AllQueues}
 use Rattle.flow_store.specs.View.{Store, slotsOf, Insertable}
 use Rattle.flow_store.proofs.ViewLaws.{length-slots, held-hops}
 use Rattle.flow_store.proofs.ScanLaws.{free-count}

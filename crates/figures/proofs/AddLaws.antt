@@ -2,7 +2,6 @@
 -- Assumes nothing.
 use Prim.Native.Nat.{ℕ, _+_, _*_, _^_, _≤_, _<_}
 use mathlib.Core.Path.{_≡_, refl, sym, ap, _∙_}
-use mathlib.Core.Bool.{true}
 use mathlib.Core.List.{List, [], _∷_}
 use native.Mathlib.Omega.{arith}
 use native.Mathlib.Decide.{ℕ-discrete}
@@ -11,11 +10,10 @@ use Rattle.model.specs.Orders.{Flow}
 use Rattle.model.specs.Formula.{Aggregate, burstAtHop}
 use Rattle.model.specs.QueueTable.{Table}
 use Rattle.model.specs.Aggregates as model
-use Rattle.model.specs.Schedulable.{All}
 use Rattle.model.specs.WithFlow.{withFlow, together}
 use Rattle.model.specs.Laws.Aggregates.{hop-same}
 use Rattle.model.specs.Laws.Figures.{sharesAt, shares-nothing, shares-other, shares-here, aggregate-alone, aggregate-more}
-use Rattle.queue_table.specs.View.{tableOf, hopAt, isQueue}
+use Rattle.queue_table.specs.View.{tableOf, hopAt, AllQueues}
 use Rattle.figures.specs.View.{figureAt, Below, figureStored, FlowOf, PathAdded, Figures}
 use Rattle.figures.proofs.FigureLaws.{stored-length, stored-here, stored-other, stored-below}
 use Rattle.figures.proofs.EntryLaws.{other-entry, entries-next, entries-end}
@@ -26,9 +24,9 @@ pub record Adding (rate burst frame : ℕ) (queues entries before sums : List �
   pub within : i ≤ length entries
   pub sum-below : sum ≤ i * 100000
   pub below : (bound : ℕ) → Below bound before → Below (bound + i * 2 ^ 31) sums
-  pub left : (n : ℕ) (links : List ℕ) (f : Flow) → All (λ e. isQueue n links e ≡ true) entries → FlowOf rate burst frame entries f
+  pub left : (n : ℕ) (links : List ℕ) (f : Flow) → AllQueues n links entries → FlowOf rate burst frame entries f
       → (e : ℕ) → e < 512
-      → together (sharesAt (hopAt e) (model.entries (tableOf n links queues) f sum (drop i (f .path)))) (figureAt sums e)
+      → together (sharesAt (hopAt e) (model.shares (tableOf n links queues) f sum (drop i (f .path)))) (figureAt sums e)
       ≡ together (model.aggregateAt (tableOf n links queues) (f ∷ []) (hopAt e)) (figureAt before e)
 
 module _ (rate burst frame : ℕ) (queues entries before : List ℕ) where
@@ -71,31 +69,31 @@ module _ (rate burst frame : ℕ) (queues entries before : List ℕ) where
           let now : Below (bound + i * 2 ^ 31) sums = so-far .below bound b in
           stored-below sums x there (bound + (i + 1) * 2 ^ 31) (λ j. omega (arith, now j)) (omega (arith, now (3 * x))) (omega (arith, now (3 * x + 1))) (omega (arith, now (3 * x + 2)))
 
-      module _ (n : ℕ) (links : List ℕ) (f : Flow) (named : All (λ e. isQueue n links e ≡ true) entries) (is : FlowOf rate burst frame entries f) where
+      module _ (n : ℕ) (links : List ℕ) (f : Flow) (named : AllQueues n links entries) (is : FlowOf rate burst frame entries f) where
         t : Table
         t = tableOf n links queues
 
-        rest : List model.Entry
-        rest = model.entries t f (sum + getD queues (2 * x) 0) (drop (i + 1) (f .path))
+        rest : List model.Share
+        rest = model.shares t f (sum + getD queues (2 * x) 0) (drop (i + 1) (f .path))
 
-        entry : model.Entry
-        entry = record { hop = hopAt x; adds = record { rate = rate; burst = burstAtHop rate burst sum; frame = frame } }
+        share : model.Share
+        share = record { hop = hopAt x; adds = record { rate = rate; burst = burstAtHop rate burst sum; frame = frame } }
 
         step : (e : ℕ) → Dec (e ≡ x)
-            → together (sharesAt (hopAt e) rest) (figureAt sums′ e) ≡ together (sharesAt (hopAt e) (entry ∷ rest)) (figureAt sums e)
-        unfolding entry
+            → together (sharesAt (hopAt e) rest) (figureAt sums′ e) ≡ together (sharesAt (hopAt e) (share ∷ rest)) (figureAt sums e)
+        unfolding share
         step e (yes same) =
             rw same
             (ap (together (sharesAt (hopAt x) rest)) (stored-here sums x there (omega (arith, so-far .long)))
-            ∙ sym (shares-here (hopAt x) entry rest (figureAt sums x) (hop-same (hopAt x) (hopAt x) refl)))
+            ∙ sym (shares-here (hopAt x) share rest (figureAt sums x) (hop-same (hopAt x) (hopAt x) refl)))
         step e (no other) =
             ap (together (sharesAt (hopAt e) rest)) (stored-other sums x there e other)
-            ∙ ap (λ a. together a (figureAt sums e)) (sym (shares-other (hopAt e) entry rest (other-entry e x other)))
+            ∙ ap (λ a. together a (figureAt sums e)) (sym (shares-other (hopAt e) share rest (other-entry e x other)))
 
         next-left : (e : ℕ) → e < 512
-            → together (sharesAt (hopAt e) (model.entries t f (sum + getD queues (2 * x) 0) (drop (i + 1) (f .path)))) (figureAt sums′ e)
+            → together (sharesAt (hopAt e) (model.shares t f (sum + getD queues (2 * x) 0) (drop (i + 1) (f .path)))) (figureAt sums′ e)
             ≡ together (model.aggregateAt t (f ∷ []) (hopAt e)) (figureAt before e)
-        unfolding t rest entry
+        unfolding t rest share
         next-left e lt =
             step e (ℕ-discrete e x)
             ∙ ap (λ l. together (sharesAt (hopAt e) l) (figureAt sums e)) (sym (entries-next is n links queues sum i named more))
@@ -114,7 +112,7 @@ module _ (rate burst frame : ℕ) (queues entries before : List ℕ) where
 
 -- A column with the figures of the flows has those of the flow beside them, once its path is counted in.
 pub figures-added : {fs : List Flow} {rate burst frame : ℕ} {queues entries before after : List ℕ} (n : ℕ) (links : List ℕ) (f : Flow)
-    → All (λ e. isQueue n links e ≡ true) entries → FlowOf rate burst frame entries f
+    → AllQueues n links entries → FlowOf rate burst frame entries f
     → PathAdded rate burst frame queues entries before after
     → Figures (tableOf n links queues) fs before
     → Figures (tableOf n links queues) (f ∷ fs) after

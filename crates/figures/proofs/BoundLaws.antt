@@ -1,11 +1,10 @@
 -- The levels of a link, as they are or with a flow counted in at one of them: no sum over them is large. Which columns are so bounded.
 -- Assumes nothing.
 use Prim.Native.Nat.{ℕ, zero, suc, _+_, _*_, _/_, _%_, _^_, _≤_, _<_}
-use mathlib.Core.Path.{_≡_, refl, subst, ap₂, _∙_}
+use mathlib.Core.Path.{_≡_, refl, ap₂, _∙_}
 use mathlib.Core.List.{List, [], _∷_, map}
 use native.Mathlib.Omega.{arith}
 use native.Mathlib.Nat.{div-add-mod}
-use native.Mathlib.Decide.{decLt}
 use lib.ListN.{length, set, length-set}
 use Rattle.model.specs.Total.{total}
 use Rattle.model.specs.Formula.{Aggregate}
@@ -85,13 +84,3 @@ module _ (sums : List ℕ) where
 
   pub all-small : Bounded sums → (e : ℕ) → e < 512 → Small (figureAt sums e)
   all-small bounded e lt = (bounded .rates e lt, bounded .bursts e lt, bounded .frames e lt)
-
--- A loop that told of each position before `i`.
-pub before-next : (P : ℕ → Type 0) (i : ℕ) → ((j : ℕ) → j < i → P j) → P i → (j : ℕ) → j < i + 1 → P j
-before-next P i before here j lt = go (decLt j i)
-  where
-    go : Dec (j < i) → P j
-    go (yes low) = before j low
-    go (no high) =
-        let same : i ≡ j = omega arith in
-        subst P same here

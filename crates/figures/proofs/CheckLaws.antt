@@ -20,7 +20,7 @@ use Rattle.model.specs.Schedulable.{All, Named}
 use Rattle.model.specs.Reference.{Cause, linkCause, causeAt, linkFindings, firstCause, thresholdSum}
 use Rattle.model.specs.Laws.All.{all-imp, map-all}
 use Rattle.model.specs.Laws.Figures.{Crossed, crossed}
-use Rattle.queue_table.specs.View.{upTo, queueAt, tableOf, hopAt, isQueue, Columns}
+use Rattle.queue_table.specs.View.{upTo, queueAt, tableOf, hopAt, isQueue, Columns, AllQueues}
 use Rattle.link_check.proofs.Laws.{mapped-next, mapped-end}
 use Rattle.figures.specs.declared.PathFinding.{PathFinding}
 use Rattle.figures.specs.declared.PathFinding.the-variants.{Fits}
@@ -46,7 +46,7 @@ path-split : (entries : List ℕ) (i : ℕ) → i < length entries
 path-split entries i h =
     ap (map hopAt) (split-at entries i 0 h) ∙ map-append hopAt (take i entries) (getD entries i 0 ∷ drop (suc i) entries)
 
-path-named : (n : ℕ) (links queues entries : List ℕ) → All (λ e. isQueue n links e ≡ true) entries → All (Named (tableOf n links queues)) (map hopAt entries)
+path-named : (n : ℕ) (links queues entries : List ℕ) → AllQueues n links entries → All (Named (tableOf n links queues)) (map hopAt entries)
 path-named n links queues entries named =
     map-all (Named (tableOf n links queues)) hopAt entries
     (all-imp entries (λ e q. record { queue = queueAt queues (e / 8) (e % 8); found = queue-named n links e q queues }) named)

@@ -14,7 +14,7 @@ use Rattle.model.specs.Aggregates as model
 use Rattle.model.specs.Schedulable.{All}
 use Rattle.model.specs.Orders.{Hop, Flow}
 use Rattle.model.specs.Laws.Aggregates.{same-hop}
-use Rattle.queue_table.specs.View.{tableOf, hopAt, isQueue}
+use Rattle.queue_table.specs.View.{tableOf, hopAt, isQueue, AllQueues}
 use Rattle.figures.specs.View.{Hops, FlowOf}
 use Rattle.queue_table.proofs.EntryLaws.{threshold-named}
 use Rattle.link_check.proofs.Laws.{mapped-next, mapped-end}
@@ -56,22 +56,22 @@ hop-at {queues} {entries} {sum} {i} hops below more =
 -- What the hops of a path from `i` on add, where the thresholds before them sum to `sum`.
 module _ {rate burst frame : ℕ} {entries : List ℕ} {f : Flow} (is : FlowOf rate burst frame entries f) (n : ℕ) (links queues : List ℕ) (sum i : ℕ) where
   -- The entry of the hop at `i`, and those after it.
-  pub entries-next : All (λ e. isQueue n links e ≡ true) entries → i < length entries
+  pub entries-next : AllQueues n links entries → i < length entries
       → let x : ℕ = getD entries i 0 in
-      model.entries (tableOf n links queues) f sum (drop i (f .path))
+      model.shares (tableOf n links queues) f sum (drop i (f .path))
       ≡ record { hop = hopAt x; adds = record { rate = rate; burst = burstAtHop rate burst sum; frame = frame } }
-      ∷ model.entries (tableOf n links queues) f (sum + getD queues (2 * x) 0) (drop (i + 1) (f .path))
-  unfolding model.entries
+      ∷ model.shares (tableOf n links queues) f (sum + getD queues (2 * x) 0) (drop (i + 1) (f .path))
+  unfolding model.shares
   entries-next named more =
       let x : ℕ = getD entries i 0 in
       let hops : drop i (f .path) ≡ hopAt x ∷ drop (i + 1) (f .path)
       = ap (drop i) (is .path-is) ∙ mapped-next hopAt entries i 0 more ∙ ap (λ l. hopAt x ∷ drop (i + 1) l) (sym (is .path-is)) in
-      ap (model.entries (tableOf n links queues) f sum) hops
+      ap (model.shares (tableOf n links queues) f sum) hops
       ∙ rw (threshold-named n links x (all-at (λ e. isQueue n links e ≡ true) entries i named more) queues, is .rate-is, is .burst-is, is .frame-is)
 
-  pub entries-end : length entries ≤ i → model.entries (tableOf n links queues) f sum (drop i (f .path)) ≡ []
-  unfolding model.entries
-  entries-end end = ap (model.entries (tableOf n links queues) f sum) (ap (drop i) (is .path-is) ∙ mapped-end hopAt entries i end)
+  pub entries-end : length entries ≤ i → model.shares (tableOf n links queues) f sum (drop i (f .path)) ≡ []
+  unfolding model.shares
+  entries-end end = ap (model.shares (tableOf n links queues) f sum) (ap (drop i) (is .path-is) ∙ mapped-end hopAt entries i end)
 
 -- A burst at a hop, in the ranges of document 01.
 pub burst-small : {rate burst sum : ℕ} → rate ≤ 10000000 → burst ≤ 1000000 → sum ≤ 1200000 → burstAtHop rate burst sum ≤ 2 ^ 31

@@ -28,8 +28,8 @@ abbrev pub frameAt : (frame : ℕ) (entries : List ℕ) (e : ℕ) → ℕ
 frameAt frame entries e = largest (hopFrame frame e) entries
 
 frame-entries : (t : Table) (f : Flow) (sum : ℕ) (entries : List ℕ) (e : ℕ)
-    → sharesAt (hopAt e) (model.entries t f sum (map hopAt entries)) .frame ≡ frameAt (f .frame) entries e
-unfolding sharesAt model.entries model.addsAt largest
+    → sharesAt (hopAt e) (model.shares t f sum (map hopAt entries)) .frame ≡ frameAt (f .frame) entries e
+unfolding sharesAt model.shares model.addsAt largest
 frame-entries t f sum [] e = refl
 frame-entries t f sum (x ∷ entries) e =
     ap (max (hopFrame (f .frame) e x)) (frame-entries t f (sum + model.thresholdOf (model.queueAt t (hopAt x))) entries e)
@@ -37,7 +37,7 @@ frame-entries t f sum (x ∷ entries) e =
 frame-alone : (t : Table) (f : Flow) (entries : List ℕ) → f .path ≡ map hopAt entries → (e : ℕ)
     → model.aggregateAt t (f ∷ []) (hopAt e) .frame ≡ frameAt (f .frame) entries e
 frame-alone t f entries path e =
-    ap (λ (a : Aggregate). a .frame) (aggregate-alone t f (hopAt e) ∙ ap (λ l. sharesAt (hopAt e) (model.entries t f 0 l)) path)
+    ap (λ (a : Aggregate). a .frame) (aggregate-alone t f (hopAt e) ∙ ap (λ l. sharesAt (hopAt e) (model.shares t f 0 l)) path)
     ∙ frame-entries t f 0 entries e
 
 pub raised-none : (a : Aggregate) → raised a 0 ≡ a

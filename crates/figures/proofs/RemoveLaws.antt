@@ -11,11 +11,10 @@ use Rattle.model.specs.Orders.{Flow}
 use Rattle.model.specs.Formula.{Aggregate, burstAtHop}
 use Rattle.model.specs.QueueTable.{Table}
 use Rattle.model.specs.Aggregates as model
-use Rattle.model.specs.Schedulable.{All}
 use Rattle.model.specs.WithFlow.{withFlow, together}
 use Rattle.model.specs.Laws.Aggregates.{hop-same}
 use Rattle.model.specs.Laws.Figures.{sharesAt, shares-nothing, shares-other, shares-here, shares-carried, aggregate-alone, aggregate-more}
-use Rattle.queue_table.specs.View.{tableOf, hopAt, isQueue}
+use Rattle.queue_table.specs.View.{tableOf, hopAt, AllQueues}
 use Rattle.figures.specs.View.{figureAt, figureStored, FlowOf, Figures, PathCounted, Carried, FrameLeft, no-flow, unknown, another, HopRemoved, PathRemoved}
 use Rattle.figures.proofs.FigureLaws.{stored-length, stored-here, stored-other, frame-stored, frame-kept}
 use Rattle.figures.proofs.EntryLaws.{other-entry, entries-next, entries-end}
@@ -66,11 +65,11 @@ pub record Near (sure : Type 0) (a b : Aggregate) : Type 0 where
 pub record Removing (rate burst frame : ℕ) (queues entries before sums : List ℕ) (sum i : ℕ) (again : Bool) : Type 0 where
   pub long : length sums ≡ 1536
   pub sum-below : sum ≤ i * 100000
-  pub left : (n : ℕ) (links : List ℕ) (f : Flow) (fs : List Flow) → All (λ e. isQueue n links e ≡ true) entries → FlowOf rate burst frame entries f
+  pub left : (n : ℕ) (links : List ℕ) (f : Flow) (fs : List Flow) → AllQueues n links entries → FlowOf rate burst frame entries f
       → Figures (tableOf n links queues) (f ∷ fs) before
       → (e : ℕ) → e < 512
       → Near ((1 ≤ rate) × Carried (tableOf n links queues) fs × (again ≡ false)) (figureAt sums e)
-      (together (sharesAt (hopAt e) (model.entries (tableOf n links queues) f sum (drop i (f .path)))) (model.aggregateAt (tableOf n links queues) fs (hopAt e)))
+      (together (sharesAt (hopAt e) (model.shares (tableOf n links queues) f sum (drop i (f .path)))) (model.aggregateAt (tableOf n links queues) fs (hopAt e)))
 
 near-same : {sure : Type 0} {a b : Aggregate} → a ≡ b → Near sure a b
 near-same {a = a} {b = b} e = record { rate = rates; burst = ap (λ (x : Aggregate). x .burst) e; low = omega (arith, frames); frame = λ s. frames }
@@ -140,22 +139,22 @@ module _ (rate burst frame : ℕ) (queues entries before : List ℕ) where
       abbrev x : ℕ
       x = getD entries i 0
 
-      module _ (n : ℕ) (links : List ℕ) (f : Flow) (fs : List Flow) (named : All (λ e. isQueue n links e ≡ true) entries) (is : FlowOf rate burst frame entries f)
+      module _ (n : ℕ) (links : List ℕ) (f : Flow) (fs : List Flow) (named : AllQueues n links entries) (is : FlowOf rate burst frame entries f)
           (figures : Figures (tableOf n links queues) (f ∷ fs) before) where
         abbrev t : Table
         t = tableOf n links queues
 
-        abbrev rest : List model.Entry
-        rest = model.entries t f (sum + getD queues (2 * x) 0) (drop (i + 1) (f .path))
+        abbrev rest : List model.Share
+        rest = model.shares t f (sum + getD queues (2 * x) 0) (drop (i + 1) (f .path))
 
-        abbrev entry : model.Entry
-        entry = record { hop = hopAt x; adds = record { rate = rate; burst = burstAtHop rate burst sum; frame = frame } }
+        abbrev share : model.Share
+        share = record { hop = hopAt x; adds = record { rate = rate; burst = burstAtHop rate burst sum; frame = frame } }
 
         abbrev Sure : Bool → Type 0
         Sure again = (1 ≤ rate) × Carried t fs × (again ≡ false)
 
-        -- What was left is this hop's entry and what is left then.
-        left-now : (e : ℕ) → e < 512 → Near (Sure again) (figureAt sums e) (together (sharesAt (hopAt e) (entry ∷ rest)) (model.aggregateAt t fs (hopAt e)))
+        -- What was left is this hop's share and what is left then.
+        left-now : (e : ℕ) → e < 512 → Near (Sure again) (figureAt sums e) (together (sharesAt (hopAt e) (share ∷ rest)) (model.aggregateAt t fs (hopAt e)))
         left-now e lt =
             subst (λ l. Near (Sure again) (figureAt sums e) (together (sharesAt (hopAt e) l) (model.aggregateAt t fs (hopAt e))))
             (entries-next is n links queues sum i named more) (so-far .left n links f fs named is figures e lt)
@@ -163,7 +162,7 @@ module _ (rate burst frame : ℕ) (queues entries before : List ℕ) where
         left-here : Near (Sure again) (figureAt sums x) (together (sharesAt (hopAt x) rest) (withFlow (model.aggregateAt t fs (hopAt x)) rate (burstAtHop rate burst sum) frame))
         left-here =
             subst (Near (Sure again) (figureAt sums x))
-            (shares-here (hopAt x) entry rest (model.aggregateAt t fs (hopAt x)) (hop-same (hopAt x) (hopAt x) refl)) (left-now x e₁)
+            (shares-here (hopAt x) share rest (model.aggregateAt t fs (hopAt x)) (hop-same (hopAt x) (hopAt x) refl)) (left-now x e₁)
 
         here-room : (rate ≤ figureAt sums x .rate) × (burstAtHop rate burst sum ≤ figureAt sums x .burst)
         unfolding together withFlow
@@ -191,7 +190,7 @@ module _ (rate burst frame : ℕ) (queues entries before : List ℕ) where
               rw (removed .stored, stored-other sums x (removed .left) e other)
               (near-less (λ s. (s .0, s .1, both (s .2) .0))
               (subst (λ a. Near (Sure again) (figureAt sums e) (together a (model.aggregateAt t fs (hopAt e))))
-              (shares-other (hopAt e) entry rest (other-entry e x other)) (left-now e lt)))
+              (shares-other (hopAt e) share rest (other-entry e x other)) (left-now e lt)))
 
       -- The flow is counted in at the hop.
       pub removing-room : PathCounted rate burst frame queues entries before → (rate ≤ figureAt sums x .rate) × (burstAtHop rate burst sum ≤ figureAt sums x .burst)

@@ -15,7 +15,7 @@ use Rattle.model.specs.LinkCheck.{linkFinding}
 use Rattle.model.specs.Schedulable.{All, Named, LinkMeets}
 use Rattle.model.specs.WithFlow.{withFlow, together}
 use Rattle.model.specs.Reference.{Cause, firstCause, linkFindings, atHop, metEarlier}
-use Rattle.queue_table.specs.View.{upTo, Columns, tableOf, queueAt, hopAt, isQueue}
+use Rattle.queue_table.specs.View.{upTo, Columns, tableOf, queueAt, hopAt, AllQueues}
 use Rattle.figures.specs.declared.PathFinding.{PathFinding}
 use Rattle.figures.specs.declared.PathFinding.the-variants.{Fits, OverRate, OverDelay, OverBacklog}
 
@@ -64,7 +64,7 @@ pub record FlowOf (rate burst frame : ℕ) (entries : List ℕ) (f : Flow) : Typ
 -- What the path adds at each queue is counted in, and no number grew by more than 2 ^ 35.
 pub record PathAdded (rate burst frame : ℕ) (queues entries sums sums′ : List ℕ) : Type 0 where
   pub long : length sums′ ≡ 1536
-  pub same : (n : ℕ) (links : List ℕ) (f : Flow) → All (λ e. isQueue n links e ≡ true) entries → FlowOf rate burst frame entries f
+  pub same : (n : ℕ) (links : List ℕ) (f : Flow) → AllQueues n links entries → FlowOf rate burst frame entries f
       → (e : ℕ) → e < 512 → figureAt sums′ e ≡ together (aggregateAt (tableOf n links queues) (f ∷ []) (hopAt e)) (figureAt sums e)
   pub below : (bound : ℕ) → Below bound sums → Below (bound + 2 ^ 35) sums′
 
@@ -74,7 +74,7 @@ pub record PathCounted (rate burst frame : ℕ) (queues entries sums : List ℕ)
   pub links : List ℕ
   pub f : Flow
   pub fs : List Flow
-  pub named : All (λ e. isQueue n links e ≡ true) entries
+  pub named : AllQueues n links entries
   pub is : FlowOf rate burst frame entries f
   pub figures : Figures (tableOf n links queues) (f ∷ fs) sums
 
@@ -107,7 +107,7 @@ pub record Left (again : Bool) (a b : Aggregate) : Type 0 where
 -- What the path added at each queue is taken out, where a rate sum of 0 says that no flow is left (`Carried`).
 pub record PathRemoved (rate burst frame : ℕ) (queues entries sums sums′ : List ℕ) (again : Bool) : Type 0 where
   pub long : length sums′ ≡ 1536
-  pub left : (n : ℕ) (links : List ℕ) (f : Flow) (fs : List Flow) → All (λ e. isQueue n links e ≡ true) entries → FlowOf rate burst frame entries f
+  pub left : (n : ℕ) (links : List ℕ) (f : Flow) (fs : List Flow) → AllQueues n links entries → FlowOf rate burst frame entries f
       → Figures (tableOf n links queues) (f ∷ fs) sums → 1 ≤ rate → Carried (tableOf n links queues) fs
       → (e : ℕ) → e < 512 → Left again (figureAt sums′ e) (aggregateAt (tableOf n links queues) fs (hopAt e))
 
@@ -135,7 +135,7 @@ pub record Speeds (links entries : List ℕ) : Type 0 where
 
 -- A path over queues of the table (14) that meets no link twice (16).
 pub record OnTable (n : ℕ) (links entries : List ℕ) : Type 0 where
-  pub named : All (λ e. isQueue n links e ≡ true) entries
+  pub named : AllQueues n links entries
   pub once : atHop 16 metEarlier [] (map hopAt entries) ≡ none
 
 -- Document 01's code, link and level.

@@ -21,6 +21,7 @@ use link_check::Aggregate;
 use link_check::Finding;
 use link_check::LEVELS;
 use link_check::check_link;
+use queue_table::threshold_of;
 use units::Bytes;
 use units::Micros;
 use units::Rate;
@@ -38,14 +39,6 @@ pub enum PathFinding {
 struct LinkQueues {
     thresholds: [Micros; LEVELS],
     buffers: [Bytes; LEVELS],
-}
-
-// The threshold of queue e in µs.
-fn threshold(e: usize, queues: &[u32]) -> u64
-    requires { ⌜ (e < 512) × (length (now queues) ≡ 1024) ⌝ }
-    ensures { λ r. ⌜ r ≡ getD (now (queues .entry)) (2 * e) 0 ⌝ }
-{
-    queues[2 * e] as u64
 }
 
 // The figures of queue e.
@@ -180,7 +173,8 @@ pub fn check_path(
         let PathFinding::Fits = found else {
             return found;
         };
-        sum += threshold(e, queues);
+        let here = threshold_of(e, queues);
+        sum += here.0;
         i += 1;
     }
     PathFinding::Fits
@@ -223,7 +217,8 @@ pub fn add_path(
         let e = entries[i] as usize;
         let there = burst_at_hop(rate, burst, Micros(sum));
         add_hop(e, rate, there, frame, sums);
-        sum += threshold(e, queues);
+        let here = threshold_of(e, queues);
+        sum += here.0;
         i += 1;
     }
 }
@@ -273,7 +268,8 @@ pub fn remove_path(
         let e = entries[i] as usize;
         let there = burst_at_hop(rate, burst, Micros(sum));
         let own = remove_hop(e, rate, there, frame, sums);
-        sum += threshold(e, queues);
+        let here = threshold_of(e, queues);
+        sum += here.0;
         i += 1;
         if own {
             again = true;

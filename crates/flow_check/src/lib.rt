@@ -6,8 +6,7 @@ ghost use mathlib.Core.Option.{none, some};
 ghost use Prim.Native.Nat.{ℕ, _+_, _/_, _%_, _≤_, _<_};
 ghost use lib.ListN.{length, getD};
 ghost use Rattle.model.specs.Reference.{firstCause, isNone, every, heldFlows};
-ghost use Rattle.queue_table.specs.View.{Columns, hopAt, tableOf};
-ghost use Rattle.path_check.specs.Causes.{AllQueues};
+ghost use Rattle.queue_table.specs.View.{Columns, hopAt, tableOf, AllQueues};
 ghost use Rattle.flow_store.specs.View.{Store, slotsOf, countAt, entriesIn};
 ghost use Rattle.orders.specs.Reading.{fieldsOf};
 ghost use Rattle.flow_check.specs.Findings.{causeOf, entryFindings, PathJudged, FlowJudged, RoomJudged, flowAlone, slotAlone, headAt, pathFindings};
@@ -68,7 +67,7 @@ pub fn judge_entries(
         return at_entry(15, entries[apart]);
     }
     let sum = path_check::threshold_sum(queues, entries);
-    if deadline.0 < sum {
+    if deadline.0 < sum.0 {
         return Cause::Whole(20);
     }
     Cause::Nothing

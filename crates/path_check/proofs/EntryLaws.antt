@@ -16,11 +16,10 @@ use Rattle.model.specs.Laws.All.{all-imp}
 use Rattle.model.specs.Aggregates as model
 use Rattle.model.specs.Reference.{atHop, isNone, start, end, every, noQueue, crosses, startsElsewhere, thresholdSum}
 use Rattle.model.specs.Laws.Test.{both-and, every-all}
-use Rattle.queue_table.specs.View.{tableOf, levelsAt, linkAt, hopAt, isQueue}
+use Rattle.queue_table.specs.View.{tableOf, levelsAt, linkAt, hopAt, isQueue, AllQueues}
 use Rattle.queue_table.proofs.LookupLaws.{link-found, queue-found, queue-no-link, queue-no-level, queue-link-zero, queue-level-zero}
 use Rattle.queue_table.proofs.ViewLaws.{same-test}
 use Rattle.queue_table.proofs.EntryLaws.{queue-within, queue-low, threshold-named}
-use Rattle.path_check.specs.Causes.{AllQueues}
 
 -- Link i + 1 is crossed, one entry at a time.
 pub crosses-entry : (i e : ℕ) (path : List Hop) → crosses (i + 1) (hopAt e ∷ path) ≡ (eqb (e / 8) i || crosses (i + 1) path)

@@ -15,8 +15,8 @@ use Rattle.model.specs.Reference.{crosses, startsElsewhere}
 use Rattle.model.specs.Laws.Path.{reverse-take, searchFrom, search-on, search-found, search-ended}
 use Rattle.orders.specs.Reading.{zipHops}
 use Rattle.orders.proofs.PathLaws.{zip-length}
-use Rattle.queue_table.specs.View.{tableOf, hopAt, isQueue}
-use Rattle.path_check.specs.Causes.{causeAt, AllQueues, earlierThan, linePath}
+use Rattle.queue_table.specs.View.{tableOf, hopAt, isQueue, AllQueues}
+use Rattle.path_check.specs.Causes.{hopCause, earlierThan, linePath}
 use Rattle.path_check.proofs.EntryLaws.{crosses-entry, starts-elsewhere}
 
 pub all-at : {A : Type 0} (P : A → Type 0) (l : List A) (i : ℕ) (d : A) → All P l → i < length l → P (getD l i d)
@@ -27,24 +27,24 @@ all-at P (x ∷ l) (suc i) d a h = all-at P l i d (a .1) (omega arith)
 module _ (code : ℕ) where
   -- The cause at a hop of the path, and none past its end.
   pub cause-at : (path : List Hop) (i : ℕ) (d : Hop) → i < length path
-      → causeAt code path i ≡ some (record { code = code; link = getD path i d .link; level = getD path i d .level })
-  unfolding causeAt
+      → hopCause code path i ≡ some (record { code = code; link = getD path i d .link; level = getD path i d .level })
+  unfolding hopCause
   cause-at [] i d h = absurd (omega arith)
   cause-at (x ∷ path) zero d h = refl
   cause-at (x ∷ path) (suc i) d h = cause-at path i d (omega arith)
 
-  pub cause-past : (path : List Hop) (i : ℕ) → length path ≤ i → causeAt code path i ≡ none
-  unfolding causeAt
+  pub cause-past : (path : List Hop) (i : ℕ) → length path ≤ i → hopCause code path i ≡ none
+  unfolding hopCause
   cause-past [] i h = refl
   cause-past (x ∷ path) zero h = absurd (omega arith)
   cause-past (x ∷ path) (suc i) h = cause-past path i (omega arith)
 
 module _ (code : ℕ) (test : List Hop → Hop → Bool) (path : List Hop) where
   pub found-at : (i : ℕ) (d : Hop) → i < length path → test (reverse (take i path)) (getD path i d) ≡ true
-      → searchFrom code test path i ≡ causeAt code path i
+      → searchFrom code test path i ≡ hopCause code path i
   found-at i d h e = search-found code test path i d h e ∙ sym (cause-at code path i d h)
 
-  pub ended-at : (i : ℕ) → length path ≤ i → searchFrom code test path i ≡ causeAt code path i
+  pub ended-at : (i : ℕ) → length path ≤ i → searchFrom code test path i ≡ hopCause code path i
   ended-at i h = search-ended code test path i h ∙ sym (cause-past code path i h)
 
 -- A path of entries.
@@ -56,13 +56,13 @@ module _ (entries : List ℕ) where
   hop-of i = List·getD-map hopAt entries i 0
 
   pub entry-cause : (code i : ℕ) → i < length entries
-      → causeAt code (map hopAt entries) i ≡ some (record { code = code; link = getD entries i 0 / 8 + 1; level = getD entries i 0 % 8 + 1 })
+      → hopCause code (map hopAt entries) i ≡ some (record { code = code; link = getD entries i 0 / 8 + 1; level = getD entries i 0 % 8 + 1 })
   unfolding hopAt
   entry-cause code i h =
       cause-at code (map hopAt entries) i (hopAt 0) (omega (arith, hops-long))
       ∙ ap (λ (x : Hop). some (record { code = code; link = x .link; level = x .level })) (hop-of i)
 
-  pub entry-none : (code i : ℕ) → length entries ≤ i → causeAt code (map hopAt entries) i ≡ none
+  pub entry-none : (code i : ℕ) → length entries ≤ i → hopCause code (map hopAt entries) i ≡ none
   entry-none code i h = cause-past code (map hopAt entries) i (omega (arith, hops-long))
 
   module _ (code : ℕ) (test : List Hop → Hop → Bool) (i : ℕ) where
@@ -72,11 +72,11 @@ module _ (entries : List ℕ) where
         search-on code test (map hopAt entries) i (hopAt 0) (omega (arith, hops-long)) (ap (test (earlierThan entries i)) (hop-of i) ∙ e)
 
     pub entry-found : i < length entries → test (earlierThan entries i) (hopAt (getD entries i 0)) ≡ true
-        → searchFrom code test (map hopAt entries) i ≡ causeAt code (map hopAt entries) i
+        → searchFrom code test (map hopAt entries) i ≡ hopCause code (map hopAt entries) i
     entry-found h e =
         found-at code test (map hopAt entries) i (hopAt 0) (omega (arith, hops-long)) (ap (test (earlierThan entries i)) (hop-of i) ∙ e)
 
-    pub none-found : length entries ≤ i → searchFrom code test (map hopAt entries) i ≡ causeAt code (map hopAt entries) i
+    pub none-found : length entries ≤ i → searchFrom code test (map hopAt entries) i ≡ hopCause code (map hopAt entries) i
     none-found h = ended-at code test (map hopAt entries) i (omega (arith, hops-long))
 
   -- The hops before hop j, the nearest first.
@@ -120,10 +120,10 @@ module _ (hopLinks hopLevels : List ℕ) (hops : ℕ) (l : length hopLinks ≡ 1
   path-hop i d h = getD-take hops (zipHops hopLinks hopLevels) i d h ∙ zip-at hopLinks hopLevels i d (omega arith) (omega arith)
 
   pub line-cause : (code i : ℕ) → i < hops
-      → causeAt code (linePath hopLinks hopLevels hops) i ≡ some (record { code = code; link = getD hopLinks i 0; level = getD hopLevels i 0 })
+      → hopCause code (linePath hopLinks hopLevels hops) i ≡ some (record { code = code; link = getD hopLinks i 0; level = getD hopLevels i 0 })
   line-cause code i h =
       cause-at code (linePath hopLinks hopLevels hops) i (lineHop hopLinks hopLevels i) (omega (arith, path-long))
       ∙ ap (λ (x : Hop). some (record { code = code; link = x .link; level = x .level })) (path-hop i (lineHop hopLinks hopLevels i) h)
 
-  pub line-none : (code i : ℕ) → hops ≤ i → causeAt code (linePath hopLinks hopLevels hops) i ≡ none
+  pub line-none : (code i : ℕ) → hops ≤ i → hopCause code (linePath hopLinks hopLevels hops) i ≡ none
   line-none code i h = cause-past code (linePath hopLinks hopLevels hops) i (omega (arith, path-long))

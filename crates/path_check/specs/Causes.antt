@@ -6,24 +6,19 @@ use mathlib.Core.List.{List, [], _∷_, map, reverse}
 use mathlib.Core.Option.{Option, none, some}
 use lib.ListN.{take}
 use Rattle.model.specs.Orders.{Hop}
-use Rattle.model.specs.Schedulable.{All}
 use Rattle.model.specs.Aggregates.{queueAt}
 use Rattle.model.specs.Reference.{Cause, atHop, noQueue}
 use Rattle.orders.specs.Reading.{zipHops}
-use Rattle.queue_table.specs.View.{tableOf, hopAt, isQueue}
+use Rattle.queue_table.specs.View.{tableOf, hopAt, isQueue, AllQueues}
 use Rattle.path_check.specs.declared.Located.{Located}
 use Rattle.path_check.specs.declared.Entry.{Entry}
 use Rattle.path_check.specs.declared.Entry.the-variants.{At, Missing}
 
 -- The cause with this code at hop i of a path, counted from 0; none past its end.
-unfoldable pub causeAt : (code : ℕ) (path : List Hop) (i : ℕ) → Option Cause
-causeAt code [] i = none
-causeAt code (h ∷ path) zero = some (record { code = code; link = h .link; level = h .level })
-causeAt code (h ∷ path) (suc i) = causeAt code path i
-
--- Each entry names a queue of the first n links.
-abbrev pub AllQueues : (n : ℕ) (links entries : List ℕ) → Type 0
-AllQueues n links entries = All (λ e. isQueue n links e ≡ true) entries
+unfoldable pub hopCause : (code : ℕ) (path : List Hop) (i : ℕ) → Option Cause
+hopCause code [] i = none
+hopCause code (h ∷ path) zero = some (record { code = code; link = h .link; level = h .level })
+hopCause code (h ∷ path) (suc i) = hopCause code path i
 
 -- The entry names the hop's queue, and there is none only where the table has no such queue.
 abbrev pub EntryOf : (n : ℕ) (links : List ℕ) → Hop → Entry → Type 0
@@ -41,7 +36,7 @@ linePath hopLinks hopLevels hops = take hops (zipHops hopLinks hopLevels)
 -- `missing` is the first hop without a queue, and the hop count where each has one; then the entries name the path.
 pub record PathLocated (n : ℕ) (links hopLinks hopLevels : List ℕ) (hops : ℕ) (r : Located) : Type 0 where
   pub first : (queues : List ℕ)
-      → atHop 14 (noQueue (tableOf n links queues)) [] (linePath hopLinks hopLevels hops) ≡ causeAt 14 (linePath hopLinks hopLevels hops) (r .missing)
+      → atHop 14 (noQueue (tableOf n links queues)) [] (linePath hopLinks hopLevels hops) ≡ hopCause 14 (linePath hopLinks hopLevels hops) (r .missing)
   pub within : r .missing ≤ hops
   pub named : r .missing ≡ hops → map hopAt (take hops (r .entries)) ≡ linePath hopLinks hopLevels hops
   pub queues : r .missing ≡ hops → AllQueues n links (take hops (r .entries))

@@ -9,8 +9,10 @@ ghost use Prim.Native.Nat.{ℕ, _*_, _/_, _≤_, _<_};
 ghost use lib.ListN.{length, getD};
 ghost use Rattle.model.specs.Schedulable.{All};
 ghost use Rattle.model.specs.Reference.{atHop, isNone, noQueue, metEarlier, startsElsewhere, thresholdSum};
-ghost use Rattle.queue_table.specs.View.{tableOf, levelsAt, hopAt, isQueue};
-ghost use Rattle.path_check.specs.Causes.{causeAt, AllQueues, earlierThan, EntryOf, PathLocated};
+ghost use Rattle.queue_table.specs.View.{tableOf, levelsAt, hopAt, isQueue, AllQueues};
+ghost use Rattle.path_check.specs.Causes.{hopCause, earlierThan, EntryOf, PathLocated};
+use queue_table::threshold_of;
+use units::Micros;
 
 // The first hop without a queue, and the hop count where each has one: then the entries name the path, else they are free.
 pub struct Located {
@@ -119,7 +121,7 @@ fn met_before(entries: &[u32], i: usize) -> bool
 
 // 16 a link met earlier on the path.
 pub fn repeated(entries: &[u32]) -> usize
-    ensures { λ r. ⌜ atHop 16 metEarlier [] (map hopAt (now (entries .entry))) ≡ causeAt 16 (map hopAt (now (entries .entry))) r ⌝ }
+    ensures { λ r. ⌜ atHop 16 metEarlier [] (map hopAt (now (entries .entry))) ≡ hopCause 16 (map hopAt (now (entries .entry))) r ⌝ }
     ensures within { λ r. ⌜ r ≤ length (now (entries .entry)) ⌝ }
 {
     let mut i = 0;
@@ -156,7 +158,7 @@ fn starts_elsewhere(links: &[u32], entries: &[u32], i: usize) -> bool
 // 15 a link doesn't start where the one before ended. The entries name queues of the first n links, of which the contract speaks.
 pub fn broken(n: usize, links: &[u32], entries: &[u32]) -> usize
     requires { ⌜ (n ≤ 64) × (length (now links) ≡ 256) × AllQueues n (now links) (now entries) ⌝ }
-    ensures { λ r. ⌜ ((queues : List ℕ) → atHop 15 (startsElsewhere (tableOf n (now (links .entry)) queues)) [] (map hopAt (now (entries .entry))) ≡ causeAt 15 (map hopAt (now (entries .entry))) r) ⌝ }
+    ensures { λ r. ⌜ ((queues : List ℕ) → atHop 15 (startsElsewhere (tableOf n (now (links .entry)) queues)) [] (map hopAt (now (entries .entry))) ≡ hopCause 15 (map hopAt (now (entries .entry))) r) ⌝ }
     ensures within { λ r. ⌜ r ≤ length (now (entries .entry)) ⌝ }
 {
     let mut i = 0;
@@ -169,25 +171,17 @@ pub fn broken(n: usize, links: &[u32], entries: &[u32]) -> usize
     i
 }
 
-// The threshold of an entry's queue.
-fn threshold_of(queues: &[u32], entry: u32) -> u64
-    requires { ⌜ (length (now queues) ≡ 1024) × (entry < 512) ⌝ }
-    ensures { λ r. ⌜ (r ≡ getD (now (queues .entry)) (2 * entry) 0) × (r < 4294967296) ⌝ }
-{
-    let at = 2 * (entry as usize);
-    queues[at] as u64
-}
-
 // The sum of the thresholds along a path. Twelve numbers of 32 bits fit.
-pub fn threshold_sum(queues: &[u32], entries: &[u32]) -> u64
+pub fn threshold_sum(queues: &[u32], entries: &[u32]) -> Micros
     requires { ⌜ (length (now queues) ≡ 1024) × All (λ e. e < 512) (now entries) × (length (now entries) ≤ 12) ⌝ }
-    ensures { λ r. ⌜ ((n : ℕ) (links : List ℕ) → AllQueues n links (now (entries .entry)) → r ≡ thresholdSum (tableOf n links (now (queues .entry))) (map hopAt (now (entries .entry)))) ⌝ }
+    ensures { λ r. ⌜ ((n : ℕ) (links : List ℕ) → AllQueues n links (now (entries .entry)) → r .0 ≡ thresholdSum (tableOf n links (now (queues .entry))) (map hopAt (now (entries .entry)))) ⌝ }
 {
     let mut sum: u64 = 0;
     let mut i = 0;
     while i < entries.len() {
-        sum += threshold_of(queues, entries[i]);
+        let here = threshold_of(entries[i] as usize, queues);
+        sum += here.0;
         i += 1;
     }
-    sum
+    Micros(sum)
 }

@@ -1,12 +1,13 @@
 -- What the columns and answers of this crate say in the terms of the model.
 use Prim.Native.Nat.{ℕ, zero, suc, _+_, _-_, _*_, _/_, _%_, _≤_, _<_}
 use mathlib.Core.Path.{_≡_}
-use mathlib.Core.Bool.{Bool, cond, _&&_}
+use mathlib.Core.Bool.{Bool, true, cond, _&&_}
 use mathlib.Core.List.{List, [], _∷_, _++_}
 use mathlib.Core.Option.{Option, none, some}
 use lib.ListN.{length, getD, drop}
 use lib.Seq.{sets}
 use lib.Dec.{ltb, eqb}
+use Rattle.model.specs.Schedulable.{All}
 use Rattle.model.specs.Columns.{ended, lines}
 use Rattle.model.specs.QueueTable as model
 use Rattle.model.specs.Orders.{Hop}
@@ -78,6 +79,10 @@ hopAt entry = record { link = entry / 8 + 1; level = entry % 8 + 1 }
 -- A queue of the first n links, by its entry.
 unfoldable pub isQueue : (n : ℕ) (links : List ℕ) (entry : ℕ) → Bool
 isQueue n links entry = ltb (entry / 8) n && ltb (entry % 8) (levelsAt links (entry / 8))
+
+-- Each entry names a queue of the first n links.
+abbrev pub AllQueues : (n : ℕ) (links entries : List ℕ) → Type 0
+AllQueues n links entries = All (λ e. isQueue n links e ≡ true) entries
 
 -- Two columns of the right size that hold n links of at most 8 levels.
 pub record Columns (n : ℕ) (links queues : List ℕ) : Type 0 where

@@ -6,8 +6,8 @@ mod consistency;
 mod row;
 
 ghost use mathlib.Core.Path.{_≡_};
-ghost use Prim.Native.Nat.{_<_};
-ghost use lib.ListN.{length};
+ghost use Prim.Native.Nat.{_*_, _<_};
+ghost use lib.ListN.{length, getD};
 ghost use Rattle.queue_table.specs.View.{Columns, Placed, numbersOf, linkStored, queueStored, LineAdded, LineTaken, TableFilled};
 use columns::NextLine;
 pub use consistency::consistent;
@@ -15,6 +15,7 @@ use row::Row;
 use row::RowRead;
 use row::read_row;
 use row::row_cause;
+use units::Micros;
 
 // What a line does: a code, 0 where there is none, and the number of links from then on.
 struct Step {
@@ -144,4 +145,12 @@ pub fn read_table(text: &[u8]) -> QueueTable
         links,
         queues,
     }
+}
+
+// The threshold of the queue of level e % 8 on link e / 8, both counted from 0.
+pub fn threshold_of(e: usize, queues: &[u32]) -> Micros
+    requires { ⌜ (e < 512) × (length (now queues) ≡ 1024) ⌝ }
+    ensures { λ r. ⌜ (r .0 ≡ getD (now (queues .entry)) (2 * e) 0) × (r .0 < 4294967296) ⌝ }
+{
+    Micros(queues[2 * e] as u64)
 }

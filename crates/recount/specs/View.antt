@@ -1,14 +1,12 @@
 -- What a recount asks of the columns, and what it leaves.
 use Prim.Native.Nat.{ℕ, _-_, _*_, _^_, _≤_, _<_}
 use mathlib.Core.Path.{_≡_}
-use mathlib.Core.Bool.{true}
 use mathlib.Core.List.{List}
 use lib.ListN.{length, drop}
 use Rattle.model.specs.Reference.{heldFlows}
-use Rattle.model.specs.Schedulable.{All}
 use Rattle.model.specs.QueueTable.{Table}
 use Rattle.model.specs.Aggregates.{aggregateAt}
-use Rattle.queue_table.specs.View.{tableOf, hopAt, isQueue}
+use Rattle.queue_table.specs.View.{tableOf, hopAt, AllQueues}
 use Rattle.flow_store.specs.View.{Store, rateAt, burstAt, frameAt, countAt, countsFrom, slotsFrom, slotsOf, entriesIn}
 use Rattle.figures.specs.View.{figureAt, Below, Figures, Hops, raised}
 
@@ -28,7 +26,7 @@ pub record Countable (queues slots pool : List ℕ) : Type 0 where
 
 -- Each hop entry of each slot is a queue of the first n links.
 abbrev pub OnQueues : (n : ℕ) (links slots pool : List ℕ) → Type 0
-OnQueues n links slots pool = (i : ℕ) → i < 256 → All (λ e. isQueue n links e ≡ true) (entriesIn slots pool i)
+OnQueues n links slots pool = (i : ℕ) → i < 256 → AllQueues n links (entriesIn slots pool i)
 
 -- The column holds the figures of the flows in the slots from slot i on.
 pub record Counted (queues slots pool sums : List ℕ) (i : ℕ) : Type 0 where

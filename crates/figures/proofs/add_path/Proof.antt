@@ -40,17 +40,17 @@ add-hop-requires c κs =
       (omega (arith, start at .pre .0), rw (c .before .burst-at-hop .ensures) (burst-small (start at .pre .0 .0) (start at .pre .0 .1 .0) (hop at .2))),
     )
 
-threshold-requires : tie.Need-threshold-requires Inv-loop μ-loop
-threshold-requires c κs = (hop (c .before .before .before .before .before .before) .0, start (c .before .before .before .before .before .before) .pre .1 .0 .queues-long)
+threshold-of-requires : tie.Need-threshold-of-requires Inv-loop μ-loop
+threshold-of-requires c κs = (hop (c .before .before .before .before .before .before) .0, start (c .before .before .before .before .before .before) .pre .1 .0 .queues-long)
 
 add-sum : tie.Need-add-sum Inv-loop μ-loop
-add-sum c = omega (arith, c .threshold .ensures, hop (c .before .before .before .before .before .before .before))
+add-sum c = omega (arith, c .before .threshold-of .ensures .0, hop (c .before .before .before .before .before .before .before .before))
 
 loop-again : tie.Need-loop-again Inv-loop μ-loop
 loop-again c =
-    let at = c .before .before .before .before .before .before .before in
+    let at = c .before .before .before .before .before .before .before .before in
     let args = start at .args in
-    rw (c .threshold .ensures, c .before .before .before .add-hop .ensures, c .before .before .before .before .before .burst-at-hop .ensures)
+    rw (c .before .threshold-of .ensures .0, c .before .before .before .before .add-hop .ensures, c .before .before .before .before .before .before .burst-at-hop .ensures)
     (adding-next (args .rate .0) (args .burst .0) (args .frame .0) (args .queues .now) (args .entries .now) (args .sums .now) (at .before .loop .inv)
     (at .loop-test .taken) (hop at .0) (hop at .1) (omega (arith, start at .pre .0), burst-small (start at .pre .0 .0) (start at .pre .0 .1 .0) (hop at .2), omega (arith, start at .pre .0)))
 
@@ -63,5 +63,5 @@ returns c = adding-all _ _ _ _ _ _ (c .before .loop .inv) (c .loop-test .left) (
 pub add-path-spec : {M : Type 1} → statement M
 add-path-spec =
     tie.close
-    (tie.spec Inv-loop μ-loop loop-holds (λ c. search needs) (λ c. search needs) cast-e burst-at-hop-requires add-hop-requires threshold-requires
+    (tie.spec Inv-loop μ-loop loop-holds (λ c. search needs) (λ c. search needs) cast-e burst-at-hop-requires add-hop-requires threshold-of-requires
     add-sum (λ c. search needs) (λ c. search needs) loop-again same-length returns)

@@ -7,10 +7,11 @@ use mathlib.Core.Bool.{true, false, false≢true}
 use mathlib.Core.List.{List}
 use mathlib.Core.Logic.{_↔_}
 use native.Mathlib.Omega.{arith}
+use Rattle.model.specs.Laws.List.{before-next}
 use Rattle.model.specs.Formula as model
 use Rattle.link_check.specs.Levels.{aggregateOf}
 use Rattle.figures.specs.View.{figureAt, Bounded}
-use Rattle.figures.proofs.BoundLaws.{Small, small-all, all-small, before-next}
+use Rattle.figures.proofs.BoundLaws.{Small, small-all, all-small}
 use Rattle.figures.proofs.bounded.Statement.{statement}
 use Rattle.figures.proofs.bounded.Tie as tie
 

@@ -80,18 +80,18 @@ returns c =
     let result = c .before .check-hop .result in
     checking-found _ _ _ _ _ _ _ (at .before .loop .inv) (at .loop-test .taken) result (found (c .before)) (faulty result (c .match .keys2))
 
-threshold-requires : tie.Need-threshold-requires Inv-loop μ-loop
-threshold-requires c κs = (hop (c .before .before .before .before .before) .0, start (c .before .before .before .before .before) .pre .1 .0 .queues-long)
+threshold-of-requires : tie.Need-threshold-of-requires Inv-loop μ-loop
+threshold-of-requires c κs = (hop (c .before .before .before .before .before) .0, start (c .before .before .before .before .before) .pre .1 .0 .queues-long)
 
 add-sum : tie.Need-add-sum Inv-loop μ-loop
-add-sum c = omega (arith, c .threshold .ensures, hop (c .before .before .before .before .before .before))
+add-sum c = omega (arith, c .before .threshold-of .ensures .0, hop (c .before .before .before .before .before .before .before))
 
 loop-again : tie.Need-loop-again Inv-loop μ-loop
 loop-again c =
-    let at = c .before .before .before .before .before .before in
-    rw (c .threshold .ensures)
-    (checking-next _ _ _ _ _ _ _ (at .before .loop .inv) (at .loop-test .taken) (c .before .before .before .check-hop .result) (found (c .before .before .before))
-    (ap causeOf (c .before .enum-told .given .1)) (hop at .1))
+    let at = c .before .before .before .before .before .before .before in
+    rw (c .before .threshold-of .ensures .0)
+    (checking-next _ _ _ _ _ _ _ (at .before .loop .inv) (at .loop-test .taken) (c .before .before .before .before .check-hop .result) (found (c .before .before .before .before))
+    (ap causeOf (c .before .before .enum-told .given .1)) (hop at .1))
 
 returns-2 : tie.Need-returns-2 Inv-loop μ-loop
 returns-2 c = checking-all _ _ _ _ _ _ _ (c .before .loop .inv) (c .loop-test .left)
@@ -100,4 +100,4 @@ pub check-path-spec : {M : Type 1} → statement M
 check-path-spec =
     tie.close
     (tie.spec Inv-loop μ-loop loop-holds (λ c. search needs) (λ c. search needs) cast-e burst-at-hop-requires check-hop-requires (λ c. search needs)
-    returns threshold-requires add-sum (λ c. search needs) (λ c. search needs) loop-again returns-2)
+    returns threshold-of-requires add-sum (λ c. search needs) (λ c. search needs) loop-again returns-2)

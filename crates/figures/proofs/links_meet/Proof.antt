@@ -6,8 +6,8 @@ use mathlib.Core.Path.{_≡_, sym, _∙_}
 use mathlib.Core.Bool.{true≢false, false≢true}
 use native.Mathlib.Omega.{arith}
 use borrow.Author.Tests.{eqb-true, eqb-false, not-true, not-false}
+use Rattle.model.specs.Laws.List.{before-next}
 use Rattle.figures.specs.View.{codeAt}
-use Rattle.figures.proofs.BoundLaws.{before-next}
 use Rattle.figures.proofs.LinkLaws.{meets-code, codes-meet}
 use Rattle.figures.proofs.links_meet.Statement.{statement}
 use Rattle.figures.proofs.links_meet.Tie as tie

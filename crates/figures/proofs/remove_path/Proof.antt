@@ -40,25 +40,25 @@ remove-hop-requires c κs =
     let room = removing-room _ _ _ _ _ _ now (at .loop-test .taken) (hop at .0) (start at .pre .1 .1) in
     ((hop at .0, now .long), (room .0, rw (c .before .burst-at-hop .ensures) (room .1)))
 
-threshold-requires : tie.Need-threshold-requires Inv-loop μ-loop
-threshold-requires c κs = (hop (c .before .before .before .before .before .before) .0, start (c .before .before .before .before .before .before) .pre .1 .0 .queues-long)
+threshold-of-requires : tie.Need-threshold-of-requires Inv-loop μ-loop
+threshold-of-requires c κs = (hop (c .before .before .before .before .before .before) .0, start (c .before .before .before .before .before .before) .pre .1 .0 .queues-long)
 
 add-sum : tie.Need-add-sum Inv-loop μ-loop
-add-sum c = omega (arith, c .threshold .ensures, hop (c .before .before .before .before .before .before .before))
+add-sum c = omega (arith, c .before .threshold-of .ensures .0, hop (c .before .before .before .before .before .before .before .before))
 
 loop-again : tie.Need-loop-again Inv-loop μ-loop
 loop-again c =
-    let at = c .before .before .before .before .before .before .before .before in
-    rw (c .before .threshold .ensures)
-    (removing-next _ _ _ _ _ _ (at .before .loop .inv) (at .loop-test .taken) (hop at .0) (hop at .1) (c .before .before .before .before .before .before .burst-at-hop .ensures)
-    (c .before .before .before .before .remove-hop .ensures) (λ no. absurd (true≢false no)))
+    let at = c .before .before .before .before .before .before .before .before .before in
+    rw (c .before .before .threshold-of .ensures .0)
+    (removing-next _ _ _ _ _ _ (at .before .loop .inv) (at .loop-test .taken) (hop at .0) (hop at .1) (c .before .before .before .before .before .before .before .burst-at-hop .ensures)
+    (c .before .before .before .before .before .remove-hop .ensures) (λ no. absurd (true≢false no)))
 
 loop-again-2 : tie.Need-loop-again-2 Inv-loop μ-loop
 loop-again-2 c =
-    let at = c .before .before .before .before .before .before .before .before in
-    rw (c .before .threshold .ensures)
-    (removing-next _ _ _ _ _ _ (at .before .loop .inv) (at .loop-test .taken) (hop at .0) (hop at .1) (c .before .before .before .before .before .before .burst-at-hop .ensures)
-    (c .before .before .before .before .remove-hop .ensures) (λ no. (no, c .if1 .left)))
+    let at = c .before .before .before .before .before .before .before .before .before in
+    rw (c .before .before .threshold-of .ensures .0)
+    (removing-next _ _ _ _ _ _ (at .before .loop .inv) (at .loop-test .taken) (hop at .0) (hop at .1) (c .before .before .before .before .before .before .before .burst-at-hop .ensures)
+    (c .before .before .before .before .before .remove-hop .ensures) (λ no. (no, c .if1 .left)))
 
 same-length : tie.Need-same-length Inv-loop μ-loop
 same-length c = c .before .loop .inv .long ∙ sym (c .before .before .before .before .before .pre .1 .1 .figures .long)
@@ -69,5 +69,5 @@ returns c = removing-all _ _ _ _ _ _ (c .before .loop .inv) (c .loop-test .left)
 pub remove-path-spec : {M : Type 1} → statement M
 remove-path-spec =
     tie.close
-    (tie.spec Inv-loop μ-loop loop-holds (λ c. search needs) (λ c. search needs) cast-e burst-at-hop-requires remove-hop-requires threshold-requires
+    (tie.spec Inv-loop μ-loop loop-holds (λ c. search needs) (λ c. search needs) cast-e burst-at-hop-requires remove-hop-requires threshold-of-requires
     add-sum (λ c. search needs) (λ c. search needs) loop-again (λ c. search needs) loop-again-2 same-length returns)

@@ -45,16 +45,16 @@ threshold-sum-requires c κs =
 returns-3 : tie.Need-returns-3
 unfolding firstCause entryFindings whole
 returns-3 c =
-    let start = c .before .before .before .before .before .before .before .before .before .before in
-    let sum = c .before .before .threshold-sum .ensures (start .args .n) (start .args .links .now) (start .pre .1) in
-    sym (simp (once (c .before .before .before .before .before), joined (c .before .before .before), sym sum, lt-ltb _ _ (c .if3 .taken)))
+    let start = c .before .before .before .before .before .before .before .before .before .before .before in
+    let sum = c .before .before .before .threshold-sum .ensures (start .args .n) (start .args .links .now) (start .pre .1) in
+    sym (simp (once (c .before .before .before .before .before .before), joined (c .before .before .before .before), sym sum, lt-ltb _ _ (c .if3 .taken)))
 
 returns-4 : tie.Need-returns-4
 unfolding firstCause entryFindings whole
 returns-4 c =
-    let start = c .before .before .before .before .before .before .before .before .before .before in
-    let sum = c .before .before .threshold-sum .ensures (start .args .n) (start .args .links .now) (start .pre .1) in
-    sym (simp (once (c .before .before .before .before .before), joined (c .before .before .before), sym sum, le-ltb _ _ (c .if3 .left)))
+    let start = c .before .before .before .before .before .before .before .before .before .before .before in
+    let sum = c .before .before .before .threshold-sum .ensures (start .args .n) (start .args .links .now) (start .pre .1) in
+    sym (simp (once (c .before .before .before .before .before .before), joined (c .before .before .before .before), sym sum, le-ltb _ _ (c .if3 .left)))
 
 pub judge-entries-spec : {M : Type 1} → statement M
 judge-entries-spec =

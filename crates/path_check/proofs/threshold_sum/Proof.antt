@@ -22,21 +22,27 @@ abbrev μ-loop : tie.MeasureT-loop
 loop-holds : tie.Need-loop-holds Inv-loop μ-loop
 loop-holds c = (omega arith, omega arith, omega arith)
 
+low : (c : tie.In-loop Inv-loop μ-loop) → getD (c .before .before .before .before .args .entries .now) (c .before .loop .i) 0 < 512
+low c =
+    let start = c .before .before .before .before in
+    all-at (λ e. e < 512) (start .args .entries .now) (c .before .loop .i) 0 (start .pre .1) (omega (arith, c .loop-test .taken))
+
+cast-threshold-of : tie.Need-cast-threshold-of Inv-loop μ-loop
+cast-threshold-of c = omega (arith, low (c .before))
+
 threshold-of-requires : tie.Need-threshold-of-requires Inv-loop μ-loop
-threshold-of-requires c κs =
-    let start = c .before .before .before .before .before in
-    (start .pre .0, all-at (λ e. e < 512) (start .args .entries .now) (c .before .before .loop .i) 0 (start .pre .1) (omega arith))
+threshold-of-requires c κs = (low (c .before), c .before .before .before .before .before .pre .0)
 
 add-sum : tie.Need-add-sum Inv-loop μ-loop
-add-sum c = omega (arith, c .threshold-of .ensures .1, c .before .before .before .loop .inv .1, c .before .before .before .before .before .before .pre .2)
+add-sum c = omega (arith, c .before .threshold-of .ensures .1, c .before .before .before .before .loop .inv .1, c .before .before .before .before .before .before .before .pre .2)
 
 loop-again : tie.Need-loop-again Inv-loop μ-loop
 loop-again c =
-    let args = c .before .before .before .before .before .before .args in
-    let l = c .before .before .before .loop in (
+    let args = c .before .before .before .before .before .before .before .args in
+    let l = c .before .before .before .before .loop in (
       omega arith,
-      omega (arith, c .threshold-of .ensures .1, l .inv .1),
-      omega (arith, c .threshold-of .ensures .0, l .inv .2, total-on (λ e. getD (args .queues .now) (2 * e) 0) (args .entries .now) (l .i) 0 (omega arith)),
+      omega (arith, c .before .threshold-of .ensures .1, l .inv .1),
+      omega (arith, c .before .threshold-of .ensures .0, l .inv .2, total-on (λ e. getD (args .queues .now) (2 * e) 0) (args .entries .now) (l .i) 0 (omega arith)),
     )
 
 returns : tie.Need-returns Inv-loop μ-loop
@@ -49,5 +55,5 @@ returns c =
 pub threshold-sum-spec : {M : Type 1} → statement M
 threshold-sum-spec =
     tie.close
-    (tie.spec Inv-loop μ-loop loop-holds (λ c. search needs) (λ c. search needs) threshold-of-requires add-sum (λ c. search needs) (λ c. search needs)
-    loop-again returns)
+    (tie.spec Inv-loop μ-loop loop-holds (λ c. search needs) (λ c. search needs) cast-threshold-of threshold-of-requires add-sum (λ c. search needs)
+    (λ c. search needs) loop-again returns)
