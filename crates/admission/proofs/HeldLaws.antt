@@ -1,18 +1,17 @@
 -- Held flows that are each right by themselves can be recounted.
 -- Assumes nothing.
 use Prim.Native.Nat.{ℕ, zero, suc, _+_, _≤_, _<_}
-use mathlib.Core.Path.{_≡_, refl, ap, subst, _∙_}
+use mathlib.Core.Path.{_≡_, refl, ap, _∙_}
 use mathlib.Core.Bool.{true, _&&_}
 use mathlib.Core.List.{List, [], _∷_, _++_}
-use mathlib.Core.Option.{none, some, Option·some-injective, Option·none-ne-some}
+use mathlib.Core.Option.{none, some}
 use native.Mathlib.Omega.{arith}
-use lib.ListN.{getD}
 use lib.Dec.{leb}
 use borrow.Author.Tests.{ne-eqb, le-leb}
+use Rattle.model.specs.Laws.Slot.{held-at}
 use Rattle.model.specs.QueueTable.{Table}
 use Rattle.model.specs.Orders.{Flow}
-use Rattle.model.specs.Schedulable.{All}
-use Rattle.model.specs.Reference.{Slot, State, heldFlows, withNumber, every, isNone, atHop, noQueue, lineFindings, deadlineFinding}
+use Rattle.model.specs.Reference.{State, heldFlows, withNumber, every, isNone, atHop, noQueue, lineFindings, deadlineFinding}
 use Rattle.model.specs.Consistent.{flowInRange, tableConsistent}
 use Rattle.model.specs.Laws.Test.{and-both, both-and, every-all, all-every}
 use Rattle.model.specs.Laws.All.{all-append, all-imp}
@@ -26,15 +25,6 @@ use Rattle.flow_store.proofs.ViewLaws.{slot-at, entries-long, flow-long}
 use Rattle.flow_check.specs.Findings.{flowAlone}
 use Rattle.recount.specs.View.{Countable, OnQueues}
 use Rattle.admission.proofs.KeptLaws.{Ranges, ranges, hops-ranged}
-
--- What holds of each held flow holds of the one in a slot.
-in-slot : (P : Flow → Type 0) (slots : List Slot) (i : ℕ) {f : Flow} → All P (heldFlows slots) → getD slots i none ≡ some f → P f
-unfolding heldFlows
-in-slot P [] i a e = absurd (Option·none-ne-some _ e)
-in-slot P (none ∷ slots) zero a e = absurd (Option·none-ne-some _ e)
-in-slot P (none ∷ slots) (suc i) a e = in-slot P slots i a e
-in-slot P (some g ∷ slots) zero a e = subst P (Option·some-injective _ _ e) (a .0)
-in-slot P (some g ∷ slots) (suc i) a e = in-slot P slots i (a .1) e
 
 pub slot-held : (count : ℕ) (f : Flow) → 1 ≤ count → slotOf count f ≡ some f
 unfolding slotOf
@@ -53,7 +43,7 @@ module _ (n : ℕ) (links queues slots pool : List ℕ) (columns : Columns n lin
   unfolding flowAlone lineFindings
   by-itself i lt held =
       let found = slot-at slots i pool lt ∙ slot-held (countAt slots i) (flow i) held in
-      let e = in-slot (λ (f : Flow). flowAlone t (heldFlows (slotsOf slots pool)) f ≡ true) (slotsOf slots pool) i (every-all (flowAlone t (heldFlows (slotsOf slots pool))) (heldFlows (slotsOf slots pool)) alone) found in
+      let e = held-at (λ (f : Flow). flowAlone t (heldFlows (slotsOf slots pool)) f ≡ true) (slotsOf slots pool) i (every-all (flowAlone t (heldFlows (slotsOf slots pool))) (heldFlows (slotsOf slots pool)) alone) found in
       let (e₁, causes) = and-both (flowInRange (flow i) && leb (withNumber (flow i .number) (heldFlows (slotsOf slots pool))) 1) _ e in
       let (range, number) = and-both (flowInRange (flow i)) _ e₁ in
       let passed = none-applies (lineFindings t (flow i) ++ deadlineFinding t (flow i) ∷ []) (is-none _ causes) in

@@ -3,13 +3,13 @@
 use Prim.Native.Nat.{ℕ, zero, suc, _+_, _*_, _/_, _%_, _^_, _≤_, _<_}
 use mathlib.Core.Path.{_≡_, refl, sym, ap, subst, _∙_}
 use mathlib.Core.Bool.{Bool, true, false, _&&_}
-use mathlib.Core.List.{List, [], _∷_, map}
+use mathlib.Core.List.{List, [], map}
 use mathlib.Core.Option.{Option, none, some, Option·none-ne-some, Option·some-injective}
 use native.Mathlib.Nat.{div-add-mod, mod-lt}
 use native.Mathlib.Omega.{arith}
 use borrow.Author.Tests.{ltb-true, ltb-false}
 use lib.Dec.{ltb}
-use lib.ListN.{length, getD, set, take, length-map}
+use lib.ListN.{length, getD, set, take, length-map, List·getD-eq-default}
 use lib.Seq.{length-take-le}
 use Rattle.model.specs.Columns.{between}
 use Rattle.model.specs.Laws.Columns.{between-true}
@@ -73,11 +73,6 @@ ranges f e =
       few = between-true 1 12 (length (f .path)) hops .1;
     }
 
-getD-past : (l : List ℕ) (j : ℕ) → length l ≤ j → getD l j 0 ≡ 0
-getD-past [] j h = refl
-getD-past (x ∷ l) zero h = absurd (omega arith)
-getD-past (x ∷ l) (suc j) h = getD-past l j (omega arith)
-
 -- Every number of a bounded column is small.
 pub bounded-below : (sums : List ℕ) → Bounded sums → Below (2 ^ 62) sums
 unfolding figureAt
@@ -90,7 +85,7 @@ bounded-below sums b j = go (ltb j (length sums)) refl
     third e (suc (suc (suc r))) p lt low = absurd (omega arith)
 
     go : (within : Bool) → ltb j (length sums) ≡ within → getD sums j 0 ≤ 2 ^ 62
-    go false e = omega (arith, getD-past sums j (ltb-false j (length sums) e))
+    go false e = omega (arith, List·getD-eq-default sums 0 {n = j} (ltb-false j (length sums) e))
     go true e =
         third (j / 3) (j % 3) (omega (arith, div-add-mod j 3)) (omega (arith, div-add-mod j 3, b .long, ltb-true j (length sums) e)) (mod-lt j {m = 3} (omega arith))
 
@@ -135,7 +130,7 @@ module _ (n : ℕ) (links queues slots pool sums : List ℕ) (k : Kept n links q
   s = stateOf n links queues slots pool
 
   rules : StateRules s
-  rules = state-rules s (k .in-order)
+  rules = state-rules s (k .is-consistent)
 
   -- A refusal is the first cause, and nothing changes.
   pub stepped-refused : (o : Order) {c : Cause} (r : Answer) → firstCause (findings s o) ≡ some c → causeIn r ≡ some c
@@ -234,7 +229,7 @@ module _ (n : ℕ) (links queues slots pool sums : List ℕ) (k : Kept n links q
           → Stepped (register f) n links queues slots pool slots′ pool′ sums′ (Done (slot + 1))
       unfolding apply decide perform fill
       stepped-admitted {slots′} {pool′} {sums′} nothing view store added =
-          record { answer = answer; next = next; kept = record { columns = k .columns; store = store; in-order = in-order; figures = figures } }
+          record { answer = answer; next = next; kept = record { columns = k .columns; store = store; is-consistent = is-consistent; figures = figures } }
         where
           done : apply s (register f) ≡ fill s (firstIndex isNone (slotsOf slots pool)) (some f)
           done = ap (decide s (register f)) nothing
@@ -251,8 +246,8 @@ module _ (n : ℕ) (links queues slots pool sums : List ℕ) (k : Kept n links q
           next : stateOf n links queues slots′ pool′ ≡ apply s (register f) .next
           next = ap (λ (l : List Slot). record { table = tableOf n links queues; slots = l }) seen ∙ sym (ap (λ (out : Outcome). out .next) done)
 
-          in-order : consistent (stateOf n links queues slots′ pool′) ≡ true
-          in-order = rw next (rules-state _ (apply-keeps s (register f) 1 (refl, read .range) rules))
+          is-consistent : consistent (stateOf n links queues slots′ pool′) ≡ true
+          is-consistent = rw next (rules-state _ (apply-keeps s (register f) 1 (refl, read .range) rules))
 
           figures : Figures (tableOf n links queues) (heldFlows (slotsOf slots′ pool′)) sums′
           figures =

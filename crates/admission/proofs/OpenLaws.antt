@@ -11,7 +11,7 @@ use Rattle.model.specs.QueueTable.{Table}
 use Rattle.model.specs.Aggregates as lookup
 use Rattle.model.specs.Reference as model
 use Rattle.model.specs.Reference.{Slot, heldFlows, opened, slotCount}
-use Rattle.model.specs.Laws.Reached.{opened-rules, rules-state}
+use Rattle.model.specs.Laws.Reached.{opened-rules, rules-state, none-held}
 use Rattle.queue_table.specs.declared.Verdict.{Verdict}
 use Rattle.queue_table.specs.declared.Verdict.the-variants.{Accepted, Refused}
 use Rattle.queue_table.specs.View.{tableOf, textOf, linksIn, TableFilled, upTo, hopAt}
@@ -37,11 +37,6 @@ free-counts : (m n i : ℕ) → countsFrom n i (replicate m 0) ≡ 0
 unfolding countsFrom
 free-counts m zero i = refl
 free-counts m (suc n) i = rw (free-count m i) (omega (arith, free-counts m n (suc i)))
-
-none-held : (n : ℕ) → heldFlows (replicate n none) ≡ []
-unfolding heldFlows
-none-held zero = refl
-none-held (suc n) = none-held n
 
 no-figures : (m : ℕ) (t : Table) (e : ℕ) → figureAt (replicate m 0) e ≡ lookup.aggregateAt t [] (hopAt e)
 unfolding figureAt lookup.aggregateAt lookup.allShares total largest
@@ -75,7 +70,7 @@ module _ (text links queues : List ℕ) (v : Verdict) (filled : TableFilled text
             pool-long = length-replicate pool 0 ∙ pool-is;
             fits = omega (arith, free-counts slots 256 0);
           };
-          in-order = rw empty (rules-state (opened text) (opened-rules text));
+          is-consistent = rw empty (rules-state (opened text) (opened-rules text));
           figures = record {
             long = length-replicate sums 0 ∙ sums-are;
             same = λ e lt. rw no-flows (no-figures sums (tableOf (linksIn v) links queues) e);

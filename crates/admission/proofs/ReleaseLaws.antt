@@ -47,7 +47,7 @@ module _ (n : ℕ) (links queues slots pool sums : List ℕ) (k : Kept n links q
   t = tableOf n links queues
 
   rules : StateRules (stateOf n links queues slots pool)
-  rules = state-rules (stateOf n links queues slots pool) (k .in-order)
+  rules = state-rules (stateOf n links queues slots pool) (k .is-consistent)
 
   pub on : OnQueues n links slots pool
   on = on-queues n links queues slots pool (k .columns) (k .store) (rules .table) (kept-alone (stateOf n links queues slots pool) rules)
@@ -107,7 +107,7 @@ module _ (n : ℕ) (links queues slots pool sums : List ℕ) (k : Kept n links q
           record {
             columns = k .columns;
             store = store;
-            in-order = rules-state (stateOf n links queues slots′ pool′) rules′;
+            is-consistent = rules-state (stateOf n links queues slots′ pool′) rules′;
             figures = subst (λ (l : List Slot). Figures t (heldFlows l) sums′) (sym view) figures;
           }
 

@@ -49,7 +49,7 @@ OrderRead OutOfRange hopLinks hopLevels = Unit {0}
 pub record Kept (n : ℕ) (links queues slots pool sums : List ℕ) : Type 0 where
   pub columns : Columns n links queues
   pub store : Store slots pool
-  pub in-order : consistent (stateOf n links queues slots pool) ≡ true
+  pub is-consistent : consistent (stateOf n links queues slots pool) ≡ true
   pub figures : Figures (tableOf n links queues) (model.heldFlows (slotsOf slots pool)) sums
 
 -- The order was done as the reference model does it, and the registry is consistent after it.

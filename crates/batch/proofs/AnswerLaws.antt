@@ -39,55 +39,55 @@ module _ (orders : List ℕ) (at next n : ℕ) (links queues slots pool slots′
         within = within;
       }
 
--- What holds before each order line: `whole` is the area in the end. What is left is answered from `place` on.
-pub record Answering (whole orders : List ℕ) (n : ℕ) (links queues slots pool sums : List ℕ) (size : ℕ) (area : List ℕ) (at number place : ℕ) : Type 0 where
+-- What holds before each order line: `whole` is the area in the end. What is left is answered from `offset` on.
+pub record Answering (whole orders : List ℕ) (n : ℕ) (links queues slots pool sums : List ℕ) (size : ℕ) (area : List ℕ) (at number offset : ℕ) : Type 0 where
   pub kept : Kept n links queues slots pool sums
   pub within : at ≤ length orders
   pub same-size : length area ≡ size
-  pub placed : place ≡ 20 * number
+  pub placed : offset ≡ 20 * number
   pub few : number + length (lines (drop at orders)) ≤ 2000
   pub room : 20 * (number + length (lines (drop at orders))) ≤ length area
   pub left :
-      take place area
+      take offset area
       ++ (answerText (number + 1) (lineAnswers (stateOf n links queues slots pool) (lines (drop at orders)))
       ++ drop (20 * (number + length (lines (drop at orders)))) area)
       ≡ whole
 
 -- A line written at a position, with a text to follow and the rest untouched.
-written : (area line more : List ℕ) (place end : ℕ) → length line ≡ 20 → place + 20 ≤ end → end ≤ length area
-    → take (place + 20) (take place area ++ (line ++ drop (place + 20) area)) ++ (more ++ drop end (take place area ++ (line ++ drop (place + 20) area)))
-    ≡ take place area ++ ((line ++ more) ++ drop end area)
-written area line more place end long low high =
-    let before = take place area ++ line in
-    let after = drop (place + 20) area in
-    let size : length before ≡ place + 20 = length-append (take place area) line ∙ ap₂ (λ (a b : ℕ). a + b) (length-take-le place area (omega arith)) long in
-    let all : take place area ++ (line ++ after) ≡ before ++ after = sym (append-assoc (take place area) line after) in
-    let to : place + 20 + (end - (place + 20)) ≡ end = omega arith in
-    let front : take (place + 20) (take place area ++ (line ++ after)) ≡ before = ap (take (place + 20)) all ∙ take-at before after (place + 20) size in
-    let rest : drop end (take place area ++ (line ++ after)) ≡ drop end area =
-    ap₂ (λ (k : ℕ) (t : List ℕ). drop k t) (sym to ∙ ap (λ (k : ℕ). k + (end - (place + 20))) (sym size)) all
-    ∙ drop-append-add before after (end - (place + 20))
-    ∙ drop-drop (end - (place + 20)) (place + 20) area
+written : (area line more : List ℕ) (offset end : ℕ) → length line ≡ 20 → offset + 20 ≤ end → end ≤ length area
+    → take (offset + 20) (take offset area ++ (line ++ drop (offset + 20) area)) ++ (more ++ drop end (take offset area ++ (line ++ drop (offset + 20) area)))
+    ≡ take offset area ++ ((line ++ more) ++ drop end area)
+written area line more offset end long low high =
+    let before = take offset area ++ line in
+    let after = drop (offset + 20) area in
+    let size : length before ≡ offset + 20 = length-append (take offset area) line ∙ ap₂ (λ (a b : ℕ). a + b) (length-take-le offset area (omega arith)) long in
+    let all : take offset area ++ (line ++ after) ≡ before ++ after = sym (append-assoc (take offset area) line after) in
+    let to : offset + 20 + (end - (offset + 20)) ≡ end = omega arith in
+    let front : take (offset + 20) (take offset area ++ (line ++ after)) ≡ before = ap (take (offset + 20)) all ∙ take-at before after (offset + 20) size in
+    let rest : drop end (take offset area ++ (line ++ after)) ≡ drop end area =
+    ap₂ (λ (k : ℕ) (t : List ℕ). drop k t) (sym to ∙ ap (λ (k : ℕ). k + (end - (offset + 20))) (sym size)) all
+    ∙ drop-append-add before after (end - (offset + 20))
+    ∙ drop-drop (end - (offset + 20)) (offset + 20) area
     ∙ ap (λ (k : ℕ). drop k area) to in
     ap₂ (λ (a b : List ℕ). a ++ (more ++ b)) front rest
-    ∙ append-assoc (take place area) line (more ++ drop end area)
-    ∙ ap (λ (t : List ℕ). take place area ++ t) (sym (append-assoc line more (drop end area)))
+    ∙ append-assoc (take offset area) line (more ++ drop end area)
+    ∙ ap (λ (t : List ℕ). take offset area ++ t) (sym (append-assoc line more (drop end area)))
 
 -- The same of a part lent on.
-pub line-put : (area line : List ℕ) (place : ℕ) → place + 20 ≤ length area
-    → putMid place (length area - place) area (line ++ drop 20 (take (length area - place) (drop place area)))
-    ≡ take place area ++ (line ++ drop (place + 20) area)
-line-put area line place room =
-    let width : place + 20 - place ≡ 20 = omega arith in
-    ap (λ (k : ℕ). putMid place (length area - place) area (line ++ drop k (take (length area - place) (drop place area)))) (sym width)
-    ∙ part-written area place (place + 20) line (omega arith) room
+pub line-put : (area line : List ℕ) (offset : ℕ) → offset + 20 ≤ length area
+    → putMid offset (length area - offset) area (line ++ drop 20 (take (length area - offset) (drop offset area)))
+    ≡ take offset area ++ (line ++ drop (offset + 20) area)
+line-put area line offset room =
+    let width : offset + 20 - offset ≡ 20 = omega arith in
+    ap (λ (k : ℕ). putMid offset (length area - offset) area (line ++ drop k (take (length area - offset) (drop offset area)))) (sym width)
+    ∙ part-written area offset (offset + 20) line (omega arith) room
 
-pub part-long : (area : List ℕ) (place : ℕ) → place + 20 ≤ length area → 20 ≤ length (take (length area - place) (drop place area))
-part-long area place room = simp (length-take, length-drop) (omega (arith, room))
+pub part-long : (area : List ℕ) (offset : ℕ) → offset + 20 ≤ length area → 20 ≤ length (take (length area - offset) (drop offset area))
+part-long area offset room = simp (length-take, length-drop) (omega (arith, room))
 
-written-length : (area line : List ℕ) (place : ℕ) → length line ≡ 20 → place + 20 ≤ length area
-    → length (take place area ++ (line ++ drop (place + 20) area)) ≡ length area
-written-length area line place long room = simp (length-append, length-take, length-drop, long) (omega (arith, room))
+written-length : (area line : List ℕ) (offset : ℕ) → length line ≡ 20 → offset + 20 ≤ length area
+    → length (take offset area ++ (line ++ drop (offset + 20) area)) ≡ length area
+written-length area line offset long room = simp (length-append, length-take, length-drop, long) (omega (arith, room))
 
 text-next : (number : ℕ) (a : reference.Answer) (more : List reference.Answer) → answerText number (a ∷ more) ≡ answerLine number a ++ answerText (number + 1) more
 unfolding answerText
@@ -110,16 +110,16 @@ answering-first orders n links queues slots pool sums area kept room =
       left = ap (λ (k : ℕ). answerText 1 (lineAnswers (stateOf n links queues slots pool) (lines orders)) ++ drop (20 * k) area) none-done;
     }
 
-module _ {whole orders : List ℕ} {n : ℕ} {links queues slots pool sums : List ℕ} {size : ℕ} {area : List ℕ} {at number place : ℕ}
-    (now : Answering whole orders n links queues slots pool sums size area at number place) where
+module _ {whole orders : List ℕ} {n : ℕ} {links queues slots pool sums : List ℕ} {size : ℕ} {area : List ℕ} {at number offset : ℕ}
+    (now : Answering whole orders n links queues slots pool sums size area at number offset) where
   -- There is room for a line where one is left.
   pub room-left : {slots′ pool′ sums′ : List ℕ} {r : Advance} → LineDone orders at n links queues slots pool slots′ pool′ sums′ r
-      → (place + 20 ≤ length area) × (number + 1 ≤ 2000)
+      → (offset + 20 ≤ length area) × (number + 1 ≤ 2000)
   room-left done = (omega (arith, now .room, now .placed, done .counted), omega (arith, now .few, done .counted))
 
   pub answering-next : {slots′ pool′ sums′ : List ℕ} {r : Advance} → LineDone orders at n links queues slots pool slots′ pool′ sums′ r → (area′ : List ℕ)
-      → area′ ≡ take place area ++ (answerLine (number + 1) (answerOf (r .answer)) ++ drop (place + 20) area)
-      → Answering whole orders n links queues slots′ pool′ sums′ size area′ (r .next) (number + 1) (place + 20)
+      → area′ ≡ take offset area ++ (answerLine (number + 1) (answerOf (r .answer)) ++ drop (offset + 20) area)
+      → Answering whole orders n links queues slots′ pool′ sums′ size area′ (r .next) (number + 1) (offset + 20)
   answering-next {slots′} {pool′} {sums′} {r} done area′ is =
       let a = answerOf (r .answer) in
       let line = answerLine (number + 1) a in
@@ -127,9 +127,9 @@ module _ {whole orders : List ℕ} {n : ℕ} {links queues slots pool sums : Lis
       let m = length (lines (drop (r .next) orders)) in
       let long = line-length (number + 1) a in
       let ends : number + length (lines (drop at orders)) ≡ number + 1 + m = omega (arith, done .counted) in
-      let size-same : length area′ ≡ length area = ap length is ∙ written-length area line place long (room-left done .0) in
+      let size-same : length area′ ≡ length area = ap length is ∙ written-length area line offset long (room-left done .0) in
       let end-in : 20 * (number + 1 + m) ≤ length area = omega (arith, now .room, done .counted) in
-      let end-after : place + 20 ≤ 20 * (number + 1 + m) = omega (arith, now .placed) in
+      let end-after : offset + 20 ≤ 20 * (number + 1 + m) = omega (arith, now .placed) in
       record {
         kept = done .kept;
         within = done .within;
@@ -138,20 +138,20 @@ module _ {whole orders : List ℕ} {n : ℕ} {links queues slots pool sums : Lis
         few = omega (arith, now .few, done .counted);
         room = rw size-same end-in;
         left =
-            ap (λ (l : List ℕ). take (place + 20) l ++ (answerText (number + 1 + 1) rest ++ drop (20 * (number + 1 + m)) l)) is
-            ∙ written area line (answerText (number + 1 + 1) rest) place (20 * (number + 1 + m)) long end-after end-in
-            ∙ ap (λ (t : List ℕ). take place area ++ (t ++ drop (20 * (number + 1 + m)) area)) (sym (text-next (number + 1) a rest))
-            ∙ ap₂ (λ (as′ : List reference.Answer) (k : ℕ). take place area ++ (answerText (number + 1) as′ ++ drop (20 * k) area)) (sym (done .same)) (sym ends)
+            ap (λ (l : List ℕ). take (offset + 20) l ++ (answerText (number + 1 + 1) rest ++ drop (20 * (number + 1 + m)) l)) is
+            ∙ written area line (answerText (number + 1 + 1) rest) offset (20 * (number + 1 + m)) long end-after end-in
+            ∙ ap (λ (t : List ℕ). take offset area ++ (t ++ drop (20 * (number + 1 + m)) area)) (sym (text-next (number + 1) a rest))
+            ∙ ap₂ (λ (as′ : List reference.Answer) (k : ℕ). take offset area ++ (answerText (number + 1) as′ ++ drop (20 * k) area)) (sym (done .same)) (sym ends)
             ∙ now .left;
       }
 
   pub answering-last : length orders ≤ at → area ≡ whole
   unfolding lineAnswers answerText
   answering-last end =
-      let all-done : place ≡ 20 * (number + 0) = omega (arith, now .placed) in
-      sym (take-append-drop place area)
-      ∙ ap (λ (k : ℕ). take place area ++ drop k area) all-done
+      let all-done : offset ≡ 20 * (number + 0) = omega (arith, now .placed) in
+      sym (take-append-drop offset area)
+      ∙ ap (λ (k : ℕ). take offset area ++ drop k area) all-done
       ∙ ap
-      (λ (ls : List Line). take place area ++ (answerText (number + 1) (lineAnswers (stateOf n links queues slots pool) ls) ++ drop (20 * (number + length ls)) area))
+      (λ (ls : List Line). take offset area ++ (answerText (number + 1) (lineAnswers (stateOf n links queues slots pool) ls) ++ drop (20 * (number + length ls)) area))
       (sym (lines-nothing orders at end))
       ∙ now .left

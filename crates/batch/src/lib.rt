@@ -137,13 +137,13 @@ fn answer_all(
 {
     let mut at = 0;
     let mut number: u32 = 0;
-    let mut place = 0;
+    let mut offset = 0;
     while at < orders.len() {
         let advance = answer_next(orders, at, n, links, queues, slots, pool, sums);
         let answer = advance.answer;
         number += 1;
-        answer_line::write_line(number, answer, &mut answers[place..]);
-        place += 20;
+        answer_line::write_line(number, answer, &mut answers[offset..]);
+        offset += 20;
         at = advance.next;
     }
 }

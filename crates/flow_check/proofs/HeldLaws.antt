@@ -1,15 +1,16 @@
 -- Held flows beside the others: each number is held once exactly when each held slot is the first that holds its number, so that a
 -- slot after the other can be judged. By induction on the slots. Assumes nothing.
 use Prim.Native.Nat.{ℕ, zero, suc, _+_, _≤_, _<_}
-use mathlib.Core.Path.{_≡_, refl, sym, ap, subst, _∙_}
+use mathlib.Core.Path.{_≡_, refl, sym, ap, _∙_}
 use mathlib.Core.Bool.{Bool, true, false, cond, _&&_, true≢false, false≢true}
 use mathlib.Core.List.{List, [], _∷_}
-use mathlib.Core.Option.{none, some, Option·none-ne-some, Option·some-injective}
+use mathlib.Core.Option.{none, some}
 use native.Mathlib.Nat.{zero-add}
 use native.Mathlib.Omega.{arith}
 use borrow.Author.Tests.{ltb-true, ltb-false, eqb-true, eq-eqb, leb-true, le-leb}
-use lib.ListN.{length, getD}
+use lib.ListN.{length, getD, List·getD-eq-default}
 use lib.Dec.{leb, ltb, eqb}
+use Rattle.model.specs.Laws.Slot.{held-at}
 use Rattle.model.specs.Total.{total}
 use Rattle.model.specs.Orders.{Flow}
 use Rattle.model.specs.QueueTable.{Table}
@@ -78,19 +79,6 @@ held-all P [] h = tt
 held-all P (none ∷ l) h = held-all P l (λ j. h (suc j))
 held-all P (some f ∷ l) h = (h 0 f refl, held-all P l (λ j. h (suc j)))
 
-all-held-at : (P : Flow → Type 0) (l : List Slot) → All P (heldFlows l) → (j : ℕ) (f : Flow) → getD l j none ≡ some f → P f
-unfolding heldFlows
-all-held-at P [] a j f e = absurd (Option·none-ne-some _ e)
-all-held-at P (none ∷ l) a zero f e = absurd (Option·none-ne-some _ e)
-all-held-at P (none ∷ l) a (suc j) f e = all-held-at P l a j f e
-all-held-at P (some g ∷ l) a zero f e = subst P (Option·some-injective g f e) (a .0)
-all-held-at P (some g ∷ l) a (suc j) f e = all-held-at P l (a .1) j f e
-
-past-end : (l : List Slot) (j : ℕ) → length l ≤ j → getD l j none ≡ none
-past-end [] j h = refl
-past-end (x ∷ l) zero h = absurd (omega arith)
-past-end (x ∷ l) (suc j) h = past-end l j (omega arith)
-
 module _ (t : Table) (slots : List Slot) where
   -- The slots one by one, and the held flows beside each other.
   all-alone : ((j : ℕ) → slotAlone t slots j (getD slots j none) ≡ true) → every (flowAlone t (heldFlows slots)) (heldFlows slots) ≡ true
@@ -117,7 +105,7 @@ module _ (t : Table) (slots : List Slot) where
     where
       go : (j : ℕ) (b : Bool) → ltb j (length slots) ≡ b → slotAlone t slots j (getD slots j none) ≡ true
       go j true e = h j (ltb-true _ _ e)
-      go j false e = ap (slotAlone t slots j) (past-end slots j (ltb-false _ _ e))
+      go j false e = ap (slotAlone t slots j) (List·getD-eq-default slots none {n = j} (ltb-false _ _ e))
 
   alone-each : every (flowAlone t (heldFlows slots)) (heldFlows slots) ≡ true → (j : ℕ) → slotAlone t slots j (getD slots j none) ≡ true
   unfolding slotAlone flowAlone holds
@@ -126,7 +114,7 @@ module _ (t : Table) (slots : List Slot) where
       go : (x : Slot) → getD slots j none ≡ x → slotAlone t slots j x ≡ true
       go none e = refl
       go (some f) e =
-          let alone = all-held-at (λ g. flowAlone t (heldFlows slots) g ≡ true) slots (every-all (flowAlone t (heldFlows slots)) (heldFlows slots) a) j f e in
+          let alone = held-at (λ g. flowAlone t (heldFlows slots) g ≡ true) slots j (every-all (flowAlone t (heldFlows slots)) (heldFlows slots) a) e in
           let both = and-both (flowInRange f && leb (withNumber (f .number) (heldFlows slots)) 1) _ alone in
           let parts = and-both (flowInRange f) _ (both .0) in
           let here : holds (f .number) (getD slots j none) ≡ true = ap (holds (f .number)) e ∙ eq-eqb (f .number) (f .number) refl in

@@ -20,7 +20,7 @@ performs before kind bytes {number} e r slots′ pool′ sums′ checked =
     record {
       answer = λ k. c .done k .answer;
       next = λ k. c .done k .next;
-      in-order = λ k. c .done k .kept;
+      is-consistent = λ k. c .done k .kept;
       kept-out = λ spoilt.
           let (answer, rest) = c .kept-out spoilt in
           (answer, λ i. record { count = before .count; links = before .links; queues = before .queues; slots = rest .0 i; pool = rest .1 .0 i; sums = rest .1 .1 i });

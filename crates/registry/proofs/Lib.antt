@@ -1,3 +1,3 @@
 pub mod CallLaws
 pub mod OpenLaws
-pub mod OrderLaws
+pub mod ConsistentLaws

@@ -18,5 +18,5 @@ module _ (text links queues : List ℕ) (v : Verdict) (filled : TableFilled text
       record {
         verdict = filled .same;
         state = ap (λ (k : ℕ). stateOf k links queues (replicate slots 0) (replicate pool 0)) e ∙ empty text links queues v filled slots pool sums slots-are pool-is sums-are;
-        in-order = subst (λ (k : ℕ). Kept k links queues (replicate slots 0) (replicate pool 0) (replicate sums 0)) (sym e) (empty-kept text links queues v filled slots pool sums slots-are pool-is sums-are);
+        is-consistent = subst (λ (k : ℕ). Kept k links queues (replicate slots 0) (replicate pool 0) (replicate sums 0)) (sym e) (empty-kept text links queues v filled slots pool sums slots-are pool-is sums-are);
       }

@@ -23,7 +23,7 @@ use Rattle.registry.specs.declared.Registry.{Registry}
 use Rattle.registry.specs.declared.Opened.{Opened}
 use Rattle.registry.specs.declared.Called.{Called}
 use Rattle.admission.specs.View.{answerOf}
-use Rattle.registry.specs.View.{stateIn, InOrder, OpensOn, callOf, Performs}
+use Rattle.registry.specs.View.{stateIn, Consistent, OpensOn, callOf, Performs}
 
 -- Call after call, each on the registry that the one before left, nobody else writing it.
 pub data Chain : (first : Registry) (calls : List Call) (answers : List Answer) (last : Registry) → Type 0 where
@@ -40,7 +40,7 @@ after text calls = final (opened text) calls
 abbrev pub flowsAfter : (text : List ℕ) (calls : List Call) → List Flow
 flowsAfter text calls = heldFlows (after text calls .slots)
 
--- Another code than 42, a registry not in order.
+-- Another code than 42, a registry that is not consistent (document 01: in order).
 abbrev pub NotSpoilt : Answer → Type 0
 NotSpoilt a = answerOf a .code ≡ 42 → ⊥
 
@@ -58,8 +58,8 @@ pub record Claimed (text : List ℕ) (calls : List Call) (answers : List Answer)
   pub room : (bytes : List ℕ) (f : Flow) (called : Called) → Performs last (callOf registering bytes) called
       → callOrder (callOf registering bytes) ≡ register f → NoneApplies (earlyFindings (after text calls) f)
       → NoRoom (answerOf (called .answer) .code) ↔ Full (after text calls) f
-  -- The registry stays in order: no call answers 42, nor does the next.
-  pub in-order : InOrder last
+  -- The registry stays consistent: no call answers 42, nor does the next.
+  pub is-consistent : Consistent last
   pub never-spoilt : All NotSpoilt answers
   pub next-not-spoilt : (c : Call) (called : Called) → Performs last c called → NotSpoilt (called .answer)
 
@@ -68,7 +68,7 @@ pub claim : (text : List ℕ) (o : Opened) → OpensOn text o → (calls : List 
     → Claimed text calls answers last
 unfolding model.answers final
 claim text o opens calls answers last chain =
-    let (kept, answered, followed, never) = follows chain (opens .in-order) in
+    let (kept, answered, followed, never) = follows chain (opens .is-consistent) in
     let state : stateIn last ≡ after text calls = followed ∙ ap (λ s. final s calls) (opens .state) in
     record {
       answered = answered ∙ ap (λ s. model.answers s calls) (opens .state);
@@ -80,23 +80,23 @@ claim text o opens calls answers last chain =
           subst (λ a. NoRoom (a .code) ↔ Full (after text calls) f)
           (sym (p .answer kept ∙ ap (λ s. model.step s (callOf registering bytes) .answer) state))
           (room-exactly (after text calls) (reached-consistent text calls) (callOf registering bytes) f e early);
-      in-order = kept;
+      is-consistent = kept;
       never-spoilt = never;
       next-not-spoilt = λ c called p. not-spoilt p kept;
     }
   where
-    not-spoilt : {before : Registry} {c : Call} {called : Called} → Performs before c called → InOrder before → NotSpoilt (called .answer)
+    not-spoilt : {before : Registry} {c : Call} {called : Called} → Performs before c called → Consistent before → NotSpoilt (called .answer)
     not-spoilt {before} {c} p k e = never-spoilt (stateIn before) c (sym (ap (λ a. a .code) (p .answer k)) ∙ e)
 
-    -- From any registry in order: it stays so, and answers and state are the reference model's from the state it holds.
-    follows : {first last : Registry} {calls : List Call} {answers : List Answer} → Chain first calls answers last → InOrder first
-        → InOrder last
+    -- From any consistent registry: it stays so, and answers and state are the reference model's from the state it holds.
+    follows : {first last : Registry} {calls : List Call} {answers : List Answer} → Chain first calls answers last → Consistent first
+        → Consistent last
         × (map answerOf answers ≡ model.answers (stateIn first) calls)
         × (stateIn last ≡ final (stateIn first) calls)
         × All NotSpoilt answers
     follows none k = (k, refl, refl, tt)
     follows (call {calls = calls} p more) k =
-        let (kept, answered, state, never) = follows more (p .in-order k) in (
+        let (kept, answered, state, never) = follows more (p .is-consistent k) in (
           kept,
           λ i. p .answer k i ∷ (answered ∙ ap (λ s. model.answers s calls) (p .next k)) i,
           state ∙ ap (λ s. final s calls) (p .next k),

@@ -26,7 +26,7 @@ pub record Sized (links queues slots pool sums : List ℕ) : Type 0 where
   pub pool-long : length pool ≡ 1024
   pub sums-long : length sums ≡ 1536
 
--- 42: a registry not in order.
+-- 42: a registry that isn't consistent (document 01: not in order).
 abbrev pub spoilt : model.Answer
 spoilt = record { code = 42; slot = 0; link = 0; level = 0 }
 
@@ -40,14 +40,14 @@ pub record Checked (o : Order) (n : ℕ) (links queues slots pool sums slots′ 
 abbrev pub stateIn : Registry → model.State
 stateIn r = stateOf (r .count) (r .links) (r .queues) (r .slots) (r .pool)
 
-abbrev pub InOrder : Registry → Type 0
-InOrder r = Kept (r .count) (r .links) (r .queues) (r .slots) (r .pool) (r .sums)
+abbrev pub Consistent : Registry → Type 0
+Consistent r = Kept (r .count) (r .links) (r .queues) (r .slots) (r .pool) (r .sums)
 
 -- An empty registry on the table of the text, 1 to 5 with the line where it is refused.
 pub record OpensOn (text : List ℕ) (r : Opened) : Type 0 where
   pub verdict : textOf (r .verdict) (r .registry .links) (r .registry .queues) ≡ readTable text
   pub state : stateIn (r .registry) ≡ model.opened text
-  pub in-order : InOrder (r .registry)
+  pub is-consistent : Consistent (r .registry)
 
 -- The figures aren't those of the held flows, on any table with their queues.
 abbrev pub OtherFigures : (queues slots pool sums : List ℕ) → Type 0
@@ -62,9 +62,9 @@ kindOf Release = model.releasing
 abbrev pub callOf : model.Kind → (bytes : List ℕ) → model.Call
 callOf kind bytes = record { kind = kind; bytes = bytes }
 
--- A call: 42 and the registry as it was where that isn't in order; else the step of the reference model, and in order again.
+-- A call: 42 and the registry as it was where that isn't consistent; else the step of the reference model, and consistent again.
 pub record Performs (before : Registry) (call : model.Call) (r : Called) : Type 0 where
-  pub answer : InOrder before → answerOf (r .answer) ≡ model.step (stateIn before) call .answer
-  pub next : InOrder before → stateIn (r .registry) ≡ model.step (stateIn before) call .next
-  pub in-order : InOrder before → InOrder (r .registry)
-  pub kept-out : (InOrder before → ⊥) → (answerOf (r .answer) ≡ spoilt) × (r .registry ≡ before)
+  pub answer : Consistent before → answerOf (r .answer) ≡ model.step (stateIn before) call .answer
+  pub next : Consistent before → stateIn (r .registry) ≡ model.step (stateIn before) call .next
+  pub is-consistent : Consistent before → Consistent (r .registry)
+  pub kept-out : (Consistent before → ⊥) → (answerOf (r .answer) ≡ spoilt) × (r .registry ≡ before)

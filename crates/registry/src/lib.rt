@@ -54,7 +54,7 @@ fn figures_right(queues: &[u32], slots: &[u32], pool: &[u32], sums: &[u64]) -> b
 }
 
 // Whether columns of any content are a consistent registry (42).
-pub fn in_order(
+pub fn is_consistent(
     n: usize,
     links: &[u32],
     queues: &[u32],
@@ -98,7 +98,7 @@ fn call_columns(
     requires { ⌜ Sized (now links) (now queues) (now slots) (now pool) (now sums) ⌝ }
     ensures { λ r. ⌜ Checked (model.onlyLine kind (lines (now (bytes .entry)))) n (now (links .entry)) (now (queues .entry)) (now (slots .entry)) (now (pool .entry)) (now (sums .entry)) (now (slots .exit)) (now (pool .exit)) (now (sums .exit)) r ⌝ }
 {
-    if !in_order(n, links, queues, &slots[..], &pool[..], &sums[..]) {
+    if !is_consistent(n, links, queues, &slots[..], &pool[..], &sums[..]) {
         return Answer::Refused(42, 0, 0);
     }
     let line = orders::read_call(kind, bytes);

@@ -9,7 +9,7 @@ ghost use Prim.Native.Nat.{_≤_, _<_};
 ghost use mathlib.Core.Path.{_≡_};
 ghost use lib.ListN.{length};
 ghost use Rattle.flow_store.specs.View.{Store};
-ghost use Rattle.registry.specs.View.{InOrder};
+ghost use Rattle.registry.specs.View.{Consistent};
 use flow_store::BURSTS;
 use flow_store::DEADLINES;
 use flow_store::FRAMES;
@@ -167,7 +167,7 @@ fn show_slots(slots: &[u32], pool: &[u32])
 }
 
 fn show_registry(registry: Registry)
-    requires { ⌜ InOrder registry ⌝ }
+    requires { ⌜ Consistent registry ⌝ }
 {
     let count = registry.count;
     let links = registry.links;

@@ -15,15 +15,15 @@ use Rattle.batch.proofs.answer_all.Statement.{statement}
 use Rattle.batch.proofs.answer_all.Tie as tie
 
 abbrev Inv-loop : tie.InvT-loop
-Inv-loop orders n links queues slots₀ pool₀ sums₀ answers₀ at₀ number₀ place₀ slots pool sums answers at number place =
-    Answering (doneBatch (stateOf n links queues slots₀ pool₀) (lines orders) answers₀ .area) orders n links queues slots pool sums (length answers₀) answers at number place
+Inv-loop orders n links queues slots₀ pool₀ sums₀ answers₀ at₀ number₀ offset₀ slots pool sums answers at number offset =
+    Answering (doneBatch (stateOf n links queues slots₀ pool₀) (lines orders) answers₀ .area) orders n links queues slots pool sums (length answers₀) answers at number offset
 
 abbrev μ-loop : tie.MeasureT-loop
-μ-loop orders n links queues slots₀ pool₀ sums₀ answers₀ at₀ number₀ place₀ slots pool sums answers at number place = length orders - at
+μ-loop orders n links queues slots₀ pool₀ sums₀ answers₀ at₀ number₀ offset₀ slots pool sums answers at number offset = length orders - at
 
 -- There is room for the line that was answered.
 room : (c : tie.After-answer-next Inv-loop μ-loop)
-    → (c .before .before .before .before .before .loop .place + 20 ≤ length (c .before .before .before .before .before .loop .answers)) × (c .before .before .before .before .before .loop .number + 1 ≤ 2000)
+    → (c .before .before .before .before .before .loop .offset + 20 ≤ length (c .before .before .before .before .before .loop .answers)) × (c .before .before .before .before .before .loop .number + 1 ≤ 2000)
 room c = room-left (c .before .before .before .before .before .loop .inv) (c .answer-next .ensures)
 
 loop-holds : tie.Need-loop-holds Inv-loop μ-loop
@@ -44,7 +44,7 @@ part-write-line-start : tie.Need-part-write-line-start Inv-loop μ-loop
 part-write-line-start c = omega (arith, room (c .before .before .before .before .before .before) .0)
 
 write-line-requires : tie.Need-write-line-requires Inv-loop μ-loop
-write-line-requires c κs = let at = c .before .before .before .before .before .before .before .before .before .before .before .before .loop in part-long (at .answers) (at .place) (room (c .before .before .before .before .before .before .before) .0)
+write-line-requires c κs = let at = c .before .before .before .before .before .before .before .before .before .before .before .before .loop in part-long (at .answers) (at .offset) (room (c .before .before .before .before .before .before .before) .0)
 
 add-place : tie.Need-add-place Inv-loop μ-loop
 add-place c = omega (arith, room (c .before .before .before .before .before .before .before .before .before .before) .0, c .before .before .before .before .before .before .before .before .before .before .before .before .before .before .before .loop .inv .same-size, c .before .before .before .before .before .before .before .before .before .before .before .before .before .before .before .before .before .before .before .before .before .before .before .good)
@@ -58,7 +58,7 @@ loop-again c =
     let next = c .before .before .before .before .before .before .before .before .before .before in
     let line = answerLine (at .number + 1) (answerOf (next .answer-next .result .answer)) in
     answering-next (at .inv) (next .answer-next .ensures) _
-    (ap (putMid (at .place) (length (at .answers) - at .place) (at .answers)) (c .before .before .write-line .ensures) ∙ line-put (at .answers) line (at .place) (room next .0))
+    (ap (putMid (at .offset) (length (at .answers) - at .offset) (at .answers)) (c .before .before .write-line .ensures) ∙ line-put (at .answers) line (at .offset) (room next .0))
 
 same-length : tie.Need-same-length Inv-loop μ-loop
 same-length c = c .before .loop .inv .kept .store .slots-long ∙ sym (c .before .before .before .before .before .before .before .before .before .pre .0 .store .slots-long)

@@ -3,7 +3,7 @@
 use borrow.Author.Needs.{needs}
 use Prim.Native.Nat.{ℕ, _+_, _*_, _-_, _^_, _≤_, _<_}
 use mathlib.Core.Path.{_≡_, sym, ap, _∙_}
-use mathlib.Core.List.{List, [], _∷_}
+use mathlib.Core.List.{List, _∷_}
 use native.Mathlib.Omega.{arith}
 use native.Mathlib.Numerals.{add-one}
 use lib.ListN.{length, getD, drop, length-map, List·getD-map}
@@ -12,12 +12,8 @@ use Rattle.model.specs.Formula as model
 use Rattle.model.specs.QueueTable.{Queue}
 use Rattle.model.specs.WithFlow.{noFlow}
 use Rattle.model.specs.Laws.LinkSteps.{levelFinding, framesBelow-at, Passed, passed-none, passed-all, passed-room, passed-next, passed-found}
-use types.Run.{OneOf, miss}
-use denote.Enum.Declared.{tagOf}
-use Rattle.link_check.specs.declared.Finding.{Finding}
-use Rattle.link_check.specs.declared.Finding.the-variants.{Fits, OverRate, OverDelay, OverBacklog}
-use Rattle.link_check.proofs.Finding.{the-type}
 use Rattle.link_check.specs.Levels.{aggregateOf, aggregatesOf, queuesOf, findingOf}
+use Rattle.link_check.proofs.FindingLaws.{faulty}
 use Rattle.link_check.proofs.Laws.{length-mapped, mapped-end, blank, level-next, queue-next}
 use Rattle.link_check.proofs.check_levels.Statement.{statement}
 use Rattle.link_check.proofs.check_levels.Tie as tie
@@ -30,13 +26,6 @@ abbrev μ-loop : tie.MeasureT-loop
 
 long : (c : tie.Start Inv-loop μ-loop) → (length (c .args .t2) ≡ 8) × (length (c .args .t3) ≡ 8) × (length (c .args .t4) ≡ 8)
 long c = (search (needs, length-mapped), search (needs, length-mapped), search (needs, length-mapped))
-
--- Every case but `Fits`, which has tag 0, is a fault.
-faulty : (f : Finding) → OneOf (1 ∷ 2 ∷ 3 ∷ []) (tagOf the-type f) → findingOf f .code ≡ 0 → ⊥
-faulty Fits k e = miss (1 ∷ 2 ∷ 3 ∷ []) 0 tt k
-faulty OverRate k e = omega arith
-faulty (OverDelay n) k e = omega arith
-faulty (OverBacklog n) k e = omega arith
 
 -- The queue and the level at `i`, and the largest frame below.
 module _ (c : tie.In-loop Inv-loop μ-loop) where

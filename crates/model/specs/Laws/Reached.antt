@@ -40,7 +40,7 @@ unfolding consistent
 rules-state s r =
     both-and (both-and (r .table) (eq-eqb _ _ (r .size))) (rules-flows (s .table) (heldFlows (s .slots)) (r .flows))
 
-none-held : (n : ℕ) → heldFlows (replicate n none) ≡ []
+pub none-held : (n : ℕ) → heldFlows (replicate n none) ≡ []
 unfolding heldFlows
 none-held zero = refl
 none-held (suc n) = none-held n

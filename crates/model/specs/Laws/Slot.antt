@@ -1,14 +1,15 @@
--- Slots: the first one that a test finds, and the held flows when a slot is filled or emptied. By induction on the slots. Assumes nothing.
+-- Slots: the first one that a test finds, the held flows when a slot is filled or emptied, and the one in a slot. By induction on the slots. Assumes nothing.
 use Prim.Native.Nat.{ℕ, zero, suc, _+_, _≤_, _<_}
-use mathlib.Core.Path.{_≡_, refl, sym, ap, _∙_}
+use mathlib.Core.Path.{_≡_, refl, sym, ap, subst, _∙_}
 use mathlib.Core.Bool.{Bool, true, false, cond, not, _&&_, true≢false, false≢true}
 use mathlib.Core.List.{List, [], _∷_}
-use mathlib.Core.Option.{none, some}
+use mathlib.Core.Option.{none, some, Option·none-ne-some, Option·some-injective}
 use native.Mathlib.Nat.{zero-add, not-suc-le-zero}
 use native.Mathlib.Omega.{arith}
 use borrow.Author.Tests.{lt-ltb, le-leb}
 use lib.ListN.{length, getD, set}
 use lib.Dec.{leb, ltb, eqb, leb·suc-suc}
+use Rattle.model.specs.Schedulable.{All}
 use Rattle.model.specs.Total.{total}
 use Rattle.model.specs.Part.{Part, empty, skip, keep, swap, both}
 use Rattle.model.specs.Laws.Total.{part-refl}
@@ -121,3 +122,12 @@ unfolding every isHeld isNone firstIndex
 held-index [] = refl
 held-index (none ∷ slots) = sym (ap not (lt-ltb 0 (suc (length slots)) (omega arith)))
 held-index (some f ∷ slots) = held-index slots ∙ sym (ap not (leb·suc-suc (suc (firstIndex isNone slots)) (length slots)))
+
+-- What holds of each held flow holds of the one in a slot.
+pub held-at : (P : Flow → Type 0) (slots : List Slot) (i : ℕ) {f : Flow} → All P (heldFlows slots) → getD slots i none ≡ some f → P f
+unfolding heldFlows
+held-at P [] i a e = absurd (Option·none-ne-some _ e)
+held-at P (none ∷ slots) zero a e = absurd (Option·none-ne-some _ e)
+held-at P (none ∷ slots) (suc i) a e = held-at P slots i a e
+held-at P (some g ∷ slots) zero a e = subst P (Option·some-injective _ _ e) (a .0)
+held-at P (some g ∷ slots) (suc i) a e = held-at P slots i (a .1) e

@@ -1,4 +1,4 @@
--- `registry::call_columns` meets its contract: 42 where the columns aren't in order, else what the order does.
+-- `registry::call_columns` meets its contract: 42 where the columns aren't consistent, else what the order does.
 -- Assumes nothing.
 use borrow.Author.Needs.{needs, length-unmapped}
 use mathlib.Core.Path.{_≡_, refl, sym, subst}
@@ -14,13 +14,13 @@ use Rattle.admission.proofs.ReadLaws.{order-read}
 use Rattle.registry.proofs.call_columns.Statement.{statement}
 use Rattle.registry.proofs.call_columns.Tie as tie
 
--- The columns are in order.
+-- The columns are consistent.
 module _ (c : tie.Else1) where
   abbrev start : tie.Start
   start = c .before .before .before .before .before .before .before .before .before .before .before
 
   kept : Kept (start .args .n) (start .args .links .now) (start .args .queues .now) (start .args .slots .now) (start .args .pool .now) (start .args .sums .now)
-  kept = c .before .in-order .ensures .0 (not-false _ (c .if1 .left))
+  kept = c .before .is-consistent .ensures .0 (not-false _ (c .if1 .left))
 
 -- What was read.
 module _ (c : tie.After-read-call) where
@@ -36,7 +36,7 @@ module _ (c : tie.After-read-call) where
 returns : tie.Need-returns
 returns c =
     record {
-      done = λ k. absurd (c .before .in-order .ensures .1 (not-true _ (c .if1 .taken)) k);
+      done = λ k. absurd (c .before .is-consistent .ensures .1 (not-true _ (c .if1 .taken)) k);
       kept-out = λ spoilt. (refl, (refl, (refl, refl)));
     }
 

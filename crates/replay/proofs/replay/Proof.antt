@@ -1,4 +1,4 @@
--- `replay::replay` is safe: there are at most as many answers as the area has room for, and the registry left behind is in order.
+-- `replay::replay` is safe: there are at most as many answers as the area has room for, and the registry left behind is consistent.
 -- Assumes nothing.
 use borrow.Author.Needs.{needs}
 use Prim.Native.Nat.{ℕ, _*_, _≤_}

@@ -1,4 +1,4 @@
--- When a registry is in order, part by part: its table, each flow by itself, the figures, the links.
+-- When a registry is consistent, part by part: its table, each flow by itself, the figures, the links.
 -- Assumes nothing.
 use Prim.Native.Nat.{ℕ, _+_}
 use mathlib.Core.Path.{_≡_}
@@ -85,7 +85,7 @@ module _ (n : ℕ) (links queues slots pool : List ℕ) where
       → Kept n links queues slots pool sums
   unfolding slotCount hopEntries
   kept columns store table alone figures meets =
-      record { columns = columns; store = store; in-order = rules-state (stateOf n links queues slots pool) rules; figures = figures }
+      record { columns = columns; store = store; is-consistent = rules-state (stateOf n links queues slots pool) rules; figures = figures }
     where
       rules : StateRules (stateOf n links queues slots pool)
       rules =

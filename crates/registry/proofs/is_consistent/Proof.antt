@@ -1,4 +1,4 @@
--- `registry::in_order` meets its contract: what passes each test is consistent, and what is consistent passes each.
+-- `registry::is_consistent` meets its contract: what passes each test is consistent, and what is consistent passes each.
 -- Assumes nothing.
 use borrow.Author.Needs.{needs}
 use mathlib.Core.Path.{_≡_, sym, _∙_}
@@ -17,10 +17,10 @@ use Rattle.flow_check.specs.Findings.{flowAlone}
 use Rattle.figures.specs.View.{Figures}
 use Rattle.recount.specs.View.{OnQueues}
 use Rattle.admission.proofs.KeptLaws.{bounded}
-use Rattle.registry.proofs.OrderLaws.{columns-of, speeds-of, alone-named, kept}
+use Rattle.registry.proofs.ConsistentLaws.{columns-of, speeds-of, alone-named, kept}
 use Rattle.admission.proofs.HeldLaws.{on-queues, countable, kept-alone}
-use Rattle.registry.proofs.in_order.Statement.{statement}
-use Rattle.registry.proofs.in_order.Tie as tie
+use Rattle.registry.proofs.is_consistent.Statement.{statement}
+use Rattle.registry.proofs.is_consistent.Tie as tie
 
 -- The counts fit the pool, and the table passes 2 to 4.
 module _ (c : tie.Else2) where
@@ -67,7 +67,7 @@ returns c = (λ e. absurd (false≢true e), λ e k. omega (arith, k .store .fits
 
 returns-2 : tie.Need-returns-2
 returns-2 c =
-    (λ e. absurd (false≢true e), λ e k. true≢false (sym (state-rules _ (k .in-order) .table) ∙ sym (c .before .consistent .ensures) ∙ not-true _ (c .if2 .taken)))
+    (λ e. absurd (false≢true e), λ e k. true≢false (sym (state-rules _ (k .is-consistent) .table) ∙ sym (c .before .consistent .ensures) ∙ not-true _ (c .if2 .taken)))
 
 held-flows-requires : tie.Need-held-flows-requires
 held-flows-requires c κs = (columns c, store c)
@@ -75,7 +75,7 @@ held-flows-requires c κs = (columns c, store c)
 returns-3 : tie.Need-returns-3
 returns-3 c = (
   λ e. absurd (false≢true e),
-  λ e k. true≢false (sym (kept-alone _ (state-rules _ (k .in-order))) ∙ sym (c .before .held-flows .ensures) ∙ not-true _ (c .if3 .taken)),
+  λ e k. true≢false (sym (kept-alone _ (state-rules _ (k .is-consistent))) ∙ sym (c .before .held-flows .ensures) ∙ not-true _ (c .if3 .taken)),
 )
 
 figures-right-requires : tie.Need-figures-right-requires
@@ -108,11 +108,11 @@ returns-6 c =
       λ e.
           kept _ _ _ (start j .args .slots .now) (start j .args .pool .now) (columns j) (store j) (table j) (alone a) (figures f)
           (c .links-meet .ensures .sound e (held j) (figures f) named),
-      λ e k. c .links-meet .ensures .complete e (held j) (figures f) named (consistent-meets _ (state-rules _ (k .in-order))),
+      λ e k. c .links-meet .ensures .complete e (held j) (figures f) named (consistent-meets _ (state-rules _ (k .is-consistent))),
     )
 
-pub in-order-spec : {M : Type 1} → statement M
-in-order-spec =
+pub is-consistent-spec : {M : Type 1} → statement M
+is-consistent-spec =
     tie.close
     (tie.spec (λ c κs. search needs) returns (λ c κs. search needs) returns-2 held-flows-requires returns-3 figures-right-requires returns-4
     (λ c κs. search needs) returns-5 links-meet-requires returns-6)
