@@ -22,7 +22,7 @@ use Rattle.model.specs.Laws.Reached.{StateRules, state-rules, rules-state, clea
 use Rattle.queue_table.specs.View.{tableOf, hopAt}
 use Rattle.flow_store.specs.View.{Store, slotsOf, slotOf, rateAt, burstAt, frameAt, flowAt, countAt, entriesIn, flowIn}
 use Rattle.flow_store.proofs.ViewLaws.{length-slots, slot-at}
-use Rattle.figures.specs.View.{Figures, FlowOf, PathCounted, Carried, Left, PathRemoved, figureAt, raised}
+use Rattle.figures.specs.View.{Figures, FlowOf, PathCounted, Carried, Near, PathRemoved, figureAt, raised}
 use Rattle.queue_table.proofs.EntryLaws.{queue-low}
 use Rattle.recount.specs.View.{Ranged, OnQueues, FramesRaised}
 use Rattle.admission.specs.declared.Answer.the-variants.{Done}
@@ -32,15 +32,15 @@ use Rattle.admission.proofs.KeptLaws.{ranges, filled}
 use Rattle.admission.proofs.HeldLaws.{slot-held, by-itself, on-queues, countable, kept-alone}
 
 -- A queue's figures that only lack their largest frame, once that is raised.
-raised-right : {again : Bool} (a b : Aggregate) → Left again a b → raised a (b .frame) ≡ b
+raised-right : {sure : Type 0} (a b : Aggregate) → Near sure a b → raised a (b .frame) ≡ b
 unfolding raised
 raised-right a b l = λ i. record { rate = l .rate i; burst = l .burst i; frame = frame i }
   where
     frame : max (a .frame) (b .frame) ≡ b .frame
     frame = omega (arith, l .low)
 
-left-right : (a b : Aggregate) → Left false a b → a ≡ b
-left-right a b l = λ i. record { rate = l .rate i; burst = l .burst i; frame = l .frame refl i }
+left-right : {sure : Type 0} (a b : Aggregate) → sure → Near sure a b → a ≡ b
+left-right a b s l = λ i. record { rate = l .rate i; burst = l .burst i; frame = l .frame s i }
 
 module _ (n : ℕ) (links queues slots pool sums : List ℕ) (k : Kept n links queues slots pool sums) where
   abbrev t : Table
@@ -117,14 +117,14 @@ module _ (n : ℕ) (links queues slots pool sums : List ℕ) (k : Kept n links q
           (on-queues n links queues slots′ pool′ (k .columns) store (rules′ .table) (kept-alone (stateOf n links queues slots′ pool′) rules′) i lt)
 
       module _ {again : Bool} {sums′ : List ℕ} (removed : PathRemoved (rateAt slots slot) (burstAt slots slot) (frameAt slots slot) queues entries sums sums′ again) where
-        at-queue : (e : ℕ) → e < 512 → Left again (figureAt sums′ e) (aggregateAt t left (hopAt e))
+        at-queue : (e : ℕ) → e < 512 → Near (again ≡ false) (figureAt sums′ e) (aggregateAt t left (hopAt e))
         at-queue = removed .left n links flow left (on slot inside) is with-flow some-rate carries
 
         pub kept-left : again ≡ false → Kept n links queues slots′ pool′ sums′
         kept-left known =
             kept-again (record {
               long = removed .long;
-              same = λ e lt. left-right _ _ (subst (λ (b : Bool). Left b (figureAt sums′ e) (aggregateAt t left (hopAt e))) known (at-queue e lt));
+              same = λ e lt. left-right _ _ known (at-queue e lt);
             })
 
         pub kept-raised : {sums″ : List ℕ} → FramesRaised slots′ pool′ sums′ sums″ → Kept n links queues slots′ pool′ sums″

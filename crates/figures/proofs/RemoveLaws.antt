@@ -15,7 +15,7 @@ use Rattle.model.specs.WithFlow.{withFlow, together}
 use Rattle.model.specs.Laws.Aggregates.{hop-same}
 use Rattle.model.specs.Laws.Figures.{sharesAt, shares-nothing, shares-other, shares-here, shares-carried, aggregate-alone, aggregate-more}
 use Rattle.queue_table.specs.View.{tableOf, hopAt, AllQueues}
-use Rattle.figures.specs.View.{figureAt, figureStored, FlowOf, Figures, PathCounted, Carried, FrameLeft, no-flow, unknown, another, HopRemoved, PathRemoved}
+use Rattle.figures.specs.View.{figureAt, figureStored, FlowOf, Figures, PathCounted, Carried, FrameLeft, no-flow, unknown, another, HopRemoved, PathRemoved, Near}
 use Rattle.figures.proofs.FigureLaws.{stored-length, stored-here, stored-other, frame-stored, frame-kept}
 use Rattle.figures.proofs.EntryLaws.{other-entry, entries-next, entries-end}
 
@@ -53,13 +53,6 @@ module _ (sums : List ℕ) (e rate burst frame : ℕ) (counted : (rate ≤ figur
 
   pub less-kept : frame < getD sums (3 * e + 2) 0 → HopRemoved rate burst frame sums e sumsLess false
   less-kept lt = less (getD sums (3 * e + 2) 0) (frame-kept sums e rates bursts) (another lt refl)
-
--- The figures `a` of a queue are right (`b`), its largest frame if `sure`; else that may be too small.
-pub record Near (sure : Type 0) (a b : Aggregate) : Type 0 where
-  pub rate : a .rate ≡ b .rate
-  pub burst : a .burst ≡ b .burst
-  pub low : a .frame ≤ b .frame
-  pub frame : sure → a .frame ≡ b .frame
 
 -- The figures so far, `sums`, with the hops from `i` on left, before which the thresholds sum to `sum`.
 pub record Removing (rate burst frame : ℕ) (queues entries before sums : List ℕ) (sum i : ℕ) (again : Bool) : Type 0 where

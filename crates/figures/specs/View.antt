@@ -97,19 +97,19 @@ pub record HopRemoved (rate burst frame : ℕ) (sums : List ℕ) (e : ℕ) (sums
   pub burst-left : left .burst + burst ≡ figureAt sums e .burst
   pub frame-left : FrameLeft (left .rate) frame (figureAt sums e .frame) (left .frame) again
 
--- The figures `a` of a queue are right (`b`), but that its largest frame may be too small where `again` says so.
-pub record Left (again : Bool) (a b : Aggregate) : Type 0 where
+-- The figures `a` of a queue are right (`b`), its largest frame if `sure`; else that may be too small.
+pub record Near (sure : Type 0) (a b : Aggregate) : Type 0 where
   pub rate : a .rate ≡ b .rate
   pub burst : a .burst ≡ b .burst
   pub low : a .frame ≤ b .frame
-  pub frame : again ≡ false → a .frame ≡ b .frame
+  pub frame : sure → a .frame ≡ b .frame
 
 -- What the path added at each queue is taken out, where a rate sum of 0 says that no flow is left (`Carried`).
 pub record PathRemoved (rate burst frame : ℕ) (queues entries sums sums′ : List ℕ) (again : Bool) : Type 0 where
   pub long : length sums′ ≡ 1536
   pub left : (n : ℕ) (links : List ℕ) (f : Flow) (fs : List Flow) → AllQueues n links entries → FlowOf rate burst frame entries f
       → Figures (tableOf n links queues) (f ∷ fs) sums → 1 ≤ rate → Carried (tableOf n links queues) fs
-      → (e : ℕ) → e < 512 → Left again (figureAt sums′ e) (aggregateAt (tableOf n links queues) fs (hopAt e))
+      → (e : ℕ) → e < 512 → Near (again ≡ false) (figureAt sums′ e) (aggregateAt (tableOf n links queues) fs (hopAt e))
 
 -- Figures with a largest frame of at least this.
 unfoldable pub raised : Aggregate → (frame : ℕ) → Aggregate

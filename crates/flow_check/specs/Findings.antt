@@ -12,9 +12,8 @@ use Rattle.model.specs.Reference as model-causes
 use Rattle.model.specs.Outcomes.{earlyFindings}
 use Rattle.model.specs.Consistent.{flowInRange}
 use Rattle.orders.specs.declared.Flow.{Flow}
-use Rattle.orders.specs.Reading.{fieldsOf}
+use Rattle.orders.specs.Reading.{fieldsOf, linePath}
 use Rattle.queue_table.specs.View.{tableOf, hopAt, AllQueues}
-use Rattle.path_check.specs.Causes.{linePath}
 use Rattle.flow_store.specs.View.{Store, slotsOf, numberAt, rateAt, burstAt, frameAt, deadlineAt, countAt}
 use Rattle.flow_check.specs.declared.Cause.{Cause}
 use Rattle.flow_check.specs.declared.Cause.the-variants.{Nothing, Whole, At}

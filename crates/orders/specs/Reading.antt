@@ -21,6 +21,10 @@ zipHops [] levels = []
 zipHops (l ∷ links) [] = []
 zipHops (l ∷ links) (p ∷ levels) = record { link = l; level = p } ∷ zipHops links levels
 
+-- The path of an order line: the first hops of its two arrays.
+abbrev pub linePath : (hopLinks hopLevels : List ℕ) (hops : ℕ) → List model.Hop
+linePath hopLinks hopLevels hops = take hops (zipHops hopLinks hopLevels)
+
 -- The columns of a flow before its hops.
 abbrev pub fieldsOf : Flow → model.Head
 fieldsOf f =
@@ -28,7 +32,7 @@ fieldsOf f =
 
 -- A registration has the first hops of the arrays beside it, as many as its flow says; the other entries are free, and so are all of another order.
 abbrev pub orderWith : Order → List ℕ → List ℕ → model.Order
-orderWith (Register f) links levels = model.register (model.flowOf (fieldsOf f) (take (f .hops) (zipHops links levels)))
+orderWith (Register f) links levels = model.register (model.flowOf (fieldsOf f) (linePath links levels (f .hops)))
 orderWith (Release n) links levels = model.release n
 orderWith Malformed links levels = model.rejected 10
 orderWith OutOfRange links levels = model.rejected 11
@@ -57,4 +61,4 @@ pathWhen false path = none
 
 -- The first `hops` hops of what was read, none where a field is malformed.
 abbrev pub pathOf : Path → ℕ → Option (List model.Hop)
-pathOf p hops = pathWhen (p .whole) (take hops (zipHops (p .links) (p .levels)))
+pathOf p hops = pathWhen (p .whole) (linePath (p .links) (p .levels) hops)

@@ -14,10 +14,10 @@ use Rattle.model.specs.Laws.All.{all-append}
 use Rattle.model.specs.Aggregates as model
 use Rattle.model.specs.Reference.{atHop, isNone, noQueue}
 use Rattle.model.specs.Laws.Path.{searchFrom, search-on}
-use Rattle.orders.specs.Reading.{zipHops}
+use Rattle.orders.specs.Reading.{zipHops, linePath}
 use Rattle.orders.proofs.PathLaws.{zip-length}
 use Rattle.queue_table.specs.View.{tableOf, hopAt, isQueue, AllQueues}
-use Rattle.path_check.specs.Causes.{linePath, PathLocated}
+use Rattle.path_check.specs.Causes.{PathLocated}
 use Rattle.path_check.proofs.EntryLaws.{no-queue}
 use Rattle.path_check.proofs.SearchLaws.{found-at, ended-at, lineHop, zip-at, path-long, path-hop}
 

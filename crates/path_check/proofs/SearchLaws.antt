@@ -13,10 +13,10 @@ use Rattle.model.specs.Orders.{Hop}
 use Rattle.model.specs.Schedulable.{All}
 use Rattle.model.specs.Reference.{crosses, startsElsewhere}
 use Rattle.model.specs.Laws.Path.{reverse-take, searchFrom, search-on, search-found, search-ended}
-use Rattle.orders.specs.Reading.{zipHops}
+use Rattle.orders.specs.Reading.{zipHops, linePath}
 use Rattle.orders.proofs.PathLaws.{zip-length}
 use Rattle.queue_table.specs.View.{tableOf, hopAt, isQueue, AllQueues}
-use Rattle.path_check.specs.Causes.{hopCause, earlierThan, linePath}
+use Rattle.path_check.specs.Causes.{hopCause, earlierThan}
 use Rattle.path_check.proofs.EntryLaws.{crosses-entry, starts-elsewhere}
 
 pub all-at : {A : Type 0} (P : A → Type 0) (l : List A) (i : ℕ) (d : A) → All P l → i < length l → P (getD l i d)

@@ -8,7 +8,7 @@ use lib.ListN.{take}
 use Rattle.model.specs.Orders.{Hop}
 use Rattle.model.specs.Aggregates.{queueAt}
 use Rattle.model.specs.Reference.{Cause, atHop, noQueue}
-use Rattle.orders.specs.Reading.{zipHops}
+use Rattle.orders.specs.Reading.{linePath}
 use Rattle.queue_table.specs.View.{tableOf, hopAt, isQueue, AllQueues}
 use Rattle.path_check.specs.declared.Located.{Located}
 use Rattle.path_check.specs.declared.Entry.{Entry}
@@ -28,10 +28,6 @@ EntryOf n links h Missing = (queues : List ℕ) → queueAt (tableOf n links que
 -- The hops before hop i, the nearest first.
 abbrev pub earlierThan : (entries : List ℕ) (i : ℕ) → List Hop
 earlierThan entries i = reverse (take i (map hopAt entries))
-
--- The path of an order line: the first hops of its two arrays.
-abbrev pub linePath : (hopLinks hopLevels : List ℕ) (hops : ℕ) → List Hop
-linePath hopLinks hopLevels hops = take hops (zipHops hopLinks hopLevels)
 
 -- `missing` is the first hop without a queue, and the hop count where each has one; then the entries name the path.
 pub record PathLocated (n : ℕ) (links hopLinks hopLevels : List ℕ) (hops : ℕ) (r : Located) : Type 0 where
