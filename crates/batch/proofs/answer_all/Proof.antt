@@ -46,8 +46,8 @@ part-write-line-start c = omega (arith, room (c .before .before .before .before 
 write-line-requires : tie.Need-write-line-requires Inv-loop μ-loop
 write-line-requires c κs = let at = c .before .before .before .before .before .before .before .before .before .before .before .before .loop in part-long (at .answers) (at .offset) (room (c .before .before .before .before .before .before .before) .0)
 
-add-place : tie.Need-add-place Inv-loop μ-loop
-add-place c = omega (arith, room (c .before .before .before .before .before .before .before .before .before .before) .0, c .before .before .before .before .before .before .before .before .before .before .before .before .before .before .before .loop .inv .same-size, c .before .before .before .before .before .before .before .before .before .before .before .before .before .before .before .before .before .before .before .before .before .before .before .good)
+add-offset : tie.Need-add-offset Inv-loop μ-loop
+add-offset c = omega (arith, room (c .before .before .before .before .before .before .before .before .before .before) .0, c .before .before .before .before .before .before .before .before .before .before .before .before .before .before .before .loop .inv .same-size, c .before .before .before .before .before .before .before .before .before .before .before .before .before .before .before .before .before .before .before .before .before .before .before .good)
 
 loop-less : tie.Need-loop-less Inv-loop μ-loop
 loop-less c = omega (arith, c .before .before .before .before .before .before .before .before .before .before .answer-next .ensures .on, c .before .before .before .before .before .before .before .before .before .before .before .before .before .before .loop-test .taken)
@@ -79,4 +79,4 @@ pub answer-all-spec : {M : Type 1} → statement M
 answer-all-spec =
     tie.close
     (tie.spec Inv-loop μ-loop loop-holds answer-next-requires add-number sub-write-line part-write-line-start (λ c. search needs)
-    write-line-requires add-place loop-less loop-again same-length same-length-2 same-length-3 same-length-4 returns)
+    write-line-requires add-offset loop-less loop-again same-length same-length-2 same-length-3 same-length-4 returns)
