@@ -3,19 +3,14 @@
 use borrow.Author.Needs.{needs}
 use Prim.Native.Nat.{_+_, _*_}
 use mathlib.Core.Path.{_≡_, sym, ap, _∙_}
-use mathlib.Core.List.{[], _∷_}
-use native.Mathlib.Omega.{arith}
 use lib.ListN.{getD}
-use types.Run.{OneOf, miss}
-use denote.Enum.Declared.{tagOf}
 use borrow.Author.Tests.{eq-eqb, ne-eqb}
 use Rattle.model.specs.LinkCheck as model
 use Rattle.model.specs.LinkCheck.{linkFinding}
 use Rattle.queue_table.specs.View.{upTo, queueAt}
 use Rattle.link_check.specs.declared.Finding.{Finding}
-use Rattle.link_check.specs.declared.Finding.the-variants.{Fits, OverRate, OverDelay, OverBacklog}
 use Rattle.link_check.specs.Levels.{findingOf}
-use Rattle.link_check.proofs.Finding.{the-type}
+use Rattle.link_check.proofs.FindingLaws.{faulty}
 use Rattle.figures.specs.View.{codeAt}
 use Rattle.figures.proofs.BoundLaws.{room-alone}
 use Rattle.figures.proofs.checking.link_meets.Statement.{statement}
@@ -29,13 +24,6 @@ code c =
     ap (λ (w : model.Finding). w .code)
     (c .find-on .ensures
     ∙ ap (linkFinding (getD (args .links .now) (4 * args .link + 2) 0) (upTo 8 (queueAt (args .queues .now) (args .link)))) (c .before .link-levels .ensures))
-
--- Every case but `Fits`, which has tag 0, has a code.
-faulty : (r : Finding) → OneOf (1 ∷ 2 ∷ 3 ∷ []) (tagOf the-type r) → findingOf r .code ≡ 0 → ⊥
-faulty Fits k e = miss (1 ∷ 2 ∷ 3 ∷ []) 0 tt k
-faulty OverRate k e = omega arith
-faulty (OverDelay level) k e = omega arith
-faulty (OverBacklog level) k e = omega arith
 
 find-on-requires : tie.Need-find-on-requires
 find-on-requires c κs =
