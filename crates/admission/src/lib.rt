@@ -22,6 +22,7 @@ use flow_check::Cause;
 use flow_store::BURSTS;
 use flow_store::FRAMES;
 use flow_store::RATES;
+use flow_store::SLOTS;
 use orders::Flow;
 use orders::Order;
 use units::Bytes;
@@ -145,7 +146,7 @@ fn take_out(
     let rate = Rate(slots[RATES + slot] as u64);
     let burst = Bytes(slots[BURSTS + slot] as u64);
     let frame = Bytes(slots[FRAMES + slot] as u64);
-    let mut entries = [0u32; 12];
+    let mut entries = [0u32; orders::HOPS];
     let hops = flow_store::path_into(slot, &slots[..], &pool[..], &mut entries);
     flow_store::remove(slot, slots, pool);
     if figures::remove_path(rate, burst, frame, queues, &entries[..hops], sums) {
@@ -167,7 +168,7 @@ pub fn release_flow(
     ensures { λ r. ⌜ Stepped (release number) n (now (links .entry)) (now (queues .entry)) (now (slots .entry)) (now (pool .entry)) (now (slots .exit)) (now (pool .exit)) (now (sums .exit)) r ⌝ }
 {
     let held = flow_store::find(number, &slots[..]);
-    if held == 256 {
+    if held == SLOTS {
         return Answer::Refused(13, 0, 0);
     }
     take_out(held, n, links, queues, slots, pool, sums);

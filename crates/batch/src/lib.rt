@@ -10,9 +10,19 @@ ghost use Rattle.admission.specs.View.{Kept};
 ghost use Rattle.batch.specs.View.{noFlows, noHops, noSums, LineDone, Room, Answered, Judged, Batched};
 use admission::Answer;
 use columns::NextLine;
+use figures::SUMS;
+use flow_store::POOL;
+use flow_store::SLOT_NUMBERS;
+use queue_table::LINK_NUMBERS;
+use queue_table::QUEUE_NUMBERS;
 use queue_table::Verdict;
 
 const LF: u8 = 10;
+
+// How many bytes and lines an order text has at the most.
+const MOST_BYTES: usize = 60_000;
+
+const MOST_LINES: usize = 2000;
 
 // What a batch returns: 0 and the count of order lines, or a code and a line.
 #[repr(C)]
@@ -154,9 +164,9 @@ fn run(orders: &[u8], n: usize, links: &[u32], queues: &[u32], answers: &mut [u8
     requires { ⌜ Room (now orders) (now answers) ⌝ }
     ensures { λ _. ⌜ Answered (now (orders .entry)) n (now (links .entry)) (now (queues .entry)) noFlows noHops (now (answers .entry)) (now (answers .exit)) ⌝ }
 {
-    let mut slots = [0u32; 1536];
-    let mut pool = [0u32; 1024];
-    let mut sums = [0u64; 1536];
+    let mut slots = [0u32; SLOT_NUMBERS];
+    let mut pool = [0u32; POOL];
+    let mut sums = [0u64; SUMS];
     answer_all(
         orders,
         n,
@@ -180,11 +190,11 @@ fn judge_orders(
     requires { ⌜ Kept n (now links) (now queues) noFlows noHops noSums ⌝ }
     ensures { λ r. ⌜ Judged n (now (links .entry)) (now (queues .entry)) (now (orders .entry)) (now (answers .entry)) (now (answers .exit)) r ⌝ }
 {
-    if 60_000 < orders.len() {
+    if MOST_BYTES < orders.len() {
         return BatchResult { code: 41, line: 0 };
     }
     let count = count_lines(orders);
-    if 2000 < count {
+    if MOST_LINES < count {
         return BatchResult { code: 41, line: 0 };
     }
     if answers.len() < 20 * count {
@@ -202,8 +212,8 @@ fn judge_orders(
 pub extern "C" fn devvonur_batch(table: &[u8], orders: &[u8], answers: &mut [u8]) -> BatchResult
     ensures { λ r. ⌜ Batched (now (table .entry)) (now (orders .entry)) (now (answers .entry)) (now (answers .exit)) r ⌝ }
 {
-    let mut links = [0u32; 256];
-    let mut queues = [0u32; 1024];
+    let mut links = [0u32; LINK_NUMBERS];
+    let mut queues = [0u32; QUEUE_NUMBERS];
     match queue_table::read_into(table, &mut links, &mut queues) {
         Verdict::Accepted(n) => judge_orders(orders, n, &links, &queues, answers),
         Verdict::Refused(code, line) => BatchResult { code, line },

@@ -24,6 +24,11 @@ use link_check::LEVELS;
 use units::Bytes;
 use units::Rate;
 
+// How many queues there are at the most, and how many numbers their column has.
+pub const QUEUES: usize = 512;
+
+pub const SUMS: usize = 1536;
+
 // What the check of a path finds first; delay and backlog with their link and level.
 pub enum PathFinding {
     Fits,
@@ -68,7 +73,7 @@ pub fn bounded(sums: &[u64]) -> bool
     ensures { λ r. ⌜ (r ≡ true) ↔ Bounded (now (sums .entry)) ⌝ }
 {
     let mut e = 0;
-    while e < 512 {
+    while e < QUEUES {
         let own = figure(e, sums);
         if own.rate.0 > 10_000_000 {
             return false;

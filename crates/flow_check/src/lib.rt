@@ -15,6 +15,7 @@ use flow_store::DEADLINES;
 use flow_store::FRAMES;
 use flow_store::HOPS;
 use flow_store::RATES;
+use flow_store::SLOTS;
 use orders::Flow;
 use units::Bytes;
 use units::Micros;
@@ -32,7 +33,7 @@ pub enum Cause {
 // What is against a flow by itself; where that is nothing, the entries name its path, else they are free.
 pub struct Judged {
     pub cause: Cause,
-    pub entries: [u32; 12],
+    pub entries: [u32; orders::HOPS],
 }
 
 // Whether there is room, and the slot that is free.
@@ -119,16 +120,16 @@ pub fn judge_flow(
     let number = flow.number;
     let burst = flow.burst.0;
     let frame = flow.frame.0;
-    if flow_store::find(number, slots) < 256 {
+    if flow_store::find(number, slots) < SLOTS {
         return Judged {
             cause: Cause::Whole(12),
-            entries: [0; 12],
+            entries: [0; orders::HOPS],
         };
     }
     if burst < frame {
         return Judged {
             cause: Cause::Whole(17),
-            entries: [0; 12],
+            entries: [0; orders::HOPS],
         };
     }
     judge_path(flow, hop_links, hop_levels, n, links, queues)
@@ -140,13 +141,13 @@ pub fn judge_room(hops: u32, slots: &[u32]) -> Room
     ensures { λ r. ⌜ RoomJudged hops (now (slots .entry)) r ⌝ }
 {
     let slot = flow_store::first_free(slots);
-    if 256 <= slot {
+    if SLOTS <= slot {
         return Room {
             cause: Cause::Whole(30),
             slot,
         };
     }
-    if 1024 - (hops as u64) < flow_store::hop_sum(slots, 256) {
+    if 1024 - (hops as u64) < flow_store::hop_sum(slots, SLOTS) {
         return Room {
             cause: Cause::Whole(31),
             slot,
@@ -237,7 +238,7 @@ pub fn held_flows(n: usize, links: &[u32], queues: &[u32], slots: &[u32], pool: 
 {
     let mut at = 0;
     let mut slot = 0;
-    while slot < 256 {
+    while slot < SLOTS {
         let end = at + slots[HOPS + slot] as usize;
         if !held_flow(slot, &pool[at..end], n, links, queues, slots) {
             return false;

@@ -19,7 +19,14 @@ ghost use Rattle.orders.specs.Reading.{fieldsOf};
 ghost use Rattle.flow_store.specs.View.{countAt, slotsOf, countsFrom, entriesIn, Store, flowStored, pathInserted, pathRemoved, Narrow, Insertable, OthersFrom};
 use orders::Flow;
 
-// Where slot 0's numbers stand, its flow number at position 0.
+// How many slots there are, and how many hop entries for all of them together.
+pub const SLOTS: usize = 256;
+
+pub const POOL: usize = 1024;
+
+// How many numbers the column of the slots has, and where slot 0's stand, its flow number at position 0.
+pub const SLOT_NUMBERS: usize = 1536;
+
 pub const RATES: usize = 256;
 
 pub const BURSTS: usize = 512;
@@ -54,7 +61,7 @@ fn skip_others(number: u32, slots: &[u32]) -> usize
     ensures { λ r. ⌜ (r ≤ 256) × OthersFrom number (now (slots .entry)) 0 r ⌝ }
 {
     let mut i = 0;
-    while i < 256 {
+    while i < SLOTS {
         if block_names(number, i, slots) {
             return i;
         }
@@ -69,7 +76,7 @@ pub fn find(number: u32, slots: &[u32]) -> usize
     ensures { λ r. ⌜ ((pool : List ℕ) → r ≡ firstIndex (holds number) (slotsOf (now (slots .entry)) pool)) ⌝ }
 {
     let mut i = skip_others(number, slots);
-    while i < 256 {
+    while i < SLOTS {
         if slots[i] == number && slots[HOPS + i] != 0 {
             return i;
         }
@@ -84,7 +91,7 @@ pub fn first_free(slots: &[u32]) -> usize
     ensures { λ r. ⌜ ((pool : List ℕ) → r ≡ firstIndex isNone (slotsOf (now (slots .entry)) pool)) ⌝ }
 {
     let mut slot = 0;
-    while slot < 256 {
+    while slot < SLOTS {
         if slots[HOPS + slot] == 0 {
             return slot;
         }
@@ -182,7 +189,7 @@ pub fn insert(slot: usize, flow: Flow, entries: &[u32], slots: &mut [u32], pool:
     ensures { λ _. ⌜ Store (now (slots .exit)) (now (pool .exit)) ⌝ }
 {
     let start = start_of(slot, &slots[..]);
-    let end = start_of(256, &slots[..]);
+    let end = start_of(SLOTS, &slots[..]);
     insert_path(start, end, entries, pool);
     store_flow(slot, flow, slots);
 }
@@ -219,7 +226,7 @@ pub fn remove(slot: usize, slots: &mut [u32], pool: &mut [u32])
 {
     let n = slots[HOPS + slot] as usize;
     let start = start_of(slot, &slots[..]);
-    let held = start_of(256, &slots[..]);
+    let held = start_of(SLOTS, &slots[..]);
     move_down(start, held, n, pool);
     slots[HOPS + slot] = 0;
 }

@@ -12,6 +12,9 @@ use units::Bytes;
 use units::Micros;
 use units::Rate;
 
+// How many hops a path has at the most.
+pub const HOPS: usize = 12;
+
 // A flow as its line gives it. Its hops stand beside it, in an `OrderLine`.
 pub struct Flow {
     pub number: u32,
@@ -38,8 +41,8 @@ pub enum Order {
 // An order, and the links and levels of its path where it is a registration: the first `hops` of them. The rest is free.
 pub struct OrderLine {
     pub order: Order,
-    pub links: [u32; 12],
-    pub levels: [u32; 12],
+    pub links: [u32; HOPS],
+    pub levels: [u32; HOPS],
 }
 
 enum Head {
@@ -54,8 +57,8 @@ enum Hop {
 
 struct Path {
     whole: bool,
-    links: [u32; 12],
-    levels: [u32; 12],
+    links: [u32; HOPS],
+    levels: [u32; HOPS],
 }
 
 // An order without hops.
@@ -64,8 +67,8 @@ fn bare(order: Order) -> OrderLine
 {
     OrderLine {
         order,
-        links: [0; 12],
-        levels: [0; 12],
+        links: [0; HOPS],
+        levels: [0; HOPS],
     }
 }
 
@@ -162,8 +165,8 @@ fn read_path(line: &[u8], hops: u32) -> Path
     ensures { λ r. ⌜ pathOf r hops ≡ pathFields hops (now (line .entry)) ⌝ }
 {
     let n = hops as usize;
-    let mut links = [0u32; 12];
-    let mut levels = [0u32; 12];
+    let mut links = [0u32; HOPS];
+    let mut levels = [0u32; HOPS];
     if line.len() != 41 + 6 * n {
         return Path {
             whole: false,

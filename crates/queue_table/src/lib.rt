@@ -17,6 +17,13 @@ use row::read_row;
 use row::row_cause;
 use units::Micros;
 
+// How many numbers the two columns have, and how many bytes a table text has at the most.
+pub const LINK_NUMBERS: usize = 256;
+
+pub const QUEUE_NUMBERS: usize = 1024;
+
+const MOST_BYTES: usize = 18_944;
+
 // What a line does: a code, 0 where there is none, and the number of links from then on.
 struct Step {
     code: u32,
@@ -41,8 +48,8 @@ pub enum Verdict {
 // A table by value. A refused text has no links; what stands past the links and their levels is free.
 pub struct QueueTable {
     pub verdict: Verdict,
-    pub links: [u32; 256],
-    pub queues: [u32; 1024],
+    pub links: [u32; LINK_NUMBERS],
+    pub queues: [u32; QUEUE_NUMBERS],
 }
 
 // Stores a line's numbers. Within a link the nodes and the speed are stored again as they were.
@@ -114,7 +121,7 @@ pub fn read_into(text: &[u8], links: &mut [u32], queues: &mut [u32]) -> Verdict
     requires { ⌜ (length (now links) ≡ 256) × (length (now queues) ≡ 1024) ⌝ }
     ensures { λ v. ⌜ TableFilled (now (text .entry)) v (now (links .exit)) (now (queues .exit)) ⌝ }
 {
-    if 18944 < text.len() {
+    if MOST_BYTES < text.len() {
         return Verdict::Refused(5, 0);
     }
     let mut at = 0;
@@ -137,8 +144,8 @@ pub fn read_into(text: &[u8], links: &mut [u32], queues: &mut [u32]) -> Verdict
 pub fn read_table(text: &[u8]) -> QueueTable
     ensures { λ t. ⌜ TableFilled (now (text .entry)) (t .verdict) (t .links) (t .queues) ⌝ }
 {
-    let mut links = [0u32; 256];
-    let mut queues = [0u32; 1024];
+    let mut links = [0u32; LINK_NUMBERS];
+    let mut queues = [0u32; QUEUE_NUMBERS];
     let verdict = read_into(text, &mut links, &mut queues);
     QueueTable {
         verdict,

@@ -10,10 +10,12 @@ ghost use Rattle.model.specs.Schedulable.{All};
 ghost use Rattle.flow_store.specs.View.{Store, countsFrom, entriesIn};
 ghost use Rattle.figures.specs.View.{Below};
 ghost use Rattle.recount.specs.View.{Countable, Counted, Recounted, FramesRaised};
+use figures::SUMS;
 use flow_store::BURSTS;
 use flow_store::FRAMES;
 use flow_store::HOPS;
 use flow_store::RATES;
+use flow_store::SLOTS;
 use units::Bytes;
 use units::Rate;
 
@@ -23,7 +25,7 @@ fn clear(sums: &mut [u64])
     ensures { λ _. ⌜ (length (now (sums .exit)) ≡ 1536) × Below 0 (now (sums .exit)) ⌝ }
 {
     let mut i = 0;
-    while i < 1536 {
+    while i < SUMS {
         sums[i] = 0;
         i += 1;
     }
@@ -51,8 +53,8 @@ pub fn recount(queues: &[u32], slots: &[u32], pool: &[u32], sums: &mut [u64])
     ensures { λ _. ⌜ Recounted (now (queues .entry)) (now (slots .entry)) (now (pool .entry)) (now (sums .exit)) ⌝ }
 {
     clear(sums);
-    let mut at = flow_store::hop_sum(slots, 256) as usize;
-    let mut slot = 256;
+    let mut at = flow_store::hop_sum(slots, SLOTS) as usize;
+    let mut slot = SLOTS;
     while 0 < slot {
         slot -= 1;
         at -= slots[HOPS + slot] as usize;
@@ -68,7 +70,7 @@ pub fn raise_frames(slots: &[u32], pool: &[u32], sums: &mut [u64])
 {
     let mut at = 0;
     let mut slot = 0;
-    while slot < 256 {
+    while slot < SLOTS {
         let frame = Bytes(slots[FRAMES + slot] as u64);
         let end = at + slots[HOPS + slot] as usize;
         figures::raise_path(frame, &pool[at..end], sums);
@@ -84,7 +86,7 @@ pub fn same(a: &[u64], b: &[u64]) -> bool
     ensures { λ r. ⌜ (r ≡ false → now (a .entry) ≡ now (b .entry) → ⊥) ⌝ }
 {
     let mut i = 0;
-    while i < 1536 {
+    while i < SUMS {
         if a[i] != b[i] {
             return false;
         }

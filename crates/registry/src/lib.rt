@@ -12,16 +12,22 @@ ghost use Rattle.recount.specs.View.{Countable, Recounted};
 ghost use Rattle.admission.specs.View.{Kept};
 ghost use Rattle.registry.specs.View.{OpensOn, OtherFigures, Sized, Checked, kindOf, callOf, Performs};
 use admission::Answer;
+use figures::SUMS;
+use flow_store::POOL;
+use flow_store::SLOT_NUMBERS;
+use flow_store::SLOTS;
+use queue_table::LINK_NUMBERS;
+use queue_table::QUEUE_NUMBERS;
 use queue_table::Verdict;
 
 // The registry: a queue table of `count` links, 256 slots, 1,024 hop entries and the figures of 512 queues.
 pub struct Registry {
     pub count: usize,
-    pub links: [u32; 256],
-    pub queues: [u32; 1024],
-    pub slots: [u32; 1536],
-    pub pool: [u32; 1024],
-    pub sums: [u64; 1536],
+    pub links: [u32; LINK_NUMBERS],
+    pub queues: [u32; QUEUE_NUMBERS],
+    pub slots: [u32; SLOT_NUMBERS],
+    pub pool: [u32; POOL],
+    pub sums: [u64; SUMS],
 }
 
 // What a table text gives: its verdict, and an empty registry.
@@ -48,7 +54,7 @@ fn figures_right(queues: &[u32], slots: &[u32], pool: &[u32], sums: &[u64]) -> b
     ensures { λ r. ⌜ (r ≡ true → Recounted (now (queues .entry)) (now (slots .entry)) (now (pool .entry)) (now (sums .entry))) ⌝ }
     ensures { λ r. ⌜ (r ≡ false → OtherFigures (now (queues .entry)) (now (slots .entry)) (now (pool .entry)) (now (sums .entry))) ⌝ }
 {
-    let mut fresh = [0u64; 1536];
+    let mut fresh = [0u64; SUMS];
     recount::recount(queues, slots, pool, &mut fresh);
     recount::same(&fresh, sums)
 }
@@ -66,7 +72,7 @@ pub fn is_consistent(
     ensures { λ r. ⌜ (r ≡ true → Kept n (now (links .entry)) (now (queues .entry)) (now (slots .entry)) (now (pool .entry)) (now (sums .entry))) ⌝ }
     ensures { λ r. ⌜ (r ≡ false → Kept n (now (links .entry)) (now (queues .entry)) (now (slots .entry)) (now (pool .entry)) (now (sums .entry)) → ⊥) ⌝ }
 {
-    if 1024 < flow_store::hop_sum(slots, 256) {
+    if 1024 < flow_store::hop_sum(slots, SLOTS) {
         return false;
     }
     if !queue_table::consistent(n, links, queues) {
@@ -209,9 +215,9 @@ pub fn open(text: &[u8]) -> Opened
         count,
         links,
         queues,
-        slots: [0; 1536],
-        pool: [0; 1024],
-        sums: [0; 1536],
+        slots: [0; SLOT_NUMBERS],
+        pool: [0; POOL],
+        sums: [0; SUMS],
     };
     Opened { verdict, registry }
 }
