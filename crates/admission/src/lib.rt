@@ -146,7 +146,7 @@ fn take_out(
     let rate = Rate(slots[RATES + slot] as u64);
     let burst = Bytes(slots[BURSTS + slot] as u64);
     let frame = Bytes(slots[FRAMES + slot] as u64);
-    let mut entries = [0u32; orders::HOPS];
+    let mut entries = [0u32; orders::MOST_HOPS];
     let hops = flow_store::path_into(slot, &slots[..], &pool[..], &mut entries);
     flow_store::remove(slot, slots, pool);
     if figures::remove_path(rate, burst, frame, queues, &entries[..hops], sums) {

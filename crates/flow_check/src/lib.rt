@@ -14,6 +14,7 @@ use flow_store::BURSTS;
 use flow_store::DEADLINES;
 use flow_store::FRAMES;
 use flow_store::HOPS;
+use flow_store::POOL;
 use flow_store::RATES;
 use flow_store::SLOTS;
 use orders::Flow;
@@ -33,7 +34,7 @@ pub enum Cause {
 // What is against a flow by itself; where that is nothing, the entries name its path, else they are free.
 pub struct Judged {
     pub cause: Cause,
-    pub entries: [u32; orders::HOPS],
+    pub entries: [u32; orders::MOST_HOPS],
 }
 
 // Whether there is room, and the slot that is free.
@@ -123,13 +124,13 @@ pub fn judge_flow(
     if flow_store::find(number, slots) < SLOTS {
         return Judged {
             cause: Cause::Whole(12),
-            entries: [0; orders::HOPS],
+            entries: [0; orders::MOST_HOPS],
         };
     }
     if burst < frame {
         return Judged {
             cause: Cause::Whole(17),
-            entries: [0; orders::HOPS],
+            entries: [0; orders::MOST_HOPS],
         };
     }
     judge_path(flow, hop_links, hop_levels, n, links, queues)
@@ -147,7 +148,7 @@ pub fn judge_room(hops: u32, slots: &[u32]) -> Room
             slot,
         };
     }
-    if 1024 - (hops as u64) < flow_store::hop_sum(slots, SLOTS) {
+    if POOL as u64 - (hops as u64) < flow_store::hop_sum(slots, SLOTS) {
         return Room {
             cause: Cause::Whole(31),
             slot,

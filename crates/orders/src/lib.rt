@@ -13,7 +13,7 @@ use units::Micros;
 use units::Rate;
 
 // How many hops a path has at the most.
-pub const HOPS: usize = 12;
+pub const MOST_HOPS: usize = 12;
 
 // A flow as its line gives it. Its hops stand beside it, in an `OrderLine`.
 pub struct Flow {
@@ -41,8 +41,8 @@ pub enum Order {
 // An order, and the links and levels of its path where it is a registration: the first `hops` of them. The rest is free.
 pub struct OrderLine {
     pub order: Order,
-    pub links: [u32; HOPS],
-    pub levels: [u32; HOPS],
+    pub links: [u32; MOST_HOPS],
+    pub levels: [u32; MOST_HOPS],
 }
 
 enum Head {
@@ -57,8 +57,8 @@ enum Hop {
 
 struct Path {
     whole: bool,
-    links: [u32; HOPS],
-    levels: [u32; HOPS],
+    links: [u32; MOST_HOPS],
+    levels: [u32; MOST_HOPS],
 }
 
 // An order without hops.
@@ -67,8 +67,8 @@ fn bare(order: Order) -> OrderLine
 {
     OrderLine {
         order,
-        links: [0; HOPS],
-        levels: [0; HOPS],
+        links: [0; MOST_HOPS],
+        levels: [0; MOST_HOPS],
     }
 }
 
@@ -165,8 +165,8 @@ fn read_path(line: &[u8], hops: u32) -> Path
     ensures { λ r. ⌜ pathOf r hops ≡ pathFields hops (now (line .entry)) ⌝ }
 {
     let n = hops as usize;
-    let mut links = [0u32; HOPS];
-    let mut levels = [0u32; HOPS];
+    let mut links = [0u32; MOST_HOPS];
+    let mut levels = [0u32; MOST_HOPS];
     if line.len() != 41 + 6 * n {
         return Path {
             whole: false,

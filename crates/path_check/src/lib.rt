@@ -11,14 +11,14 @@ ghost use Rattle.model.specs.Schedulable.{All};
 ghost use Rattle.model.specs.Reference.{atHop, isNone, noQueue, metEarlier, startsElsewhere, thresholdSum};
 ghost use Rattle.queue_table.specs.View.{tableOf, levelsAt, hopAt, isQueue, AllQueues};
 ghost use Rattle.path_check.specs.Causes.{hopCause, earlierThan, EntryOf, PathLocated};
-use orders::HOPS;
+use orders::MOST_HOPS;
 use queue_table::threshold_of;
 use units::Micros;
 
 // The first hop without a queue, and the hop count where each has one: then the entries name the path, else they are free.
 pub struct Located {
     pub missing: usize,
-    pub entries: [u32; HOPS],
+    pub entries: [u32; MOST_HOPS],
 }
 
 enum Entry {
@@ -59,7 +59,7 @@ pub fn locate(
     requires { ⌜ (length (now «hop_links») ≡ 12) × (length (now «hop_levels») ≡ 12) × (hops ≤ 12) ⌝ }
     ensures { λ r. ⌜ PathLocated n (now (links .entry)) (now («hop_links» .entry)) (now («hop_levels» .entry)) hops r ⌝ }
 {
-    let mut entries = [0u32; HOPS];
+    let mut entries = [0u32; MOST_HOPS];
     let mut i = 0;
     while i < hops {
         let Entry::At(entry) = entry_of(n, links, hop_links[i], hop_levels[i]) else {

@@ -72,7 +72,7 @@ pub fn is_consistent(
     ensures { λ r. ⌜ (r ≡ true → Kept n (now (links .entry)) (now (queues .entry)) (now (slots .entry)) (now (pool .entry)) (now (sums .entry))) ⌝ }
     ensures { λ r. ⌜ (r ≡ false → Kept n (now (links .entry)) (now (queues .entry)) (now (slots .entry)) (now (pool .entry)) (now (sums .entry)) → ⊥) ⌝ }
 {
-    if 1024 < flow_store::hop_sum(slots, SLOTS) {
+    if (POOL as u64) < flow_store::hop_sum(slots, SLOTS) {
         return false;
     }
     if !queue_table::consistent(n, links, queues) {

@@ -10,11 +10,13 @@ ghost use mathlib.Core.Path.{_≡_};
 ghost use lib.ListN.{length};
 ghost use Rattle.flow_store.specs.View.{Store};
 ghost use Rattle.registry.specs.View.{Consistent};
+use figures::QUEUES;
 use flow_store::BURSTS;
 use flow_store::DEADLINES;
 use flow_store::FRAMES;
 use flow_store::HOPS;
 use flow_store::RATES;
+use flow_store::SLOTS;
 use libc::STDOUT_FILENO;
 use queue_table::Verdict;
 use recording::ANSWER;
@@ -91,7 +93,7 @@ fn show_queues(n: usize, links: &[u32], sums: &[u64])
     requires { ⌜ (length (now links) ≡ 256) × (length (now sums) ≡ 1536) ⌝ }
 {
     let mut e = 0;
-    while e < 512 {
+    while e < QUEUES {
         let levels = columns::wide(links[4 * (e / 8) + 3]);
         if e / 8 < n && ((e % 8) as u64) < levels {
             show_queue(e, sums);
@@ -151,7 +153,7 @@ fn show_slot(slot: usize, slots: &[u32], pool: &[u32])
     if 12 < hops {
         return;
     }
-    let mut entries = [0u32; 12];
+    let mut entries = [0u32; orders::MOST_HOPS];
     let n = flow_store::path_into(slot, slots, pool, &mut entries);
     show_flow(slot, slots, &entries[..n]);
 }
@@ -160,7 +162,7 @@ fn show_slots(slots: &[u32], pool: &[u32])
     requires { ⌜ Store (now slots) (now pool) ⌝ }
 {
     let mut slot = 0;
-    while slot < 256 {
+    while slot < SLOTS {
         show_slot(slot, slots, pool);
         slot += 1;
     }
