@@ -37,8 +37,8 @@ pub const DEADLINES: usize = 1024;
 
 pub const HOPS: usize = 1280;
 
-// Whether a flow number stands in one of 16 slots, held or free. It goes on past the first, so that the slots are compared
-// together.
+// Whether a flow number may stand in one of 16 slots, held or free: false only where it doesn't. It goes on past the
+// first, so that the slots are compared together.
 fn block_names(number: u32, from: usize, slots: &[u32]) -> bool
     requires { ⌜ (length (now slots) ≡ 1536) × (from + 16 ≤ 256) ⌝ }
     ensures { λ r. ⌜ (r ≡ false → OthersFrom number (now (slots .entry)) from (from + 16)) ⌝ }
