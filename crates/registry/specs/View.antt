@@ -36,7 +36,7 @@ pub record Checked (o : Order) (n : ℕ) (links queues slots pool sums slots′ 
   pub kept-out : (Kept n links queues slots pool sums → ⊥)
       → (answerOf r ≡ spoilt) × ((slots′ ≡ slots) × ((pool′ ≡ pool) × (sums′ ≡ sums)))
 
--- The same of a registry by value.
+-- The state that a registry holds, and that it is consistent.
 abbrev pub stateIn : Registry → model.State
 stateIn r = stateOf (r .count) (r .links) (r .queues) (r .slots) (r .pool)
 
