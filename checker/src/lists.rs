@@ -93,25 +93,34 @@ impl Program {
     }
 }
 
-/// Runs so many lists of calls through the program; the first difference from the plain version
-/// ends the run. Gives the number of calls.
+/// The words that `replay` is started with: calls by value, and in place.
+const FORMS: [&[&str]; 2] = [&[], &["in-place"]];
+
+/// Runs so many lists of calls through the program, each by value and in place; the first
+/// difference from the plain version ends the run. Gives the number of calls.
 pub fn compare(program: &Path, seed: u64, count: u64) -> Result<u64, String> {
-    let program = Program {
-        path: program.canonicalize().map_err(|error| error.to_string())?,
-        words: Vec::new(),
-    };
+    let path = program.canonicalize().map_err(|error| error.to_string())?;
+    let programs = FORMS.map(|words| Program {
+        path: path.clone(),
+        words: words.to_vec(),
+    });
     let mut made = 0;
     for index in 0..count {
         let mut rng = Rng::new(seed, index);
         let (table, list, calls) = random_list(&mut rng);
         let expected = replay(&table, &list);
-        let printed = Folder::with("compare", &table, &list)
-            .and_then(|folder| program.printed_in(&folder.0))
-            .map_err(|error| format!("seed {seed} list {index}: {error}"))?;
-        if printed != expected {
-            return Err(format!("seed {seed} list {index}: what is printed differs"));
+        for program in &programs {
+            let words = &program.words;
+            let printed = Folder::with("compare", &table, &list)
+                .and_then(|folder| program.printed_in(&folder.0))
+                .map_err(|error| format!("seed {seed} list {index} {words:?}: {error}"))?;
+            if printed != expected {
+                return Err(format!(
+                    "seed {seed} list {index} {words:?}: what is printed differs"
+                ));
+            }
+            made += calls;
         }
-        made += calls;
     }
     Ok(made)
 }
