@@ -16,7 +16,7 @@ use Rattle.model.specs.Laws.Figures.{sharesAt, shares-nothing, shares-other, sh
 use Rattle.queue_table.specs.View.{tableOf, hopAt, AllQueues}
 use Rattle.figures.specs.View.{figureAt, Below, figureStored, FlowOf, PathAdded, Figures}
 use Rattle.figures.proofs.FigureLaws.{stored-length, stored-here, stored-other, stored-below}
-use Rattle.figures.proofs.EntryLaws.{other-entry, entries-next, entries-end}
+use Rattle.figures.proofs.EntryLaws.{other-entry, shares-next, shares-end}
 
 -- The figures so far, `sums`, with the hops from `i` on left, before which the thresholds sum to `sum`.
 pub record Adding (rate burst frame : ℕ) (queues entries before sums : List ℕ) (sum i : ℕ) : Type 0 where
@@ -46,7 +46,7 @@ module _ (rate burst frame : ℕ) (queues entries before : List ℕ) where
         record {
           long = so-far .long;
           same = λ n links f named is e lt.
-              let nothing = ap (λ l. together (sharesAt (hopAt e) l) (figureAt sums e)) (entries-end is n links queues sum i end) in
+              let nothing = ap (λ l. together (sharesAt (hopAt e) l) (figureAt sums e)) (shares-end is n links queues sum i end) in
               sym (shares-nothing (hopAt e) (figureAt sums e)) ∙ sym nothing ∙ so-far .left n links f named is e lt;
           below = λ bound b j. omega (arith, so-far .below bound b j, so-far .within);
         }
@@ -96,7 +96,7 @@ module _ (rate burst frame : ℕ) (queues entries before : List ℕ) where
         unfolding t rest share
         next-left e lt =
             step e (ℕ-discrete e x)
-            ∙ ap (λ l. together (sharesAt (hopAt e) l) (figureAt sums e)) (sym (entries-next is n links queues sum i named more))
+            ∙ ap (λ l. together (sharesAt (hopAt e) l) (figureAt sums e)) (sym (shares-next is n links queues sum i named more))
             ∙ so-far .left n links f named is e lt
 
       pub adding-next : Adding rate burst frame queues entries before sums′ (sum + getD queues (2 * x) 0) (i + 1)

@@ -18,7 +18,7 @@ use Rattle.model.specs.Aggregates as model
 use Rattle.model.specs.LinkCheck.{linkFinding}
 use Rattle.model.specs.Schedulable.{All, Named}
 use Rattle.model.specs.Reference.{Cause, linkCause, causeAt, linkFindings, firstCause, thresholdSum}
-use Rattle.model.specs.Laws.All.{all-imp, map-all}
+use Rattle.model.specs.Laws.All.{all-imp, map-all, all-getD}
 use Rattle.model.specs.Laws.Figures.{Crossed, crossed}
 use Rattle.queue_table.specs.View.{upTo, queueAt, tableOf, hopAt, isQueue, Columns, AllQueues}
 use Rattle.link_check.proofs.Laws.{mapped-next, mapped-end}
@@ -26,7 +26,6 @@ use Rattle.figures.specs.declared.PathFinding.{PathFinding}
 use Rattle.figures.specs.declared.PathFinding.the-variants.{Fits}
 use Rattle.figures.specs.View.{levelsWith, Figures, FlowOf, OnTable, causeOf, PathChecked}
 use Rattle.queue_table.proofs.EntryLaws.{queue-named, threshold-named}
-use Rattle.figures.proofs.EntryLaws.{all-at}
 use Rattle.figures.proofs.LinkLaws.{hop-cause}
 
 -- The links before hop `i` pass, and `sum` is the sum of the thresholds of the hops before it.
@@ -91,7 +90,7 @@ module _ (rate burst frame : ℕ) (links queues sums entries : List ℕ) where
           at-hop : causeAt t (f ∷ fs) (hopAt e .link) (model.linkAt t (hopAt e .link)) ≡ causeOf r
           at-hop =
               hop-cause n links queues columns fs sums figures on f (rw (is .path-is) (path-named n links queues entries (path .named))) e
-              (all-at (λ e. isQueue n links e ≡ true) entries i (path .named) more) once
+              (all-getD (λ e. isQueue n links e ≡ true) entries i 0 (path .named) more) once
               ∙ rw (is .rate-is, is .burst-is, is .frame-is, ← so-far .sum-is n path) (sym found)
 
           step : firstCause (causeOf r ∷ linkFindings t (f ∷ fs) (drop (i + 1) (f .path))) ≡ firstCause (linkFindings t (f ∷ fs) (f .path))
@@ -121,7 +120,7 @@ module _ (rate burst frame : ℕ) (links queues sums entries : List ℕ) where
               arith,
               total-append (λ h. model.thresholdOf (model.queueAt t h)) (map hopAt (take i entries)) (hopAt e ∷ []),
               so-far .sum-is n path,
-              threshold-named n links e (all-at (λ e. isQueue n links e ≡ true) entries i (path .named) more) queues,
+              threshold-named n links e (all-getD (λ e. isQueue n links e ≡ true) entries i 0 (path .named) more) queues,
             ))
 
         pub checking-next : causeOf r ≡ none → getD queues (2 * e) 0 ≤ 100000

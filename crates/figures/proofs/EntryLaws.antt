@@ -1,6 +1,6 @@
 -- Hop entries told apart, and a path taken hop by hop.
 -- Assumes nothing.
-use Prim.Native.Nat.{ℕ, zero, suc, _+_, _*_, _^_, _≤_, _<_}
+use Prim.Native.Nat.{ℕ, _+_, _*_, _^_, _≤_, _<_}
 use mathlib.Core.Path.{_≡_, refl, sym, ap, _∙_}
 use mathlib.Core.Bool.{Bool, true, false}
 use mathlib.Core.List.{List, [], _∷_}
@@ -8,10 +8,10 @@ use native.Mathlib.Nat.{div-add-mod, mul-le-mul}
 use native.Mathlib.Omega.{arith}
 use lib.Arith.{digits-div, digits-mod}
 use lib.ListN.{length, getD, drop}
+use Rattle.model.specs.Laws.All.{all-getD}
 use Rattle.model.specs.Formula.{burstAtHop}
 use Rattle.model.specs.Laws.Formula.{ceilDiv-le}
 use Rattle.model.specs.Aggregates as model
-use Rattle.model.specs.Schedulable.{All}
 use Rattle.model.specs.Orders.{Hop, Flow}
 use Rattle.model.specs.Laws.Aggregates.{same-hop}
 use Rattle.queue_table.specs.View.{tableOf, hopAt, isQueue, AllQueues}
@@ -37,41 +37,34 @@ entry-hop link p h =
     let e : 8 * link + p ≡ link * 8 + p = omega arith in
     rw e (λ i. record { link = digits-div link h i + 1; level = digits-mod link h i + 1 })
 
--- What holds of each entry of a path holds of the one at `i`.
-module _ (P : ℕ → Type 0) where
-  pub all-at : (l : List ℕ) (i : ℕ) → All P l → i < length l → P (getD l i 0)
-  all-at [] i a h = absurd (omega arith)
-  all-at (x ∷ l) zero a h = a .0
-  all-at (x ∷ l) (suc i) a h = all-at l i (a .1) (omega arith)
-
 -- The hop at `i` and its threshold, where those before it sum to `sum`.
 abbrev pub HopAt : (queues entries : List ℕ) (sum i : ℕ) → Type 0
 HopAt queues entries sum i = (getD entries i 0 < 512) × (getD queues (2 * getD entries i 0) 0 ≤ 100000) × (sum ≤ 1200000)
 
 pub hop-at : {queues entries : List ℕ} {sum i : ℕ} → Hops queues entries → sum ≤ i * 100000 → i < length entries → HopAt queues entries sum i
 hop-at {queues} {entries} {sum} {i} hops below more =
-    let hop = all-at (λ e. (e < 512) × (getD queues (2 * e) 0 ≤ 100000)) entries i (hops .each) more in
+    let hop = all-getD (λ e. (e < 512) × (getD queues (2 * e) 0 ≤ 100000)) entries i 0 (hops .each) more in
     (hop .0, hop .1, omega (arith, hops .few))
 
 -- What the hops of a path from `i` on add, where the thresholds before them sum to `sum`.
 module _ {rate burst frame : ℕ} {entries : List ℕ} {f : Flow} (is : FlowOf rate burst frame entries f) (n : ℕ) (links queues : List ℕ) (sum i : ℕ) where
-  -- The entry of the hop at `i`, and those after it.
-  pub entries-next : AllQueues n links entries → i < length entries
+  -- The share at the hop at `i`, and those after it.
+  pub shares-next : AllQueues n links entries → i < length entries
       → let x : ℕ = getD entries i 0 in
       model.shares (tableOf n links queues) f sum (drop i (f .path))
       ≡ record { hop = hopAt x; adds = record { rate = rate; burst = burstAtHop rate burst sum; frame = frame } }
       ∷ model.shares (tableOf n links queues) f (sum + getD queues (2 * x) 0) (drop (i + 1) (f .path))
   unfolding model.shares
-  entries-next named more =
+  shares-next named more =
       let x : ℕ = getD entries i 0 in
       let hops : drop i (f .path) ≡ hopAt x ∷ drop (i + 1) (f .path)
       = ap (drop i) (is .path-is) ∙ mapped-next hopAt entries i 0 more ∙ ap (λ l. hopAt x ∷ drop (i + 1) l) (sym (is .path-is)) in
       ap (model.shares (tableOf n links queues) f sum) hops
-      ∙ rw (threshold-named n links x (all-at (λ e. isQueue n links e ≡ true) entries i named more) queues, is .rate-is, is .burst-is, is .frame-is)
+      ∙ rw (threshold-named n links x (all-getD (λ e. isQueue n links e ≡ true) entries i 0 named more) queues, is .rate-is, is .burst-is, is .frame-is)
 
-  pub entries-end : length entries ≤ i → model.shares (tableOf n links queues) f sum (drop i (f .path)) ≡ []
+  pub shares-end : length entries ≤ i → model.shares (tableOf n links queues) f sum (drop i (f .path)) ≡ []
   unfolding model.shares
-  entries-end end = ap (model.shares (tableOf n links queues) f sum) (ap (drop i) (is .path-is) ∙ mapped-end hopAt entries i end)
+  shares-end end = ap (model.shares (tableOf n links queues) f sum) (ap (drop i) (is .path-is) ∙ mapped-end hopAt entries i end)
 
 -- A burst at a hop, in the ranges of document 01.
 pub burst-small : {rate burst sum : ℕ} → rate ≤ 10000000 → burst ≤ 1000000 → sum ≤ 1200000 → burstAtHop rate burst sum ≤ 2 ^ 31

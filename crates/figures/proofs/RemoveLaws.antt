@@ -17,7 +17,7 @@ use Rattle.model.specs.Laws.Figures.{sharesAt, shares-nothing, shares-other, sh
 use Rattle.queue_table.specs.View.{tableOf, hopAt, AllQueues}
 use Rattle.figures.specs.View.{figureAt, figureStored, FlowOf, Figures, PathCounted, Carried, FrameLeft, no-flow, unknown, another, HopRemoved, PathRemoved, Near}
 use Rattle.figures.proofs.FigureLaws.{stored-length, stored-here, stored-other, frame-stored, frame-kept}
-use Rattle.figures.proofs.EntryLaws.{other-entry, entries-next, entries-end}
+use Rattle.figures.proofs.EntryLaws.{other-entry, shares-next, shares-end}
 
 -- The stores that take a flow out at a queue.
 module _ (sums : List ℕ) (e rate burst frame : ℕ) (counted : (rate ≤ figureAt sums e .rate) × (burst ≤ figureAt sums e .burst)) where
@@ -123,7 +123,7 @@ module _ (rate burst frame : ℕ) (queues entries before : List ℕ) where
           left = λ n links f fs named is figures one carried e lt.
               let t = tableOf n links queues in
               let a = model.aggregateAt t fs (hopAt e) in
-              let nothing = ap (λ l. together (sharesAt (hopAt e) l) a) (entries-end is n links queues sum i end) ∙ shares-nothing (hopAt e) a in
+              let nothing = ap (λ l. together (sharesAt (hopAt e) l) a) (shares-end is n links queues sum i end) ∙ shares-nothing (hopAt e) a in
               let near = subst (Near ((1 ≤ rate) × Carried t fs × (again ≡ false)) (figureAt sums e)) nothing (so-far .left n links f fs named is figures e lt) in
               record { rate = near .rate; burst = near .burst; low = near .low; frame = λ known. near .frame (one, carried, known) };
         }
@@ -150,7 +150,7 @@ module _ (rate burst frame : ℕ) (queues entries before : List ℕ) where
         left-now : (e : ℕ) → e < 512 → Near (Sure again) (figureAt sums e) (together (sharesAt (hopAt e) (share ∷ rest)) (model.aggregateAt t fs (hopAt e)))
         left-now e lt =
             subst (λ l. Near (Sure again) (figureAt sums e) (together (sharesAt (hopAt e) l) (model.aggregateAt t fs (hopAt e))))
-            (entries-next is n links queues sum i named more) (so-far .left n links f fs named is figures e lt)
+            (shares-next is n links queues sum i named more) (so-far .left n links f fs named is figures e lt)
 
         left-here : Near (Sure again) (figureAt sums x) (together (sharesAt (hopAt x) rest) (withFlow (model.aggregateAt t fs (hopAt x)) rate (burstAtHop rate burst sum) frame))
         left-here =

@@ -111,7 +111,7 @@ pub fn remove_path(
 }
 
 // Where the largest frame of the queue of entry i stands.
-fn frame_place(i: usize, entries: &[u32]) -> usize
+fn frame_index(i: usize, entries: &[u32]) -> usize
     requires { ⌜ All (λ e. e < 512) (now entries) × (i < length (now entries)) ⌝ }
     ensures { λ r. ⌜ r ≡ 3 * getD (now (entries .entry)) i 0 + 2 ⌝ }
     ensures { λ r. ⌜ r < 1536 ⌝ }
@@ -126,7 +126,7 @@ fn any_lower(frame: Bytes, entries: &[u32], sums: &[u64]) -> bool
 {
     let mut i = 0;
     while i < entries.len() {
-        if sums[frame_place(i, entries)] < frame.0 {
+        if sums[frame_index(i, entries)] < frame.0 {
             return true;
         }
         i += 1;
@@ -141,7 +141,7 @@ fn raise_each(frame: Bytes, entries: &[u32], sums: &mut [u64])
 {
     let mut i = 0;
     while i < entries.len() {
-        let at = frame_place(i, entries);
+        let at = frame_index(i, entries);
         if sums[at] < frame.0 {
             sums[at] = frame.0;
         }

@@ -9,8 +9,8 @@ use native.Mathlib.Omega.{arith}
 use lib.ListN.{length, getD, take, length-map, List·getD-map}
 use lib.Seq.{getD-take, length-take-le}
 use lib.Dec.{eqb}
+use Rattle.model.specs.Laws.All.{all-getD}
 use Rattle.model.specs.Orders.{Hop}
-use Rattle.model.specs.Schedulable.{All}
 use Rattle.model.specs.Reference.{crosses, startsElsewhere}
 use Rattle.model.specs.Laws.Path.{reverse-take, searchFrom, search-on, search-found, search-ended}
 use Rattle.orders.specs.Reading.{zipHops, linePath}
@@ -18,11 +18,6 @@ use Rattle.orders.proofs.PathLaws.{zip-length}
 use Rattle.queue_table.specs.View.{tableOf, hopAt, isQueue, AllQueues}
 use Rattle.path_check.specs.Causes.{hopCause, earlierThan}
 use Rattle.path_check.proofs.EntryLaws.{crosses-entry, starts-elsewhere}
-
-pub all-at : {A : Type 0} (P : A → Type 0) (l : List A) (i : ℕ) (d : A) → All P l → i < length l → P (getD l i d)
-all-at P [] i d a h = absurd (omega arith)
-all-at P (x ∷ l) zero d a h = a .0
-all-at P (x ∷ l) (suc i) d a h = all-at P l i d (a .1) (omega arith)
 
 module _ (code : ℕ) where
   -- The cause at a hop of the path, and none past its end.
@@ -98,7 +93,7 @@ module _ (entries : List ℕ) where
       ≡ not (eqb (getD links (4 * (getD entries i 0 / 8)) 0) (getD links (4 * (getD entries (i - 1) 0 / 8) + 1) 0))
   starts-nearest n links queues i a pos h =
       ap (λ (before : List Hop). startsElsewhere (tableOf n links queues) before (hopAt (getD entries i 0))) (nearest i pos (omega arith))
-      ∙ starts-elsewhere n links queues _ (getD entries (i - 1) 0) (getD entries i 0) (all-at (λ e. isQueue n links e ≡ true) entries (i - 1) 0 a (omega arith)) (all-at (λ e. isQueue n links e ≡ true) entries i 0 a h)
+      ∙ starts-elsewhere n links queues _ (getD entries (i - 1) 0) (getD entries i 0) (all-getD (λ e. isQueue n links e ≡ true) entries (i - 1) 0 a (omega arith)) (all-getD (λ e. isQueue n links e ≡ true) entries i 0 a h)
 
 -- Hop i of an order line's arrays.
 abbrev pub lineHop : (hopLinks hopLevels : List ℕ) (i : ℕ) → Hop

@@ -1,10 +1,11 @@
 -- What holds of each element of lists joined, mapped, reversed or in another order, and of one of them, by membership or index.
 -- By induction on the list. Assumes nothing.
-use Prim.Native.Nat.{ℕ, zero, suc}
+use Prim.Native.Nat.{ℕ, zero, suc, _<_}
 use mathlib.Core.Path.{_≡_, refl, subst, sym}
 use mathlib.Core.List.{List, [], _∷_, _++_, map, reverse, reverseAux, List·Memᴰ, List·Memᴰ·head, List·Memᴰ·tail, List·Permᴰ, List·Permᴰ·nil, List·Permᴰ·cons, List·Permᴰ·swap, List·Permᴰ·trans}
 use mathlib.Core.Option.{some, Option·none-ne-some, Option·some-injective}
-use lib.ListN.{getElem?}
+use native.Mathlib.Omega.{arith}
+use lib.ListN.{length, getD, getElem?}
 use Rattle.model.specs.Schedulable.{All}
 
 pub member-at : {A : Type 0} (l : List A) (i : ℕ) {x : A} → getElem? l i ≡ some x → List·Memᴰ x l
@@ -34,6 +35,11 @@ module _ {A : Type 0} (P : A → Type 0) where
 
   pub all-at : (l : List A) (i : ℕ) (x : A) → All P l → getElem? l i ≡ some x → P x
   all-at l i x a e = all-member a (member-at l i e)
+
+  pub all-getD : (l : List A) (i : ℕ) (d : A) → All P l → i < length l → P (getD l i d)
+  all-getD [] i d a h = absurd (omega arith)
+  all-getD (x ∷ l) zero d a h = a .0
+  all-getD (x ∷ l) (suc i) d a h = all-getD l i d (a .1) (omega arith)
 
   pub member-all : (l : List A) → ((x : A) → List·Memᴰ x l → P x) → All P l
   member-all [] h = tt

@@ -7,10 +7,11 @@ use mathlib.Core.Bool.{not}
 use native.Mathlib.Omega.{arith}
 use lib.ListN.{getD}
 use lib.Dec.{eqb}
+use Rattle.model.specs.Laws.All.{all-getD}
 use Rattle.model.specs.Reference.{startsElsewhere}
 use Rattle.queue_table.specs.View.{tableOf, hopAt}
 use Rattle.path_check.specs.Causes.{earlierThan}
-use Rattle.path_check.proofs.SearchLaws.{all-at, starts-nearest}
+use Rattle.path_check.proofs.SearchLaws.{starts-nearest}
 use Rattle.path_check.proofs.starts_elsewhere.Statement.{statement}
 use Rattle.path_check.proofs.starts_elsewhere.Tie as tie
 
@@ -24,12 +25,12 @@ returns c =
 link-of-requires : tie.Need-link-of-requires
 link-of-requires c κs =
     let start = c .before .before .before .before in
-    all-at (λ e. e < 512) (start .args .entries .now) (start .args .i - 1) 0 (start .pre .1) (omega arith)
+    all-getD (λ e. e < 512) (start .args .entries .now) (start .args .i - 1) 0 (start .pre .1) (omega arith)
 
 link-of-requires-2 : tie.Need-link-of-requires-2
 link-of-requires-2 c κs =
     let start = c .before .before .before .before .before .before in
-    all-at (λ e. e < 512) (start .args .entries .now) (start .args .i) 0 (start .pre .1) (omega arith)
+    all-getD (λ e. e < 512) (start .args .entries .now) (start .args .i) 0 (start .pre .1) (omega arith)
 
 returns-2 : tie.Need-returns-2
 returns-2 c =

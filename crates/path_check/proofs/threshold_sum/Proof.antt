@@ -5,10 +5,10 @@ use Prim.Native.Nat.{_+_, _-_, _*_, _≤_, _<_}
 use mathlib.Core.Path.{_≡_}
 use native.Mathlib.Omega.{arith}
 use lib.ListN.{length, drop, getD}
+use Rattle.model.specs.Laws.All.{all-getD}
 use Rattle.model.specs.Total.{total}
 use Rattle.model.specs.Laws.Path.{total-on, total-ended}
 use Rattle.path_check.proofs.EntryLaws.{threshold-entries}
-use Rattle.path_check.proofs.SearchLaws.{all-at}
 use Rattle.path_check.proofs.threshold_sum.Statement.{statement}
 use Rattle.path_check.proofs.threshold_sum.Tie as tie
 
@@ -25,7 +25,7 @@ loop-holds c = (omega arith, omega arith, omega arith)
 low : (c : tie.In-loop Inv-loop μ-loop) → getD (c .before .before .before .before .args .entries .now) (c .before .loop .i) 0 < 512
 low c =
     let start = c .before .before .before .before in
-    all-at (λ e. e < 512) (start .args .entries .now) (c .before .loop .i) 0 (start .pre .1) (omega (arith, c .loop-test .taken))
+    all-getD (λ e. e < 512) (start .args .entries .now) (c .before .loop .i) 0 (start .pre .1) (omega (arith, c .loop-test .taken))
 
 cast-threshold-of : tie.Need-cast-threshold-of Inv-loop μ-loop
 cast-threshold-of c = omega (arith, low (c .before))

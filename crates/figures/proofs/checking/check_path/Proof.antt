@@ -9,6 +9,7 @@ use native.Mathlib.Omega.{arith}
 use lib.ListN.{length, getD}
 use types.Run.{OneOf, miss}
 use denote.Enum.Declared.{tagOf}
+use Rattle.model.specs.Laws.All.{all-getD}
 use Rattle.model.specs.Formula.{burstAtHop}
 use Rattle.figures.specs.declared.PathFinding.{PathFinding}
 use Rattle.figures.specs.declared.PathFinding.the-variants.{Fits, OverRate, OverDelay, OverBacklog}
@@ -17,7 +18,7 @@ use Rattle.model.specs.LinkCheck.{linkFinding}
 use Rattle.model.specs.Reference.{linkCause}
 use Rattle.queue_table.specs.View.{upTo, queueAt}
 use Rattle.figures.specs.View.{causeOf, levelsWith}
-use Rattle.figures.proofs.EntryLaws.{all-at, HopAt, hop-at, burst-small}
+use Rattle.figures.proofs.EntryLaws.{HopAt, hop-at, burst-small}
 use Rattle.figures.proofs.CheckLaws.{Checking, checking-none, checking-all, checking-found, checking-next}
 use Rattle.figures.proofs.checking.check_path.Statement.{statement}
 use Rattle.figures.proofs.checking.check_path.Tie as tie
@@ -47,7 +48,7 @@ module _ (c : tie.In-loop Inv-loop μ-loop) where
 
   speed : getD (start .args .links .now) (4 * (e / 8) + 2) 0 ≤ 10000
   speed =
-      all-at (λ e. getD (start .args .links .now) (4 * (e / 8) + 2) 0 ≤ 10000) (start .args .entries .now) (c .before .loop .i) (start .pre .1 .1 .0 .each)
+      all-getD (λ e. getD (start .args .links .now) (4 * (e / 8) + 2) 0 ≤ 10000) (start .args .entries .now) (c .before .loop .i) 0 (start .pre .1 .1 .0 .each)
       (c .loop-test .taken)
 
 -- What the check of the hop tells.

@@ -26,7 +26,7 @@ loop-again c =
     let at = c .before .before .before .before in
     let args = at .before .before .before .before .args in
     raising-stays (args .frame .0) (args .entries .now) (args .sums .now) (at .before .loop .inv) (at .loop-test .taken)
-    (c .before .before .before .frame-place .ensures) (omega (arith, c .if1 .left))
+    (c .before .before .before .frame-index .ensures) (omega (arith, c .if1 .left))
 
 returns-2 : tie.Need-returns-2 Inv-loop μ-loop
 returns-2 c = λ e. raising-all _ _ _ (c .before .loop .inv) (c .loop-test .left)

@@ -24,8 +24,8 @@ loop-again c =
     let at = c .before .before .before .before in
     let args = at .before .before .before .before .args in
     ⊎-elim
-    (λ w. rw (w .1) (raising-grows (args .frame .0) (args .entries .now) (args .sums .now) (at .before .loop .inv) (at .loop-test .taken) (c .before .before .before .frame-place .ensures) (omega (arith, w .0 .taken))))
-    (λ w. rw (w .1) (raising-stays (args .frame .0) (args .entries .now) (args .sums .now) (at .before .loop .inv) (at .loop-test .taken) (c .before .before .before .frame-place .ensures) (omega (arith, w .0 .left))))
+    (λ w. rw (w .1) (raising-grows (args .frame .0) (args .entries .now) (args .sums .now) (at .before .loop .inv) (at .loop-test .taken) (c .before .before .before .frame-index .ensures) (omega (arith, w .0 .taken))))
+    (λ w. rw (w .1) (raising-stays (args .frame .0) (args .entries .now) (args .sums .now) (at .before .loop .inv) (at .loop-test .taken) (c .before .before .before .frame-index .ensures) (omega (arith, w .0 .left))))
     (c .if1 .came)
 
 same-length : tie.Need-same-length Inv-loop μ-loop

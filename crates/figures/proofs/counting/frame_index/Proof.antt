@@ -1,16 +1,16 @@
--- `figures::counting::frame_place` meets its contract: an entry is below 512.
+-- `figures::counting::frame_index` meets its contract: an entry is below 512.
 -- Assumes nothing.
 use borrow.Author.Needs.{needs}
 use Prim.Native.Nat.{_<_}
 use mathlib.Core.Path.{refl}
 use native.Mathlib.Omega.{arith}
 use lib.ListN.{getD}
-use Rattle.figures.proofs.EntryLaws.{all-at}
-use Rattle.figures.proofs.counting.frame_place.Statement.{statement}
-use Rattle.figures.proofs.counting.frame_place.Tie as tie
+use Rattle.model.specs.Laws.All.{all-getD}
+use Rattle.figures.proofs.counting.frame_index.Statement.{statement}
+use Rattle.figures.proofs.counting.frame_index.Tie as tie
 
 low : (c : tie.Start) → getD (c .args .entries .now) (c .args .i) 0 < 512
-low c = all-at (λ e. e < 512) (c .args .entries .now) (c .args .i) (c .pre .0) (c .pre .1)
+low c = all-getD (λ e. e < 512) (c .args .entries .now) (c .args .i) 0 (c .pre .0) (c .pre .1)
 
 cast-result : tie.Need-cast-result
 cast-result c = omega (arith, low (c .before))
@@ -24,5 +24,5 @@ add-result c = omega (arith, low (c .before))
 returns : tie.Need-returns
 returns c = (refl, omega (arith, low (c .before)))
 
-pub frame-place-spec : {M : Type 1} → statement M
-frame-place-spec = tie.close (tie.spec (λ c. search needs) (λ c. search needs) cast-result mul-result-2 add-result returns)
+pub frame-index-spec : {M : Type 1} → statement M
+frame-index-spec = tie.close (tie.spec (λ c. search needs) (λ c. search needs) cast-result mul-result-2 add-result returns)
