@@ -83,7 +83,7 @@ fn put_in(
 }
 
 // Registers the flow of an order line.
-pub fn register_flow(
+fn register_flow(
     flow: Flow,
     hop_links: &[u32],
     hop_levels: &[u32],
@@ -155,7 +155,7 @@ fn take_out(
 }
 
 // Releases the flow with this number.
-pub fn release_flow(
+fn release_flow(
     number: u32,
     n: usize,
     links: &[u32],

@@ -50,7 +50,7 @@ pub(crate) fn figure(e: usize, sums: &[u64]) -> Aggregate
 }
 
 // The figures of a link's eight levels, the link counted from 0.
-pub fn link_levels(link: usize, sums: &[u64]) -> [Aggregate; LEVELS]
+pub(crate) fn link_levels(link: usize, sums: &[u64]) -> [Aggregate; LEVELS]
     requires { ⌜ (link < 64) × (length (now sums) ≡ 1536) ⌝ }
     ensures { λ r. ⌜ aggregatesOf r ≡ levelFigures (now (sums .entry)) link ⌝ }
 {

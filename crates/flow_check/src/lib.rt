@@ -50,7 +50,7 @@ fn at_entry(code: u32, entry: u32) -> Cause
 }
 
 // 16, 15 and 20 over a path whose entries are queues.
-pub fn judge_entries(
+fn judge_entries(
     deadline: Micros,
     n: usize,
     links: &[u32],

@@ -60,7 +60,7 @@ fn figures_right(queues: &[u32], slots: &[u32], pool: &[u32], sums: &[u64]) -> b
 }
 
 // Whether columns of any content are a consistent registry (42).
-pub fn is_consistent(
+fn is_consistent(
     n: usize,
     links: &[u32],
     queues: &[u32],
