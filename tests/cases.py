@@ -127,17 +127,30 @@ def said(code, slot=0, link=0, level=0):
     return f"{code:3}{slot:4}{link:4}{level:2}\n"
 
 
-COUNT, LINKS, QUEUES, SLOTS, POOL, SUMS = range(6)
+# The registry's arrays, and where a number stands in them, links, queues and slots counted from 0.
+TABLE, SLOTS, POOL, SUMS = range(4)
+LINK_NUMBERS, QUEUE_NUMBERS, SLOT_COUNT = 4, 2, 256
+COUNT = 64 * LINK_NUMBERS + 512 * QUEUE_NUMBERS
 
 
-def put(column, index, n):
+def put(array, index, n):
     """An x line: sets one number of the registry and prints nothing."""
-    return (f"x{column:2}{index:5}{n:9}\n", "")
+    return (f"x{array:2}{index:5}{n:9}\n", "")
+
+
+def link(i, k):
+    """Link i: from node (k = 0), to node, speed, number of levels (k = 3)."""
+    return LINK_NUMBERS * i + k
+
+
+def queue(e, k):
+    """Queue e: threshold (k = 0), buffer."""
+    return 64 * LINK_NUMBERS + QUEUE_NUMBERS * e + k
 
 
 def slot(i, k):
-    """Where slot i, counted from 0, has its flow number (k = 0), rate, burst, largest frame, deadline, hop count (k = 5)."""
-    return 256 * k + i
+    """Slot i: flow number (k = 0), rate, burst, largest frame, deadline, hop count (k = 5)."""
+    return SLOT_COUNT * k + i
 
 
 def queues(*pairs):
@@ -175,9 +188,9 @@ def gone(number):
 
 
 def damaged(*changes):
-    """Numbers wrong, (column, index, wrong, right) each: 42. Put right, the registry answers as before: flow 7 is held."""
-    wrong = [put(column, index, n) for column, index, n, _ in changes]
-    right = [put(column, index, n) for column, index, _, n in changes]
+    """Numbers wrong, (array, index, wrong, right) each: 42. Put right, the registry answers as before: flow 7 is held."""
+    wrong = [put(array, index, n) for array, index, n, _ in changes]
+    right = [put(array, index, n) for array, index, _, n in changes]
     return wrong + [(reg(), said(42)), (gone(7), said(42))] + right + [(reg(), said(12))]
 
 
@@ -210,9 +223,9 @@ registries = [
     (queues((371, 2000), (374, 1573)), [first, (second, said(23, 0, 1, 2))]),
     (queues((1000, 9000)), [                                     # rates
         (reg(number=1, rate=99000, deadline=1000), said(0, 1)),
-        (reg(number=2, rate=1000, deadline=1000), said(21)),
+        (reg(number=2, rate=1000, deadline=1000), said(21, link=1)),
         (reg(number=3, rate=999, deadline=1000), said(0, 2)),
-        (reg(number=4, rate=1, deadline=1000), said(21)),
+        (reg(number=4, rate=1, deadline=1000), said(21, link=1)),
     ]),
     (two, [
         (reg(burst=1541), said(17)),
@@ -309,16 +322,16 @@ registries = [
         + damaged((SLOTS, slot(1, 0), 0, 8))                     # flow number 0
         + damaged((SLOTS, slot(0, 3), 1543, 1542))               # largest frame above burst
         + damaged((SLOTS, slot(0, 4), 370, 1000))                # deadline below the threshold
-        + damaged((LINKS, 3, 0, 2))                              # number of levels
-        + damaged((LINKS, 3, 9, 2))
-        + damaged((LINKS, 0, 2, 1))                              # from equals to
-        + damaged((LINKS, 2, 10001, 100))                        # speed
-        + damaged((QUEUES, 0, 0, 371))                           # threshold out of range
-        + damaged((QUEUES, 0, 370, 371))                         # the held flows pass the threshold
-        + damaged((QUEUES, 3, 1573, 1574))                       # the held flows pass the buffer
-        + damaged((COUNT, 0, 0, 1))                              # paths without a link
-        + damaged((COUNT, 0, 2, 1))                              # a link of no levels
-        + damaged((COUNT, 0, 65, 1))
+        + damaged((TABLE, link(0, 3), 0, 2))                     # number of levels
+        + damaged((TABLE, link(0, 3), 9, 2))
+        + damaged((TABLE, link(0, 0), 2, 1))                     # from equals to
+        + damaged((TABLE, link(0, 2), 10001, 100))               # speed
+        + damaged((TABLE, queue(0, 0), 0, 371))                  # threshold out of range
+        + damaged((TABLE, queue(0, 0), 370, 371))                # the held flows pass the threshold
+        + damaged((TABLE, queue(1, 1), 1573, 1574))              # the held flows pass the buffer
+        + damaged((TABLE, COUNT, 0, 1))                          # paths without a link
+        + damaged((TABLE, COUNT, 2, 1))                          # a link of no levels
+        + damaged((TABLE, COUNT, 65, 1))
         + [put(SLOTS, slot(2, 0), 7), put(POOL, 2, 999), (reg(), said(12))]),    # a free slot, a free entry: nothing wrong
 ]
 

@@ -110,7 +110,7 @@ fn rate_rule() {
     let passes = first.clone() + &registration(2, 999, 1_542, 1_542, 1);
     assert_eq!(last(&table, &passes), "  0   2   0 0");
     let refused = first + &registration(2, 1_000, 1_542, 1_542, 1);
-    assert_eq!(last(&table, &refused), " 21   0   0 0");
+    assert_eq!(last(&table, &refused), " 21   0   1 0");
 }
 
 #[test]

@@ -85,7 +85,7 @@ fn check_link(
 
 /// 21, 22 and 23 link by link along a path, with the flow counted in.
 #[inline]
-pub fn check_path(
+pub fn check_links(
     flow: &Slot,
     path: &[u32],
     table: &Table,
@@ -99,7 +99,6 @@ pub fn check_path(
         let queues = &table.queues[LEVELS * link..LEVELS * (link + 1)];
         match check_link(table.links[link].speed, queues, &levels) {
             Ok(()) => {}
-            Err((21, _)) => return Err(Answer::plain(21)),
             Err((code, level)) => return Err(Answer::at(code, link as u32 + 1, level)),
         }
     }

@@ -94,7 +94,7 @@ impl Registry {
         if POOL < held + path.len() {
             return Err(Answer::plain(31));
         }
-        figures::check_path(&flow, path, &self.table, &self.sums)?;
+        figures::check_links(&flow, path, &self.table, &self.sums)?;
         self.store.insert(slot, flow, path, held);
         figures::add_path(&flow, path, &self.table.queues, &mut self.sums);
         Ok(slot)

@@ -186,7 +186,7 @@ impl Table {
         Ok(())
     }
 
-    /// Whether columns of any content hold a table that passes 2 to 4.
+    /// Whether arrays of any content hold a table that passes 2 to 4.
     pub fn consistent(&self) -> bool {
         let Some(links) = self.links.get(..self.count) else {
             return false;

@@ -181,7 +181,6 @@ impl Registry {
             let at = (link as usize, level as usize);
             match self.link_cause(at, flow.rate, bursts[hop], flow.frame) {
                 (0, _) => {}
-                (21, _) => return Answer::plain(21),
                 (code, level) => return Answer::at(code, u32::from(link) + 1, level),
             }
         }

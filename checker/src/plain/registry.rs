@@ -196,7 +196,11 @@ pub fn links_cause(queues: &[Queue], flows: &[&Flow], flow: &Flow) -> Option<Ans
             .collect();
         let speed = u128::from(of_link[0].speed);
         if !rate_passes(speed, &levels) {
-            return Some(Answer::plain(21));
+            let whole = Hop {
+                link: hop.link,
+                level: 0,
+            };
+            return Some(Answer::at_hop(21, whole));
         }
         for (p, queue) in of_link.iter().enumerate() {
             if levels[p].rate == 0 {

@@ -1,26 +1,24 @@
 -- What a consistent registry gives its leaves, and that it is consistent again after a registration.
 -- Assumes nothing.
-use Prim.Native.Nat.{ℕ, zero, suc, _+_, _*_, _/_, _%_, _^_, _≤_, _<_}
+use Prim.Native.Nat.{ℕ, suc, _+_, _≤_, _<_}
 use mathlib.Core.Path.{_≡_, refl, sym, ap, subst, _∙_}
-use mathlib.Core.Bool.{Bool, true, false, _&&_}
+use mathlib.Core.Bool.{true, false, _&&_}
 use mathlib.Core.List.{List, [], map}
-use mathlib.Core.Option.{Option, none, some, Option·none-ne-some, Option·some-injective}
-use native.Mathlib.Nat.{div-add-mod, mod-lt}
+use mathlib.Core.Option.{none, some}
 use native.Mathlib.Omega.{arith}
-use borrow.Author.Tests.{ltb-true, ltb-false}
-use lib.Dec.{ltb}
-use lib.ListN.{length, getD, set, take, length-map, List·getD-eq-default}
+use lib.ListN.{length, set, take, length-map}
 use lib.Seq.{length-take-le}
+use Rattle.model.specs.Words.{All, every, firstIndex, isNone}
+use Rattle.model.specs.Sizes.{queuesMost, hopsMost, slotCount}
 use Rattle.model.specs.Columns.{between}
 use Rattle.model.specs.Laws.Columns.{between-true}
 use Rattle.model.specs.Laws.Test.{and-both}
 use Rattle.model.specs.Laws.All.{all-imp}
-use Rattle.model.specs.QueueTable as table
 use Rattle.model.specs.Orders as line
-use Rattle.model.specs.Orders.{Order, register, flowOf, headInRange, hopsInRange, numberInRange}
+use Rattle.model.specs.Orders.{Order, register, registering, kindNumber, flowOf, headInRange, hopsInRange, numberInRange}
 use Rattle.model.specs.Aggregates as lookup
-use Rattle.model.specs.Schedulable.{All, Named}
-use Rattle.model.specs.Reference.{Slot, State, Cause, Outcome, heldFlows, hopEntries, isNone, isHeld, every, firstIndex, firstCause, atHop, metEarlier, roomFindings, findings, refuse, fill, perform, decide, apply}
+use Rattle.model.specs.Schedulable.{Named}
+use Rattle.model.specs.Reference.{Slot, State, Outcome, heldFlows, isHeld, firstCause, atHop, metEarlier, roomFindings, findings, refuse, fill, perform, decide, apply}
 use Rattle.model.specs.Consistent.{flowInRange, headOf, tableConsistent, consistent}
 use Rattle.model.specs.Laws.Finding.{none-applies}
 use Rattle.model.specs.Laws.Slot.{index-below}
@@ -28,19 +26,22 @@ use Rattle.model.specs.Laws.Reference.{slot-free, hops-free}
 use Rattle.model.specs.Laws.Reached.{StateRules, state-rules, rules-state, apply-keeps}
 use Rattle.model.specs.Laws.Schedulable.{schedulable}
 use Rattle.model.specs.Laws.Bounds.{threshold-below, speed-below, figures-bounded}
+use Rattle.causes.specs.declared.Cause.{Cause}
+use Rattle.causes.specs.View.{causeOf}
 use Rattle.orders.specs.declared.Flow.{Flow}
-use Rattle.orders.specs.Reading.{fieldsOf}
-use Rattle.queue_table.specs.View.{Columns, tableOf, hopAt, isQueue, linkAt, AllQueues}
+use Rattle.units.specs.View.{aggregateOf, AtSource}
+use Rattle.orders.specs.View.{fieldsOf, lineFlow}
+use Rattle.queue_table.specs.View.{linkIn, speedAt, WellFormed, tableOf, hopAt, isQueue, linkAt, AllQueues}
 use Rattle.queue_table.proofs.LookupLaws.{link-found}
 use Rattle.flow_store.specs.View.{Store, slotsOf, Insertable}
 use Rattle.flow_store.proofs.ViewLaws.{length-slots, held-hops}
 use Rattle.flow_store.proofs.ScanLaws.{free-count}
-use Rattle.flow_check.specs.Findings as judged
-use Rattle.flow_check.specs.Findings.{lineFlow}
-use Rattle.figures.specs.View.{Figures, Below, Bounded, Hops, Speeds, OnTable, FlowOf, PathAdded, figureAt}
-use Rattle.queue_table.proofs.EntryLaws.{queue-within, queue-low, queue-named, threshold-named}
+use Rattle.flow_check.specs.View as judged
+use Rattle.figures.specs.View.{Figures, Bounded, Hops, Speeds, OnTable, FlowOf, PathAdded, growthAt}
+use Rattle.queue_table.proofs.EntryLaws.{queue-within, queue-low, queue-named}
+use Rattle.figures.proofs.EntryLaws.{growth-named}
 use Rattle.figures.proofs.AddLaws.{figures-added}
-use Rattle.admission.specs.View.{stateOf, answerOf, causeIn, LineRead, Kept, Stepped}
+use Rattle.admission.specs.View.{stateOf, answerOf, LineRead, Kept, Stepped}
 use Rattle.admission.specs.declared.Answer.{Answer}
 use Rattle.admission.specs.declared.Answer.the-variants.{Done, Refused}
 use Rattle.admission.proofs.StepLaws.{figures-filled}
@@ -53,7 +54,7 @@ pub record Ranges (f : line.Flow) : Type 0 where
   pub frame : f .frame ≤ 1542
   pub deadline : f .deadline ≤ 10000000
   pub hops : 1 ≤ length (f .path)
-  pub few : length (f .path) ≤ 12
+  pub few : length (f .path) ≤ hopsMost
 
 pub ranges : (f : line.Flow) → flowInRange f ≡ true → Ranges f
 unfolding flowInRange headInRange headOf hopsInRange
@@ -69,55 +70,33 @@ ranges f e =
       burst = between-true 84 1000000 (f .burst) burst .1;
       frame = between-true 84 1542 (f .frame) frame .1;
       deadline = between-true 1 10000000 (f .deadline) deadline .1;
-      hops = between-true 1 12 (length (f .path)) hops .0;
-      few = between-true 1 12 (length (f .path)) hops .1;
+      hops = between-true 1 hopsMost (length (f .path)) hops .0;
+      few = between-true 1 hopsMost (length (f .path)) hops .1;
     }
 
--- Every number of a bounded column is small.
-pub bounded-below : (sums : List ℕ) → Bounded sums → Below (2 ^ 62) sums
-unfolding figureAt
-bounded-below sums b j = go (ltb j (length sums)) refl
-  where
-    third : (e r : ℕ) → 3 * e + r ≡ j → e < 512 → r < 3 → getD sums j 0 ≤ 2 ^ 62
-    third e zero p lt low = let q : 3 * e ≡ j = omega arith in rw (sym q) (omega (arith, b .rates e lt))
-    third e (suc zero) p lt low = rw (sym p) (omega (arith, b .bursts e lt))
-    third e (suc (suc zero)) p lt low = rw (sym p) (omega (arith, b .frames e lt))
-    third e (suc (suc (suc r))) p lt low = absurd (omega arith)
-
-    go : (within : Bool) → ltb j (length sums) ≡ within → getD sums j 0 ≤ 2 ^ 62
-    go false e = omega (arith, List·getD-eq-default sums 0 {n = j} (ltb-false j (length sums) e))
-    go true e =
-        third (j / 3) (j % 3) (omega (arith, div-add-mod j 3)) (omega (arith, div-add-mod j 3, b .long, ltb-true j (length sums) e)) (mod-lt j {m = 3} (omega arith))
-
 -- Queues of a consistent table have thresholds in their range.
-pub hops-ranged : (n : ℕ) (links queues : List ℕ) → Columns n links queues → tableConsistent (tableOf n links queues) ≡ true
-    → (entries : List ℕ) → AllQueues n links entries → length entries ≤ 12 → Hops queues entries
+pub hops-ranged : (table : List ℕ) → WellFormed table → tableConsistent (tableOf table) ≡ true
+    → (entries : List ℕ) → AllQueues table entries → length entries ≤ hopsMost → Hops table entries
 unfolding lookup.thresholdOf
-hops-ranged n links queues columns table entries named few =
+hops-ranged table formed right entries named few =
     record {
-      queues-long = columns .queues-long;
+      table-long = formed .long;
       few = few;
       each = all-imp entries each named;
     }
   where
-    each : (e : ℕ) → isQueue n links e ≡ true → (e < 512) × (getD queues (2 * e) 0 ≤ 100000)
+    each : (e : ℕ) → isQueue table e ≡ true → (e < queuesMost) × (growthAt table e ≤ 100000)
     each e q = (
-      queue-low n links e q (columns .few),
-      rw (sym (threshold-named n links e q queues), queue-named n links e q queues)
-          (threshold-below (tableOf n links queues) table (hopAt e) _ (queue-named n links e q queues)),
+      queue-low table e q (formed .few),
+      rw (sym (growth-named table e q), queue-named table e q)
+          (threshold-below (tableOf table) right (hopAt e) _ (queue-named table e q)),
     )
 
-refusal : (s : State) (c : Cause) (r : Answer) → causeIn r ≡ some c → answerOf r ≡ refuse s c .answer
-unfolding refuse
-refusal s c (Done slot) e = absurd (Option·none-ne-some _ e)
-refusal s c (Refused code link level) e =
-    ap (λ (d : Cause). refuse s d .answer) (Option·some-injective _ _ e)
-
-pub stepped-same : {o o′ : Order} {n : ℕ} {links queues slots pool slots′ pool′ sums′ : List ℕ} {r : Answer} → o ≡ o′
-    → Stepped o n links queues slots pool slots′ pool′ sums′ r
-    → Stepped o′ n links queues slots pool slots′ pool′ sums′ r
-stepped-same {n = n} {links} {queues} {slots} {pool} {slots′} {pool′} {sums′} {r} e =
-    subst (λ (o : Order). Stepped o n links queues slots pool slots′ pool′ sums′ r) e
+pub stepped-same : {o o′ : Order} {table slots pool slots′ pool′ sums′ : List ℕ} {r : Answer} → o ≡ o′
+    → Stepped o table slots pool slots′ pool′ sums′ r
+    → Stepped o′ table slots pool slots′ pool′ sums′ r
+stepped-same {table = table} {slots} {pool} {slots′} {pool′} {sums′} {r} e =
+    subst (λ (o : Order). Stepped o table slots pool slots′ pool′ sums′ r) e
 
 pub filled : (s : State) (i : ℕ) (x : Slot) → answerOf (Done (i + 1)) ≡ fill s i x .answer
 unfolding fill
@@ -125,21 +104,21 @@ filled s i x =
     let e : i + 1 ≡ suc i = omega arith in
     λ t. record { code = 0; slot = e t; link = 0; level = 0 }
 
-module _ (n : ℕ) (links queues slots pool sums : List ℕ) (k : Kept n links queues slots pool sums) where
+module _ (table slots pool sums : List ℕ) (k : Kept table slots pool sums) where
   abbrev s : State
-  s = stateOf n links queues slots pool
+  s = stateOf table slots pool
 
   rules : StateRules s
   rules = state-rules s (k .is-consistent)
 
   -- A refusal is the first cause, and nothing changes.
-  pub stepped-refused : (o : Order) {c : Cause} (r : Answer) → firstCause (findings s o) ≡ some c → causeIn r ≡ some c
-      → Stepped o n links queues slots pool slots pool sums r
+  pub stepped-refused : (o : Order) (cause : Cause) → firstCause (findings s o) ≡ some (causeOf cause)
+      → Stepped o table slots pool slots pool sums (Refused cause)
   unfolding apply decide refuse
-  stepped-refused o {c} r first e =
-      let done : apply s o ≡ refuse s c = ap (decide s o) first in
+  stepped-refused o cause first =
+      let done : apply s o ≡ refuse s (causeOf cause) = ap (decide s o) first in
       record {
-        answer = refusal s c r e ∙ sym (ap (λ (out : Outcome). out .answer) done);
+        answer = sym (ap (λ (out : Outcome). out .answer) done);
         next = sym (ap (λ (out : Outcome). out .next) done);
         kept = k;
       }
@@ -154,47 +133,47 @@ module _ (n : ℕ) (links queues slots pool sums : List ℕ) (k : Kept n links q
       }
 
   -- The held flows are on queues of the table.
-  pub held-named : All (λ g. All (Named (tableOf n links queues)) (g .path)) (heldFlows (slotsOf slots pool))
+  pub held-named : All (λ g. All (Named (tableOf table)) (g .path)) (heldFlows (slotsOf slots pool))
   held-named = all-imp (heldFlows (slotsOf slots pool)) (λ g m. m .queues) (schedulable s rules .flows)
 
   -- Queues of the table have thresholds and speeds in their ranges.
-  module _ (entries : List ℕ) (named : AllQueues n links entries) where
-    pub hops-within : length entries ≤ 12 → Hops queues entries
-    hops-within few = hops-ranged n links queues (k .columns) (rules .table) entries named few
+  module _ (entries : List ℕ) (named : AllQueues table entries) where
+    pub hops-within : length entries ≤ hopsMost → Hops table entries
+    hops-within few = hops-ranged table (k .formed) (rules .table) entries named few
 
-    pub speeds-within : Speeds links entries
+    pub speeds-within : Speeds table entries
     unfolding linkAt
-    speeds-within = record { links-long = k .columns .links-long; each = all-imp entries each named }
+    speeds-within = record { each = all-imp entries each named }
       where
-        each : (e : ℕ) → isQueue n links e ≡ true → getD links (4 * (e / 8) + 2) 0 ≤ 10000
+        each : (e : ℕ) → isQueue table e ≡ true → speedAt table (linkIn e) ≤ 10000
         each e q =
-            speed-below (tableOf n links queues) (rules .table) (e / 8 + 1) _ (link-found n links queues (e / 8) (queue-within n links e q .0))
+            speed-below (tableOf table) (rules .table) (linkIn e + 1) _ (link-found table (linkIn e) (queue-within table e q .0))
 
   -- The flow of a line that was read, with nothing against its path.
-  module _ (flow : Flow) (hopLinks hopLevels entries : List ℕ) (read : LineRead flow hopLinks hopLevels) (long : length entries ≡ 12)
-      (named : judged.Named flow hopLinks hopLevels n links entries) where
+  module _ (flow : Flow) (hops entries : List ℕ) (read : LineRead flow hops) (long : length entries ≡ hopsMost)
+      (named : judged.PathNamed flow hops table entries) where
     abbrev f : line.Flow
-    f = lineFlow flow hopLinks hopLevels
+    f = lineFlow flow hops
 
     abbrev path : List ℕ
     path = take (flow .hops) entries
 
     pub path-length : length path ≡ flow .hops
-    path-length = length-take-le (flow .hops) entries (omega (arith, long, read .hops))
+    path-length = length-take-le (flow .hops) entries (omega (arith, long, read .few))
 
     range : Ranges f
     range = ranges f (read .range)
 
-    pub on-table : OnTable n links path
+    pub on-table : OnTable table path
     on-table = record { named = named .queues; once = ap (atHop 16 metEarlier []) (named .path) ∙ named .once }
 
-    pub flow-of : FlowOf (flow .rate .0) (flow .burst .0) (flow .frame .0) path f
+    pub flow-of : FlowOf (aggregateOf (flow .share)) path f
     unfolding flowOf
-    flow-of = record { rate-is = refl; burst-is = refl; frame-is = refl; path-is = sym (named .path) }
+    flow-of = record { is = refl; path-is = sym (named .path) }
 
-    pub numbers : (flow .rate .0 ≤ 10000000) × ((flow .burst .0 ≤ 1000000) × (flow .frame .0 ≤ 1542))
+    pub numbers : AtSource (aggregateOf (flow .share))
     unfolding flowOf
-    numbers = (range .rate, (range .burst, range .frame))
+    numbers = (range .rate, range .burst, range .frame)
 
     pub hops-long : length (f .path) ≡ flow .hops
     unfolding flowOf
@@ -204,16 +183,16 @@ module _ (n : ℕ) (links queues slots pool sums : List ℕ) (k : Kept n links q
       free : every isHeld (slotsOf slots pool) ≡ false
       free = slot-free (slotsOf slots pool) f (none-applies (roomFindings (slotsOf slots pool) f) room)
 
-      pub inside : slot < 256
+      pub inside : slot < slotCount
       unfolding isHeld
       inside = omega (arith, lowest, index-below isNone (slotsOf slots pool) free, length-slots slots pool)
 
       pub insertable : Insertable slot flow path slots pool
-      unfolding flowOf hopEntries
+      unfolding flowOf
       insertable =
           record {
             store = k .store;
-            narrow = record { rate = range .rate; burst = range .burst; frame = range .frame; deadline = range .deadline };
+            narrow = record { share = numbers; deadline = range .deadline };
             inside = inside;
             free = rw lowest (free-count slots pool (rw (sym lowest) inside));
             hops = sym path-length;
@@ -225,11 +204,11 @@ module _ (n : ℕ) (links queues slots pool sums : List ℕ) (k : Kept n links q
       pub stepped-admitted : {slots′ pool′ sums′ : List ℕ} → firstCause (findings s (register f)) ≡ none
           → slotsOf slots′ pool′ ≡ set (slotsOf slots pool) slot (some (flowOf (fieldsOf flow) (map hopAt path)))
           → Store slots′ pool′
-          → PathAdded (flow .rate .0) (flow .burst .0) (flow .frame .0) queues path sums sums′
-          → Stepped (register f) n links queues slots pool slots′ pool′ sums′ (Done (slot + 1))
+          → PathAdded (aggregateOf (flow .share)) table path sums sums′
+          → Stepped (register f) table slots pool slots′ pool′ sums′ (Done (slot + 1))
       unfolding apply decide perform fill
       stepped-admitted {slots′} {pool′} {sums′} nothing view store added =
-          record { answer = answer; next = next; kept = record { columns = k .columns; store = store; is-consistent = is-consistent; figures = figures } }
+          record { answer = answer; next = next; kept = record { formed = k .formed; store = store; is-consistent = is-consistent; figures = figures } }
         where
           done : apply s (register f) ≡ fill s (firstIndex isNone (slotsOf slots pool)) (some f)
           done = ap (decide s (register f)) nothing
@@ -243,19 +222,19 @@ module _ (n : ℕ) (links queues slots pool sums : List ℕ) (k : Kept n links q
           answer : answerOf (Done (slot + 1)) ≡ apply s (register f) .answer
           answer = ap (λ (i : ℕ). answerOf (Done (i + 1))) lowest ∙ filled s (firstIndex isNone (slotsOf slots pool)) (some f) ∙ sym (ap (λ (out : Outcome). out .answer) done)
 
-          next : stateOf n links queues slots′ pool′ ≡ apply s (register f) .next
-          next = ap (λ (l : List Slot). record { table = tableOf n links queues; slots = l }) seen ∙ sym (ap (λ (out : Outcome). out .next) done)
+          next : stateOf table slots′ pool′ ≡ apply s (register f) .next
+          next = ap (λ (l : List Slot). record { table = tableOf table; slots = l }) seen ∙ sym (ap (λ (out : Outcome). out .next) done)
 
-          is-consistent : consistent (stateOf n links queues slots′ pool′) ≡ true
-          is-consistent = rw next (rules-state _ (apply-keeps s (register f) 1 (refl, read .range) rules))
+          is-consistent : consistent (stateOf table slots′ pool′) ≡ true
+          is-consistent = rw next (rules-state _ (apply-keeps s (register f) (kindNumber registering) (refl, read .range) rules))
 
-          figures : Figures (tableOf n links queues) (heldFlows (slotsOf slots′ pool′)) sums′
+          figures : Figures (tableOf table) (heldFlows (slotsOf slots′ pool′)) sums′
           figures =
-              let more = figures-added n links f (named .queues) flow-of added (k .figures) in
+              let more = figures-added f (named .queues) flow-of added (k .figures) in
               record {
                 long = more .long;
                 same = λ e lt.
                     more .same e lt
-                    ∙ sym (figures-filled (tableOf n links queues) f (hopAt e) (slotsOf slots pool) free)
-                    ∙ ap (λ (l : List Slot). lookup.aggregateAt (tableOf n links queues) (heldFlows l) (hopAt e)) (sym seen);
+                    ∙ sym (figures-filled (tableOf table) f (hopAt e) (slotsOf slots pool) free)
+                    ∙ ap (λ (l : List Slot). lookup.aggregateAt (tableOf table) (heldFlows l) (hopAt e)) (sym seen);
               }

@@ -7,13 +7,11 @@ use lib.ListN.{length}
 use Rattle.model.specs.Laws.Order.{Ranged}
 use Rattle.orders.specs.declared.Order.{Order}
 use Rattle.orders.specs.declared.Order.the-variants.{Register, Release, Malformed, OutOfRange}
-use Rattle.orders.specs.Reading.{orderWith, hopsFit}
+use Rattle.orders.specs.View.{hopNumbers, orderWith, hopsFit}
 use Rattle.admission.specs.View.{OrderRead}
 
-pub order-read : (links levels : List ℕ) (o : Order) → length links ≡ 12 → length levels ≡ 12 → hopsFit o → Ranged (orderWith o links levels)
-    → OrderRead o links levels
-order-read links levels (Register f) links-long levels-long fit ranged =
-    record { links-long = links-long; levels-long = levels-long; hops = fit; range = ranged }
-order-read links levels (Release number) links-long levels-long fit ranged = tt
-order-read links levels Malformed links-long levels-long fit ranged = tt
-order-read links levels OutOfRange links-long levels-long fit ranged = tt
+pub order-read : (hops : List ℕ) (o : Order) → length hops ≡ hopNumbers → hopsFit o → Ranged (orderWith o hops) → OrderRead o hops
+order-read hops (Register f) long fit ranged = record { long = long; few = fit; range = ranged }
+order-read hops (Release number) long fit ranged = tt
+order-read hops Malformed long fit ranged = tt
+order-read hops OutOfRange long fit ranged = tt

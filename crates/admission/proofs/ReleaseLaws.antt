@@ -9,18 +9,19 @@ use native.Mathlib.Omega.{arith}
 use lib.ListN.{length, getD, set}
 use lib.Dec.{leb}
 use borrow.Author.Tests.{leb-true, leb-false, lt-ltb, le-ltb, eq-eqb, ne-eqb}
+use Rattle.model.specs.Words.{All, firstIndex}
+use Rattle.model.specs.Sizes.{queuesMost, slotCount}
 use Rattle.model.specs.Formula.{Aggregate}
 use Rattle.model.specs.QueueTable.{Table}
 use Rattle.model.specs.Orders.{Flow, release}
-use Rattle.model.specs.Schedulable.{All}
 use Rattle.model.specs.Aggregates.{aggregateAt}
-use Rattle.model.specs.Reference.{Slot, State, Outcome, heldFlows, withNumber, firstIndex, holds, firstCause, findings, whole, fill, perform, decide, apply}
+use Rattle.model.specs.Reference.{Slot, State, Outcome, heldFlows, withNumber, holds, firstCause, findings, whole, fill, perform, decide, apply}
 use Rattle.model.specs.Laws.All.{all-imp}
 use Rattle.model.specs.Laws.Figures.{carried}
 use Rattle.model.specs.Laws.Slot.{index-found, number-index}
 use Rattle.model.specs.Laws.Reached.{StateRules, state-rules, rules-state, clear-keeps}
 use Rattle.queue_table.specs.View.{tableOf, hopAt}
-use Rattle.flow_store.specs.View.{Store, slotsOf, slotOf, rateAt, burstAt, frameAt, flowAt, countAt, entriesIn, flowIn}
+use Rattle.flow_store.specs.View.{Store, slotsOf, slotOf, rateAt, shareAt, flowAt, countAt, entriesIn, flowIn}
 use Rattle.flow_store.proofs.ViewLaws.{length-slots, slot-at}
 use Rattle.figures.specs.View.{Figures, FlowOf, PathCounted, Carried, Near, PathRemoved, figureAt, raised}
 use Rattle.queue_table.proofs.EntryLaws.{queue-low}
@@ -42,17 +43,17 @@ raised-right a b l = λ i. record { rate = l .rate i; burst = l .burst i; frame 
 left-right : {sure : Type 0} (a b : Aggregate) → sure → Near sure a b → a ≡ b
 left-right a b s l = λ i. record { rate = l .rate i; burst = l .burst i; frame = l .frame s i }
 
-module _ (n : ℕ) (links queues slots pool sums : List ℕ) (k : Kept n links queues slots pool sums) where
+module _ (table slots pool sums : List ℕ) (k : Kept table slots pool sums) where
   abbrev t : Table
-  t = tableOf n links queues
+  t = tableOf table
 
-  rules : StateRules (stateOf n links queues slots pool)
-  rules = state-rules (stateOf n links queues slots pool) (k .is-consistent)
+  rules : StateRules (stateOf table slots pool)
+  rules = state-rules (stateOf table slots pool) (k .is-consistent)
 
-  pub on : OnQueues n links slots pool
-  on = on-queues n links queues slots pool (k .columns) (k .store) (rules .table) (kept-alone (stateOf n links queues slots pool) rules)
+  pub on : OnQueues table slots pool
+  on = on-queues table slots pool (k .formed) (k .store) (rules .table) (kept-alone (stateOf table slots pool) rules)
 
-  module _ (slot : ℕ) (inside : slot < 256) (held : 1 ≤ countAt slots slot) where
+  module _ (slot : ℕ) (inside : slot < slotCount) (held : 1 ≤ countAt slots slot) where
     abbrev entries : List ℕ
     entries = entriesIn slots pool slot
 
@@ -65,17 +66,17 @@ module _ (n : ℕ) (links queues slots pool sums : List ℕ) (k : Kept n links q
     found : getD (slotsOf slots pool) slot none ≡ some flow
     found = slot-at slots slot pool inside ∙ slot-held (countAt slots slot) flow held
 
-    pub ranged : Ranged queues slots pool slot
-    ranged = countable n links queues slots pool (k .columns) (k .store) (rules .table) (kept-alone (stateOf n links queues slots pool) rules) .each slot inside held
+    pub ranged : Ranged table slots pool slot
+    ranged = countable table slots pool (k .formed) (k .store) (rules .table) (kept-alone (stateOf table slots pool) rules) .each slot inside held
 
     some-rate : 1 ≤ rateAt slots slot
     unfolding flowAt
     some-rate =
-        ranges flow (by-itself n links queues slots pool (k .columns) (k .store) (rules .table) (kept-alone (stateOf n links queues slots pool) rules) slot inside held .0) .some-rate
+        ranges flow (by-itself table slots pool (k .formed) (k .store) (rules .table) (kept-alone (stateOf table slots pool) rules) slot inside held .0) .some-rate
 
-    is : FlowOf (rateAt slots slot) (burstAt slots slot) (frameAt slots slot) entries flow
+    is : FlowOf (shareAt slots slot) entries flow
     unfolding flowAt
-    is = record { rate-is = refl; burst-is = refl; frame-is = refl; path-is = refl }
+    is = record { is = refl; path-is = refl }
 
     with-flow : Figures t (flow ∷ left) sums
     with-flow =
@@ -84,17 +85,17 @@ module _ (n : ℕ) (links queues slots pool sums : List ℕ) (k : Kept n links q
           same = λ e lt. k .figures .same e lt ∙ figures-cleared t (hopAt e) (slotsOf slots pool) slot found;
         }
 
-    pub counted : PathCounted (rateAt slots slot) (burstAt slots slot) (frameAt slots slot) queues entries sums
+    pub counted : PathCounted (shareAt slots slot) table entries sums
     counted =
-        record { n = n; links = links; f = flow; fs = left; named = on slot inside; is = is; figures = with-flow }
+        record { f = flow; fs = left; named = on slot inside; is = is; figures = with-flow }
 
     -- The slot is empty.
     module _ {slots′ pool′ : List ℕ} (view : slotsOf slots′ pool′ ≡ set (slotsOf slots pool) slot none) (store : Store slots′ pool′) where
-      rules′ : StateRules (stateOf n links queues slots′ pool′)
+      rules′ : StateRules (stateOf table slots′ pool′)
       unfolding fill
       rules′ =
           subst (λ (l : List Slot). StateRules (record { table = t; slots = l })) (sym view)
-          (clear-keeps (stateOf n links queues slots pool) slot rules)
+          (clear-keeps (stateOf table slots pool) slot rules)
 
       carries : Carried t left
       carries =
@@ -102,32 +103,32 @@ module _ (n : ℕ) (links queues slots pool sums : List ℕ) (k : Kept n links q
           (subst (λ (l : List Slot). All (λ f. 1 ≤ f .rate) (heldFlows l)) view
           (all-imp (heldFlows (slotsOf slots′ pool′)) (λ f r. ranges f (r .range) .some-rate) (rules′ .flows .flows)))
 
-      kept-again : {sums′ : List ℕ} → Figures t left sums′ → Kept n links queues slots′ pool′ sums′
+      kept-again : {sums′ : List ℕ} → Figures t left sums′ → Kept table slots′ pool′ sums′
       kept-again {sums′} figures =
           record {
-            columns = k .columns;
+            formed = k .formed;
             store = store;
-            is-consistent = rules-state (stateOf n links queues slots′ pool′) rules′;
+            is-consistent = rules-state (stateOf table slots′ pool′) rules′;
             figures = subst (λ (l : List Slot). Figures t (heldFlows l) sums′) (sym view) figures;
           }
 
-      pub entries-low-left : (i : ℕ) → i < 256 → All (λ e. e < 512) (entriesIn slots′ pool′ i)
+      pub entries-low-left : (i : ℕ) → i < slotCount → All (λ e. e < queuesMost) (entriesIn slots′ pool′ i)
       entries-low-left i lt =
-          all-imp (entriesIn slots′ pool′ i) (λ e q. queue-low n links e q (k .columns .few))
-          (on-queues n links queues slots′ pool′ (k .columns) store (rules′ .table) (kept-alone (stateOf n links queues slots′ pool′) rules′) i lt)
+          all-imp (entriesIn slots′ pool′ i) (λ e q. queue-low table e q (k .formed .few))
+          (on-queues table slots′ pool′ (k .formed) store (rules′ .table) (kept-alone (stateOf table slots′ pool′) rules′) i lt)
 
-      module _ {again : Bool} {sums′ : List ℕ} (removed : PathRemoved (rateAt slots slot) (burstAt slots slot) (frameAt slots slot) queues entries sums sums′ again) where
-        at-queue : (e : ℕ) → e < 512 → Near (again ≡ false) (figureAt sums′ e) (aggregateAt t left (hopAt e))
-        at-queue = removed .left n links flow left (on slot inside) is with-flow some-rate carries
+      module _ {again : Bool} {sums′ : List ℕ} (removed : PathRemoved (shareAt slots slot) table entries sums sums′ again) where
+        at-queue : (e : ℕ) → e < queuesMost → Near (again ≡ false) (figureAt sums′ e) (aggregateAt t left (hopAt e))
+        at-queue = removed .left flow left (on slot inside) is with-flow some-rate carries
 
-        pub kept-left : again ≡ false → Kept n links queues slots′ pool′ sums′
+        pub kept-left : again ≡ false → Kept table slots′ pool′ sums′
         kept-left known =
             kept-again (record {
               long = removed .long;
               same = λ e lt. left-right _ _ known (at-queue e lt);
             })
 
-        pub kept-raised : {sums″ : List ℕ} → FramesRaised slots′ pool′ sums′ sums″ → Kept n links queues slots′ pool′ sums″
+        pub kept-raised : {sums″ : List ℕ} → FramesRaised slots′ pool′ sums′ sums″ → Kept table slots′ pool′ sums″
         kept-raised raise =
             kept-again (record {
               long = raise .long;
@@ -154,7 +155,7 @@ module _ (number : ℕ) where
 
   module _ (slots pool : List ℕ) (slot : ℕ) (found : slot ≡ firstIndex (holds number) (slotsOf slots pool)) where
     -- 13: no slot holds the number.
-    pub not-held : (t : Table) → slot ≡ 256
+    pub not-held : (t : Table) → slot ≡ slotCount
         → firstCause (findings (record { table = t; slots = slotsOf slots pool }) (release number)) ≡ some (record { code = 13; link = 0; level = 0 })
     unfolding findings firstCause whole
     not-held t none-holds =
@@ -163,8 +164,8 @@ module _ (number : ℕ) where
         let zero-held : withNumber number (heldFlows (slotsOf slots pool)) ≡ 0 = omega (arith, leb-false 1 (withNumber number (heldFlows (slotsOf slots pool))) none-held) in
         rw (eq-eqb (withNumber number (heldFlows (slotsOf slots pool))) 0 zero-held)
 
-    module _ (known : slot ≡ 256 → ⊥) where
-      pub slot-inside : slot < 256
+    module _ (known : slot ≡ slotCount → ⊥) where
+      pub slot-inside : slot < slotCount
       slot-inside = omega (arith, found, index-most (slotsOf slots pool), length-slots slots pool, known)
 
       pub slot-count : 1 ≤ countAt slots slot
@@ -182,14 +183,14 @@ module _ (number : ℕ) where
           rw (ne-eqb (withNumber number (heldFlows (slotsOf slots pool))) 0 (λ z. omega (arith, leb-true 1 (withNumber number (heldFlows (slotsOf slots pool))) some-held)))
 
       -- The slot of the flow with the number is empty, and that slot is answered.
-      pub stepped-released : {n : ℕ} {links queues slots′ pool′ sums′ : List ℕ} → slotsOf slots′ pool′ ≡ set (slotsOf slots pool) slot none → Kept n links queues slots′ pool′ sums′
-          → Stepped (release number) n links queues slots pool slots′ pool′ sums′ (Done (slot + 1))
+      pub stepped-released : {table slots′ pool′ sums′ : List ℕ} → slotsOf slots′ pool′ ≡ set (slotsOf slots pool) slot none → Kept table slots′ pool′ sums′
+          → Stepped (release number) table slots pool slots′ pool′ sums′ (Done (slot + 1))
       unfolding apply decide perform fill
-      stepped-released {n} {links} {queues} view kept =
-          let s : State = stateOf n links queues slots pool in
-          let done : apply s (release number) ≡ fill s (firstIndex (holds number) (slotsOf slots pool)) none = ap (decide s (release number)) (nothing (tableOf n links queues)) in
+      stepped-released {table} view kept =
+          let s : State = stateOf table slots pool in
+          let done : apply s (release number) ≡ fill s (firstIndex (holds number) (slotsOf slots pool)) none = ap (decide s (release number)) (nothing (tableOf table)) in
           record {
             answer = ap (λ (i : ℕ). answerOf (Done (i + 1))) found ∙ filled s (firstIndex (holds number) (slotsOf slots pool)) none ∙ sym (ap (λ (out : Outcome). out .answer) done);
-            next = ap (λ (l : List Slot). record { table = tableOf n links queues; slots = l }) (view ∙ ap (λ (i : ℕ). set (slotsOf slots pool) i none) found) ∙ sym (ap (λ (out : Outcome). out .next) done);
+            next = ap (λ (l : List Slot). record { table = tableOf table; slots = l }) (view ∙ ap (λ (i : ℕ). set (slotsOf slots pool) i none) found) ∙ sym (ap (λ (out : Outcome). out .next) done);
             kept = kept;
           }

@@ -7,12 +7,13 @@ use mathlib.Core.List.{List, [], _∷_, _++_}
 use mathlib.Core.Option.{Option, none, some, Option·none-ne-some, Option·some-injective}
 use native.Mathlib.Omega.{arith}
 use lib.ListN.{getD, set}
+use Rattle.model.specs.Words.{every, firstIndex, isNone}
 use Rattle.model.specs.Formula.{Aggregate}
 use Rattle.model.specs.QueueTable.{Table}
 use Rattle.model.specs.Orders.{Hop, Flow, register, rejected}
 use Rattle.model.specs.Aggregates.{aggregateAt}
 use Rattle.model.specs.WithFlow.{together}
-use Rattle.model.specs.Reference.{Slot, State, Cause, heldFlows, isNone, isHeld, every, firstIndex, firstCause, whole, lineFindings, roomFindings, linkFindings, registerFindings, findings}
+use Rattle.model.specs.Reference.{Slot, State, Cause, heldFlows, isHeld, firstCause, whole, lineFindings, roomFindings, linkFindings, registerFindings, findings}
 use Rattle.model.specs.Outcomes.{earlyFindings}
 use Rattle.model.specs.Laws.Finding.{none-applies, skip-none}
 use Rattle.model.specs.Laws.Figures.{aggregate-more}

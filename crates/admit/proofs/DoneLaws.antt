@@ -9,6 +9,7 @@ use native.Mathlib.Omega.{arith}
 use borrow.Author.Tests.{eqb-false, ltb-false}
 use lib.ListN.{length}
 use lib.Dec.{leb, ltb, eqb}
+use Rattle.model.specs.Sizes.{tableBytes, orderBytes, orderLines}
 use Rattle.model.specs.Columns.{Line, ended, unended, lines}
 use Rattle.model.specs.QueueTable.{Link, Row, row, rowCause, addRow, Step, links, fault, rowStep, lineStep, TableText, accepted, refused, afterStep, readLines, readTable}
 use Rattle.model.specs.Reference.{State, opened}
@@ -49,32 +50,32 @@ lines-code n ls (l ∷ more) = after-step n more (λ ls′. lines-code (suc n) l
 
 table-code : (text : List ℕ) → TableCode (readTable text)
 unfolding readTable
-table-code text = go (leb (length text) 18944)
+table-code text = go (leb (length text) tableBytes)
   where
     go : (b : Bool) → TableCode (cond b (readLines 1 [] (lines text)) (refused 5 0))
     go true = lines-code 1 [] (lines text)
     go false = omega arith
 
 module _ (s : State) (orders area : List ℕ) where
-  short-or-done : (b : Bool) → length (lines orders) ≤ 2000 → cond b (refusedBatch 40 0 area) (doneBatch s (lines orders) area) .code ≡ 0
-      → cond b (refusedBatch 40 0 area) (doneBatch s (lines orders) area) .line ≤ 2000
+  short-or-done : (b : Bool) → length (lines orders) ≤ orderLines → cond b (refusedBatch 40 0 area) (doneBatch s (lines orders) area) .code ≡ 0
+      → cond b (refusedBatch 40 0 area) (doneBatch s (lines orders) area) .line ≤ orderLines
   unfolding refusedBatch doneBatch
   short-or-done true few e = absurd (omega (arith, e))
   short-or-done false few e = few
 
-  after-table : (t : TableText) → TableCode t → afterTable t s orders area .code ≡ 0 → afterTable t s orders area .line ≤ 2000
+  after-table : (t : TableText) → TableCode t → afterTable t s orders area .code ≡ 0 → afterTable t s orders area .line ≤ orderLines
   unfolding afterTable refusedBatch tooLong
   after-table (refused code line) some-code e = absurd (omega (arith, some-code, e))
   after-table (accepted t) some-code e = go (tooLong orders) refl e
     where
       go : (b : Bool) → tooLong orders ≡ b
           → cond b (refusedBatch 41 0 area) (cond (tooShort orders area) (refusedBatch 40 0 area) (doneBatch s (lines orders) area)) .code ≡ 0
-          → cond b (refusedBatch 41 0 area) (cond (tooShort orders area) (refusedBatch 40 0 area) (doneBatch s (lines orders) area)) .line ≤ 2000
+          → cond b (refusedBatch 41 0 area) (cond (tooShort orders area) (refusedBatch 40 0 area) (doneBatch s (lines orders) area)) .line ≤ orderLines
       go true long e = absurd (omega (arith, e))
-      go false long e = short-or-done (tooShort orders area) (ltb-false 2000 (length (lines orders)) (or-neither (ltb 60000 (length orders)) (ltb 2000 (length (lines orders))) long .1)) e
+      go false long e = short-or-done (tooShort orders area) (ltb-false orderLines (length (lines orders)) (or-neither (ltb orderBytes (length orders)) (ltb orderLines (length (lines orders))) long .1)) e
 
 pub done-lines : (table orders area : List ℕ) {code line : ℕ} {area′ : List ℕ} → record { code = code; line = line; area = area′ } ≡ batch table orders area
-    → code ≡ 0 → line ≤ 2000
+    → code ≡ 0 → line ≤ orderLines
 unfolding batch
 done-lines table orders area same e =
     let code-is = ap (λ (b : Batch). b .code) same in

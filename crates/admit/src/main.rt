@@ -1,8 +1,19 @@
 // Runs the batch of table.txt and orders.txt in the current folder and prints its answers, or for a refused batch one line:
 // code in 3 columns, line in 6. A file that can't be opened counts as empty. What stands past the bytes read here makes no
-// difference: a table of 18,945 bytes is refused for its size, and so are orders of 60,001.
+// difference: a text that fills its area is one byte above its limit, and refused for its size.
 ghost use Rattle.io.specs.Counts.{Counts};
+use batch::ANSWER_BYTES;
+use batch::ORDER_BYTES;
+use batch::ORDER_LINES;
 use libc::STDOUT_FILENO;
+use queue_table::TABLE_BYTES;
+
+const TABLE: usize = TABLE_BYTES + 1;
+
+const ORDERS: usize = ORDER_BYTES + 1;
+
+// Room for as many answers as a batch can have.
+const ANSWERS: usize = ANSWER_BYTES * ORDER_LINES;
 
 // How many bytes of the file stand at the start of `text`.
 fn read_file(name: &[u8], text: &mut [u8]) -> usize
@@ -25,19 +36,19 @@ fn print_refusal(code: u32, line: u32) {
 }
 
 fn run(table: &[u8], orders: &[u8]) {
-    let mut answers = [0u8; 40000];
+    let mut answers = [0u8; ANSWERS];
     let result = batch::devvonur_batch(table, orders, &mut answers);
     let code = result.code;
     let line = result.line;
     if code != 0 {
         return print_refusal(code, line);
     }
-    io::write_all(STDOUT_FILENO, &answers[..20 * line as usize]);
+    io::write_all(STDOUT_FILENO, &answers[..ANSWER_BYTES * line as usize]);
 }
 
 fn main() {
-    let mut table = [0u8; 18945];
-    let mut orders = [0u8; 60001];
+    let mut table = [0u8; TABLE];
+    let mut orders = [0u8; ORDERS];
     let table_size = read_file(b"table.txt", &mut table);
     let orders_size = read_file(b"orders.txt", &mut orders);
     run(&table[..table_size], &orders[..orders_size]);

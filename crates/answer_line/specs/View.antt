@@ -2,5 +2,5 @@
 use Rattle.model.specs.Reference.{Answer}
 use Rattle.answer_line.specs.declared.Fields.{Fields}
 
-abbrev pub numbersOf : Fields → Answer
-numbersOf f = record { code = f .code; slot = f .slot; link = f .link; level = f .level }
+abbrev pub fieldsOf : Fields → Answer
+fieldsOf f = record { code = f .code; slot = f .slot; link = f .link; level = f .level }

@@ -5,11 +5,12 @@ ghost use mathlib.Core.List.{_++_};
 ghost use Prim.Native.Nat.{_≤_};
 ghost use lib.ListN.{length, drop};
 ghost use Rattle.model.specs.Answers.{answerColumns, answerLine};
-ghost use Rattle.admission.specs.View.{answerOf};
-ghost use Rattle.answer_line.specs.View.{numbersOf};
+ghost use Rattle.causes.specs.View.{numbersIn};
+ghost use Rattle.admission.specs.View.{refusalOf, answerOf};
+ghost use Rattle.answer_line.specs.View.{fieldsOf};
 use admission::Answer;
-
-const LF: u8 = 10;
+use causes::Numbers;
+use columns::LF;
 
 // What an answer line holds after the line number.
 struct Fields {
@@ -19,9 +20,20 @@ struct Fields {
     level: u32,
 }
 
+fn refusal(numbers: Numbers) -> Fields
+    ensures { λ r. ⌜ fieldsOf r ≡ refusalOf (numbersIn numbers) ⌝ }
+{
+    Fields {
+        code: numbers.code,
+        slot: 0,
+        link: numbers.link,
+        level: numbers.level,
+    }
+}
+
 // An answer's numbers.
 fn fields_of(answer: Answer) -> Fields
-    ensures { λ r. ⌜ numbersOf r ≡ answerOf answer ⌝ }
+    ensures { λ r. ⌜ fieldsOf r ≡ answerOf answer ⌝ }
 {
     match answer {
         Answer::Done(slot) => Fields {
@@ -30,12 +42,7 @@ fn fields_of(answer: Answer) -> Fields
             link: 0,
             level: 0,
         },
-        Answer::Refused(code, link, level) => Fields {
-            code,
-            slot: 0,
-            link,
-            level,
-        },
+        Answer::Refused(cause) => refusal(causes::numbers_of(cause)),
     }
 }
 

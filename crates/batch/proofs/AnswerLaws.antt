@@ -8,6 +8,7 @@ use lib.ListN.{length, take, drop, length-append, length-take, length-drop, take
 use lib.Seq.{length-take-le, take-at, drop-append-add, drop-drop}
 use borrow.Rule.Slice.PartMut.{putMid}
 use Rattle.columns.proofs.PartLaws.{part-written}
+use Rattle.model.specs.Sizes.{orderLines, answerBytes}
 use Rattle.model.specs.Columns.{Line, lines}
 use Rattle.model.specs.Orders.{orderLine}
 use Rattle.model.specs.Reference as reference
@@ -18,21 +19,21 @@ use Rattle.model.specs.Batch.{lineAnswers, answerText, doneBatch}
 use Rattle.admission.specs.declared.Answer.{Answer}
 use Rattle.admission.specs.View.{stateOf, answerOf, Kept, Stepped}
 use Rattle.batch.specs.declared.Advance.{Advance}
-use Rattle.batch.specs.View.{LineDone, Room}
+use Rattle.batch.specs.View.{LineDone, Answerable}
 
 -- The first line was carried out.
-module _ (orders : List ℕ) (at next n : ℕ) (links queues slots pool slots′ pool′ sums′ : List ℕ) (a : Answer) (l : Line)
-    (stepped : Stepped (orderLine l) n links queues slots pool slots′ pool′ sums′ a) (first : lines (drop at orders) ≡ l ∷ lines (drop next orders)) where
-  answers-on : lineAnswers (stateOf n links queues slots pool) (l ∷ lines (drop next orders))
-      ≡ answerOf a ∷ lineAnswers (stateOf n links queues slots′ pool′) (lines (drop next orders))
+module _ (orders : List ℕ) (at next : ℕ) (table slots pool slots′ pool′ sums′ : List ℕ) (a : Answer) (l : Line)
+    (stepped : Stepped (orderLine l) table slots pool slots′ pool′ sums′ a) (first : lines (drop at orders) ≡ l ∷ lines (drop next orders)) where
+  answers-on : lineAnswers (stateOf table slots pool) (l ∷ lines (drop next orders))
+      ≡ answerOf a ∷ lineAnswers (stateOf table slots′ pool′) (lines (drop next orders))
   unfolding lineAnswers
   answers-on =
       ap₂ (λ (x : reference.Answer) (s : reference.State). x ∷ lineAnswers s (lines (drop next orders))) (sym (stepped .answer)) (sym (stepped .next))
 
-  pub line-done : at < next → next ≤ length orders → LineDone orders at n links queues slots pool slots′ pool′ sums′ (record { answer = a; next = next })
+  pub line-done : at < next → next ≤ length orders → LineDone orders at table slots pool slots′ pool′ sums′ (record { answer = a; next = next })
   line-done on within =
       record {
-        same = ap (lineAnswers (stateOf n links queues slots pool)) first ∙ answers-on;
+        same = ap (lineAnswers (stateOf table slots pool)) first ∙ answers-on;
         counted = ap length first;
         kept = stepped .kept;
         on = on;
@@ -40,53 +41,53 @@ module _ (orders : List ℕ) (at next n : ℕ) (links queues slots pool slots′
       }
 
 -- What holds before each order line: `whole` is the area in the end. What is left is answered from `offset` on.
-pub record Answering (whole orders : List ℕ) (n : ℕ) (links queues slots pool sums : List ℕ) (size : ℕ) (area : List ℕ) (at number offset : ℕ) : Type 0 where
-  pub kept : Kept n links queues slots pool sums
+pub record Answering (whole orders : List ℕ) (table slots pool sums : List ℕ) (size : ℕ) (area : List ℕ) (at number offset : ℕ) : Type 0 where
+  pub kept : Kept table slots pool sums
   pub within : at ≤ length orders
   pub same-size : length area ≡ size
-  pub placed : offset ≡ 20 * number
-  pub few : number + length (lines (drop at orders)) ≤ 2000
-  pub room : 20 * (number + length (lines (drop at orders))) ≤ length area
+  pub placed : offset ≡ answerBytes * number
+  pub few : number + length (lines (drop at orders)) ≤ orderLines
+  pub room : answerBytes * (number + length (lines (drop at orders))) ≤ length area
   pub left :
       take offset area
-      ++ (answerText (number + 1) (lineAnswers (stateOf n links queues slots pool) (lines (drop at orders)))
-      ++ drop (20 * (number + length (lines (drop at orders)))) area)
+      ++ (answerText (number + 1) (lineAnswers (stateOf table slots pool) (lines (drop at orders)))
+      ++ drop (answerBytes * (number + length (lines (drop at orders)))) area)
       ≡ whole
 
 -- A line written at a position, with a text to follow and the rest untouched.
-written : (area line more : List ℕ) (offset end : ℕ) → length line ≡ 20 → offset + 20 ≤ end → end ≤ length area
-    → take (offset + 20) (take offset area ++ (line ++ drop (offset + 20) area)) ++ (more ++ drop end (take offset area ++ (line ++ drop (offset + 20) area)))
+written : (area line more : List ℕ) (offset end : ℕ) → length line ≡ answerBytes → offset + answerBytes ≤ end → end ≤ length area
+    → take (offset + answerBytes) (take offset area ++ (line ++ drop (offset + answerBytes) area)) ++ (more ++ drop end (take offset area ++ (line ++ drop (offset + answerBytes) area)))
     ≡ take offset area ++ ((line ++ more) ++ drop end area)
 written area line more offset end long low high =
     let before = take offset area ++ line in
-    let after = drop (offset + 20) area in
-    let size : length before ≡ offset + 20 = length-append (take offset area) line ∙ ap₂ (λ (a b : ℕ). a + b) (length-take-le offset area (omega arith)) long in
+    let after = drop (offset + answerBytes) area in
+    let size : length before ≡ offset + answerBytes = length-append (take offset area) line ∙ ap₂ (λ (a b : ℕ). a + b) (length-take-le offset area (omega arith)) long in
     let all : take offset area ++ (line ++ after) ≡ before ++ after = sym (append-assoc (take offset area) line after) in
-    let to : offset + 20 + (end - (offset + 20)) ≡ end = omega arith in
-    let front : take (offset + 20) (take offset area ++ (line ++ after)) ≡ before = ap (take (offset + 20)) all ∙ take-at before after (offset + 20) size in
+    let to : offset + answerBytes + (end - (offset + answerBytes)) ≡ end = omega arith in
+    let front : take (offset + answerBytes) (take offset area ++ (line ++ after)) ≡ before = ap (take (offset + answerBytes)) all ∙ take-at before after (offset + answerBytes) size in
     let rest : drop end (take offset area ++ (line ++ after)) ≡ drop end area =
-    ap₂ (λ (k : ℕ) (t : List ℕ). drop k t) (sym to ∙ ap (λ (k : ℕ). k + (end - (offset + 20))) (sym size)) all
-    ∙ drop-append-add before after (end - (offset + 20))
-    ∙ drop-drop (end - (offset + 20)) (offset + 20) area
+    ap₂ (λ (k : ℕ) (t : List ℕ). drop k t) (sym to ∙ ap (λ (k : ℕ). k + (end - (offset + answerBytes))) (sym size)) all
+    ∙ drop-append-add before after (end - (offset + answerBytes))
+    ∙ drop-drop (end - (offset + answerBytes)) (offset + answerBytes) area
     ∙ ap (λ (k : ℕ). drop k area) to in
     ap₂ (λ (a b : List ℕ). a ++ (more ++ b)) front rest
     ∙ append-assoc (take offset area) line (more ++ drop end area)
     ∙ ap (λ (t : List ℕ). take offset area ++ t) (sym (append-assoc line more (drop end area)))
 
 -- The same of a part lent on.
-pub line-put : (area line : List ℕ) (offset : ℕ) → offset + 20 ≤ length area
-    → putMid offset (length area - offset) area (line ++ drop 20 (take (length area - offset) (drop offset area)))
-    ≡ take offset area ++ (line ++ drop (offset + 20) area)
+pub line-put : (area line : List ℕ) (offset : ℕ) → offset + answerBytes ≤ length area
+    → putMid offset (length area - offset) area (line ++ drop answerBytes (take (length area - offset) (drop offset area)))
+    ≡ take offset area ++ (line ++ drop (offset + answerBytes) area)
 line-put area line offset room =
-    let width : offset + 20 - offset ≡ 20 = omega arith in
+    let width : offset + answerBytes - offset ≡ answerBytes = omega arith in
     ap (λ (k : ℕ). putMid offset (length area - offset) area (line ++ drop k (take (length area - offset) (drop offset area)))) (sym width)
-    ∙ part-written area offset (offset + 20) line (omega arith) room
+    ∙ part-written area offset (offset + answerBytes) line (omega arith) room
 
-pub part-long : (area : List ℕ) (offset : ℕ) → offset + 20 ≤ length area → 20 ≤ length (take (length area - offset) (drop offset area))
+pub part-long : (area : List ℕ) (offset : ℕ) → offset + answerBytes ≤ length area → answerBytes ≤ length (take (length area - offset) (drop offset area))
 part-long area offset room = simp (length-take, length-drop) (omega (arith, room))
 
-written-length : (area line : List ℕ) (offset : ℕ) → length line ≡ 20 → offset + 20 ≤ length area
-    → length (take offset area ++ (line ++ drop (offset + 20) area)) ≡ length area
+written-length : (area line : List ℕ) (offset : ℕ) → length line ≡ answerBytes → offset + answerBytes ≤ length area
+    → length (take offset area ++ (line ++ drop (offset + answerBytes) area)) ≡ length area
 written-length area line offset long room = simp (length-append, length-take, length-drop, long) (omega (arith, room))
 
 text-next : (number : ℕ) (a : reference.Answer) (more : List reference.Answer) → answerText number (a ∷ more) ≡ answerLine number a ++ answerText (number + 1) more
@@ -95,10 +96,10 @@ text-next number a more =
     let e : suc number ≡ number + 1 = omega arith in
     ap (λ (k : ℕ). answerLine number a ++ answerText k more) e
 
-pub answering-first : (orders : List ℕ) (n : ℕ) (links queues slots pool sums area : List ℕ) → Kept n links queues slots pool sums → Room orders area
-    → Answering (doneBatch (stateOf n links queues slots pool) (lines orders) area .area) orders n links queues slots pool sums (length area) area 0 0 0
+pub answering-first : (orders : List ℕ) (table slots pool sums area : List ℕ) → Kept table slots pool sums → Answerable orders area
+    → Answering (doneBatch (stateOf table slots pool) (lines orders) area .area) orders table slots pool sums (length area) area 0 0 0
 unfolding doneBatch
-answering-first orders n links queues slots pool sums area kept room =
+answering-first orders table slots pool sums area kept room =
     let none-done : 0 + length (lines orders) ≡ length (lines orders) = omega arith in
     record {
       kept = kept;
@@ -107,29 +108,29 @@ answering-first orders n links queues slots pool sums area kept room =
       placed = refl;
       few = rw none-done (room .few);
       room = rw none-done (room .long);
-      left = ap (λ (k : ℕ). answerText 1 (lineAnswers (stateOf n links queues slots pool) (lines orders)) ++ drop (20 * k) area) none-done;
+      left = ap (λ (k : ℕ). answerText 1 (lineAnswers (stateOf table slots pool) (lines orders)) ++ drop (answerBytes * k) area) none-done;
     }
 
-module _ {whole orders : List ℕ} {n : ℕ} {links queues slots pool sums : List ℕ} {size : ℕ} {area : List ℕ} {at number offset : ℕ}
-    (now : Answering whole orders n links queues slots pool sums size area at number offset) where
+module _ {whole orders : List ℕ} {table slots pool sums : List ℕ} {size : ℕ} {area : List ℕ} {at number offset : ℕ}
+    (now : Answering whole orders table slots pool sums size area at number offset) where
   -- There is room for a line where one is left.
-  pub room-left : {slots′ pool′ sums′ : List ℕ} {r : Advance} → LineDone orders at n links queues slots pool slots′ pool′ sums′ r
-      → (offset + 20 ≤ length area) × (number + 1 ≤ 2000)
+  pub room-left : {slots′ pool′ sums′ : List ℕ} {r : Advance} → LineDone orders at table slots pool slots′ pool′ sums′ r
+      → (offset + answerBytes ≤ length area) × (number + 1 ≤ orderLines)
   room-left done = (omega (arith, now .room, now .placed, done .counted), omega (arith, now .few, done .counted))
 
-  pub answering-next : {slots′ pool′ sums′ : List ℕ} {r : Advance} → LineDone orders at n links queues slots pool slots′ pool′ sums′ r → (area′ : List ℕ)
-      → area′ ≡ take offset area ++ (answerLine (number + 1) (answerOf (r .answer)) ++ drop (offset + 20) area)
-      → Answering whole orders n links queues slots′ pool′ sums′ size area′ (r .next) (number + 1) (offset + 20)
+  pub answering-next : {slots′ pool′ sums′ : List ℕ} {r : Advance} → LineDone orders at table slots pool slots′ pool′ sums′ r → (area′ : List ℕ)
+      → area′ ≡ take offset area ++ (answerLine (number + 1) (answerOf (r .answer)) ++ drop (offset + answerBytes) area)
+      → Answering whole orders table slots′ pool′ sums′ size area′ (r .next) (number + 1) (offset + answerBytes)
   answering-next {slots′} {pool′} {sums′} {r} done area′ is =
       let a = answerOf (r .answer) in
       let line = answerLine (number + 1) a in
-      let rest = lineAnswers (stateOf n links queues slots′ pool′) (lines (drop (r .next) orders)) in
+      let rest = lineAnswers (stateOf table slots′ pool′) (lines (drop (r .next) orders)) in
       let m = length (lines (drop (r .next) orders)) in
       let long = line-length (number + 1) a in
       let ends : number + length (lines (drop at orders)) ≡ number + 1 + m = omega (arith, done .counted) in
       let size-same : length area′ ≡ length area = ap length is ∙ written-length area line offset long (room-left done .0) in
-      let end-in : 20 * (number + 1 + m) ≤ length area = omega (arith, now .room, done .counted) in
-      let end-after : offset + 20 ≤ 20 * (number + 1 + m) = omega (arith, now .placed) in
+      let end-in : answerBytes * (number + 1 + m) ≤ length area = omega (arith, now .room, done .counted) in
+      let end-after : offset + answerBytes ≤ answerBytes * (number + 1 + m) = omega (arith, now .placed) in
       record {
         kept = done .kept;
         within = done .within;
@@ -138,20 +139,20 @@ module _ {whole orders : List ℕ} {n : ℕ} {links queues slots pool sums : Lis
         few = omega (arith, now .few, done .counted);
         room = rw size-same end-in;
         left =
-            ap (λ (l : List ℕ). take (offset + 20) l ++ (answerText (number + 1 + 1) rest ++ drop (20 * (number + 1 + m)) l)) is
-            ∙ written area line (answerText (number + 1 + 1) rest) offset (20 * (number + 1 + m)) long end-after end-in
-            ∙ ap (λ (t : List ℕ). take offset area ++ (t ++ drop (20 * (number + 1 + m)) area)) (sym (text-next (number + 1) a rest))
-            ∙ ap₂ (λ (as′ : List reference.Answer) (k : ℕ). take offset area ++ (answerText (number + 1) as′ ++ drop (20 * k) area)) (sym (done .same)) (sym ends)
+            ap (λ (l : List ℕ). take (offset + answerBytes) l ++ (answerText (number + 1 + 1) rest ++ drop (answerBytes * (number + 1 + m)) l)) is
+            ∙ written area line (answerText (number + 1 + 1) rest) offset (answerBytes * (number + 1 + m)) long end-after end-in
+            ∙ ap (λ (t : List ℕ). take offset area ++ (t ++ drop (answerBytes * (number + 1 + m)) area)) (sym (text-next (number + 1) a rest))
+            ∙ ap₂ (λ (as′ : List reference.Answer) (k : ℕ). take offset area ++ (answerText (number + 1) as′ ++ drop (answerBytes * k) area)) (sym (done .same)) (sym ends)
             ∙ now .left;
       }
 
   pub answering-last : length orders ≤ at → area ≡ whole
   unfolding lineAnswers answerText
   answering-last end =
-      let all-done : offset ≡ 20 * (number + 0) = omega (arith, now .placed) in
+      let all-done : offset ≡ answerBytes * (number + 0) = omega (arith, now .placed) in
       sym (take-append-drop offset area)
       ∙ ap (λ (k : ℕ). take offset area ++ drop k area) all-done
       ∙ ap
-      (λ (ls : List Line). take offset area ++ (answerText (number + 1) (lineAnswers (stateOf n links queues slots pool) ls) ++ drop (20 * (number + length ls)) area))
+      (λ (ls : List Line). take offset area ++ (answerText (number + 1) (lineAnswers (stateOf table slots pool) ls) ++ drop (answerBytes * (number + length ls)) area))
       (sym (lines-nothing orders at end))
       ∙ now .left

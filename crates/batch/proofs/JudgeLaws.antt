@@ -5,12 +5,16 @@ use mathlib.Core.Path.{_≡_, refl, ap, ap₂}
 use mathlib.Core.List.{List}
 use borrow.Author.Tests.{lt-ltb, le-ltb}
 use lib.ListN.{length}
+use Rattle.model.specs.Sizes.{hopEntries, orderBytes, orderLines, answerBytes}
 use Rattle.model.specs.Columns.{lines}
 use Rattle.model.specs.QueueTable.{Table, TableText, accepted}
 use Rattle.model.specs.Reference.{State, opened}
 use Rattle.model.specs.Batch.{Batch, refusedBatch, doneBatch, tooLong, tooShort, afterTable, batch}
+use Rattle.queue_table.specs.declared.Fault.{Fault}
 use Rattle.queue_table.specs.declared.Verdict.the-variants.{Accepted, Refused}
-use Rattle.queue_table.specs.View.{tableOf, TableFilled}
+use Rattle.queue_table.specs.View.{tableOf, faultCode, TableFilled}
+use Rattle.flow_store.specs.View.{slotNumbers}
+use Rattle.figures.specs.View.{sumNumbers}
 use Rattle.admission.specs.View.{stateOf, Kept}
 use Rattle.admission.proofs.OpenLaws.{empty, empty-kept}
 use Rattle.batch.specs.View.{noFlows, noHops, noSums}
@@ -19,43 +23,43 @@ module _ (t : Table) (s : State) (orders area : List ℕ) where
   abbrev judged : Batch
   judged = afterTable (accepted t) s orders area
 
-  pub judged-long : 60000 < length orders → judged ≡ refusedBatch 41 0 area
+  pub judged-long : orderBytes < length orders → judged ≡ refusedBatch 41 0 area
   unfolding afterTable tooLong
-  judged-long long = simp (lt-ltb 60000 (length orders) long)
+  judged-long long = simp (lt-ltb orderBytes (length orders) long)
 
-  module _ (within : length orders ≤ 60000) where
-    pub judged-many : 2000 < length (lines orders) → judged ≡ refusedBatch 41 0 area
+  module _ (within : length orders ≤ orderBytes) where
+    pub judged-many : orderLines < length (lines orders) → judged ≡ refusedBatch 41 0 area
     unfolding afterTable tooLong
-    judged-many many = simp (le-ltb 60000 (length orders) within, lt-ltb 2000 (length (lines orders)) many)
+    judged-many many = simp (le-ltb orderBytes (length orders) within, lt-ltb orderLines (length (lines orders)) many)
 
-    module _ (few : length (lines orders) ≤ 2000) where
-      pub judged-short : length area < 20 * length (lines orders) → judged ≡ refusedBatch 40 0 area
+    module _ (few : length (lines orders) ≤ orderLines) where
+      pub judged-short : length area < answerBytes * length (lines orders) → judged ≡ refusedBatch 40 0 area
       unfolding afterTable tooLong tooShort
       judged-short short =
-          simp (le-ltb 60000 (length orders) within, le-ltb 2000 (length (lines orders)) few, lt-ltb (length area) (20 * length (lines orders)) short)
+          simp (le-ltb orderBytes (length orders) within, le-ltb orderLines (length (lines orders)) few, lt-ltb (length area) (answerBytes * length (lines orders)) short)
 
-      pub judged-done : 20 * length (lines orders) ≤ length area → judged ≡ doneBatch s (lines orders) area
+      pub judged-done : answerBytes * length (lines orders) ≤ length area → judged ≡ doneBatch s (lines orders) area
       unfolding afterTable tooLong tooShort
       judged-done room =
-          simp (le-ltb 60000 (length orders) within, le-ltb 2000 (length (lines orders)) few, le-ltb (length area) (20 * length (lines orders)) room)
+          simp (le-ltb orderBytes (length orders) within, le-ltb orderLines (length (lines orders)) few, le-ltb (length area) (answerBytes * length (lines orders)) room)
 
 -- A table that was accepted.
-module _ (table links queues : List ℕ) (n : ℕ) (filled : TableFilled table (Accepted n) links queues) where
-  pub empty-registry : Kept n links queues noFlows noHops noSums
+module _ (text table : List ℕ) (filled : TableFilled text Accepted table) where
+  pub empty-registry : Kept table noFlows noHops noSums
   unfolding noFlows noHops noSums
-  empty-registry = empty-kept table links queues (Accepted n) filled 1536 1024 1536 refl refl refl
+  empty-registry = empty-kept text table Accepted filled slotNumbers hopEntries sumNumbers refl refl refl
 
-  starts : stateOf n links queues noFlows noHops ≡ opened table
+  starts : stateOf table noFlows noHops ≡ opened text
   unfolding noFlows noHops
-  starts = empty table links queues (Accepted n) filled 1536 1024 1536 refl refl refl
+  starts = empty text table Accepted filled slotNumbers hopEntries sumNumbers refl refl refl
 
   pub from-table : (orders area : List ℕ)
-      → afterTable (accepted (tableOf n links queues)) (stateOf n links queues noFlows noHops) orders area ≡ batch table orders area
+      → afterTable (accepted (tableOf table)) (stateOf table noFlows noHops) orders area ≡ batch text orders area
   unfolding batch
   from-table orders area = ap₂ (λ (t : TableText) (s : State). afterTable t s orders area) (filled .same) starts
 
 -- A table that was refused.
-pub refused-table : (table links queues orders area : List ℕ) (code line : ℕ) → TableFilled table (Refused code line) links queues
-    → refusedBatch code line area ≡ batch table orders area
+pub refused-table : (text table orders area : List ℕ) (fault : Fault) (line : ℕ) → TableFilled text (Refused fault line) table
+    → refusedBatch (faultCode fault) line area ≡ batch text orders area
 unfolding batch afterTable
-refused-table table links queues orders area code line filled = ap (λ (t : TableText). afterTable t (opened table) orders area) (filled .same)
+refused-table text table orders area fault line filled = ap (λ (t : TableText). afterTable t (opened text) orders area) (filled .same)

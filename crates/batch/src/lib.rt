@@ -1,34 +1,48 @@
 // A batch over byte areas (document 01, "A batch is table text, order text and an answer area"): what a host links.
 //
-// The registry stands in local columns, those of `queue_table`, `flow_store` and `figures`. It was made here, so that it is
+// The registry stands in local arrays, those of `queue_table`, `flow_store` and `figures`. It was made here, so that it is
 // consistent and 42 isn't looked for.
 ghost use mathlib.Core.Path.{_≡_};
-ghost use Prim.Native.Nat.{_+_, _≤_, _<_};
+ghost use mathlib.Core.List.{List};
+ghost use Prim.Native.Nat.{ℕ, _+_, _≤_, _<_};
 ghost use lib.ListN.{length, drop};
 ghost use Rattle.model.specs.Columns.{lines};
 ghost use Rattle.admission.specs.View.{Kept};
-ghost use Rattle.batch.specs.View.{noFlows, noHops, noSums, LineDone, Room, Answered, Judged, Batched};
+ghost use Rattle.batch.specs.View.{noFlows, noHops, noSums, LineDone, Answerable, Answered, OrdersDone, resultOf, refusedWith, Batched};
 use admission::Answer;
+use causes::Cause;
+use columns::LF;
 use columns::NextLine;
 use figures::SUMS;
 use flow_store::POOL;
 use flow_store::SLOT_NUMBERS;
-use queue_table::LINK_NUMBERS;
-use queue_table::QUEUE_NUMBERS;
+use queue_table::Fault;
+use queue_table::TABLE_NUMBERS;
 use queue_table::Verdict;
 
-const LF: u8 = 10;
-
 // How many bytes and lines an order text has at the most.
-const MOST_BYTES: usize = 60_000;
+pub const ORDER_BYTES: usize = 60_000;
 
-const MOST_LINES: usize = 2000;
+pub const ORDER_LINES: usize = 2000;
+
+// The bytes of an answer line with its LF.
+pub const ANSWER_BYTES: usize = 20;
 
 // What a batch returns: 0 and the count of order lines, or a code and a line.
 #[repr(C)]
 pub struct BatchResult {
     pub code: u32,
     pub line: u32,
+}
+
+// What a batch as a whole is refused for.
+enum Refusal {
+    // 1 to 5, with the table's line.
+    Table(Fault, u32),
+    // 41: too many order bytes or lines.
+    OrdersTooLong,
+    // 40: no room for the answers.
+    AreaTooShort,
 }
 
 // The answer to a line, and the position after it.
@@ -93,37 +107,24 @@ fn count_lines(text: &[u8]) -> usize
 fn answer_next(
     orders: &[u8],
     at: usize,
-    n: usize,
-    links: &[u32],
-    queues: &[u32],
+    table: &[u32],
     slots: &mut [u32],
     pool: &mut [u32],
     sums: &mut [u64],
 ) -> Advance
-    requires { ⌜ (at < length (now orders)) × Kept n (now links) (now queues) (now slots) (now pool) (now sums) ⌝ }
-    ensures { λ r. ⌜ LineDone (now (orders .entry)) at n (now (links .entry)) (now (queues .entry)) (now (slots .entry)) (now (pool .entry)) (now (slots .exit)) (now (pool .exit)) (now (sums .exit)) r ⌝ }
+    requires { ⌜ (at < length (now orders)) × Kept (now table) (now slots) (now pool) (now sums) ⌝ }
+    ensures { λ r. ⌜ LineDone (now (orders .entry)) at (now (table .entry)) (now (slots .entry)) (now (pool .entry)) (now (slots .exit)) (now (pool .exit)) (now (sums .exit)) r ⌝ }
 {
     let NextLine::Ended(end) = columns::next_line(orders, at) else {
         return Advance {
-            answer: Answer::Refused(10, 0, 0),
+            answer: Answer::Refused(Cause::Malformed),
             next: orders.len(),
         };
     };
     let line = orders::read_order(&orders[at..end]);
     let order = line.order;
-    let hop_links = line.links;
-    let hop_levels = line.levels;
-    let answer = admission::perform(
-        order,
-        &hop_links,
-        &hop_levels,
-        n,
-        links,
-        queues,
-        slots,
-        pool,
-        sums,
-    );
+    let hops = line.hops;
+    let answer = admission::perform(order, &hops, table, slots, pool, sums);
     Advance {
         answer,
         next: end + 1,
@@ -133,74 +134,71 @@ fn answer_next(
 // Answers each order line in 20 bytes, order after order.
 fn answer_all(
     orders: &[u8],
-    n: usize,
-    links: &[u32],
-    queues: &[u32],
+    table: &[u32],
     slots: &mut [u32],
     pool: &mut [u32],
     sums: &mut [u64],
     answers: &mut [u8],
 )
-    requires { ⌜ Kept n (now links) (now queues) (now slots) (now pool) (now sums) ⌝ }
-    requires { ⌜ Room (now orders) (now answers) ⌝ }
-    ensures { λ _. ⌜ Answered (now (orders .entry)) n (now (links .entry)) (now (queues .entry)) (now (slots .entry)) (now (pool .entry)) (now (answers .entry)) (now (answers .exit)) ⌝ }
+    requires { ⌜ Kept (now table) (now slots) (now pool) (now sums) ⌝ }
+    requires { ⌜ Answerable (now orders) (now answers) ⌝ }
+    ensures { λ _. ⌜ Answered (now (orders .entry)) (now (table .entry)) (now (slots .entry)) (now (pool .entry)) (now (answers .entry)) (now (answers .exit)) ⌝ }
 {
     let mut at = 0;
     let mut number: u32 = 0;
     let mut offset = 0;
     while at < orders.len() {
-        let advance = answer_next(orders, at, n, links, queues, slots, pool, sums);
+        let advance = answer_next(orders, at, table, slots, pool, sums);
         let answer = advance.answer;
         number += 1;
         answer_line::write_line(number, answer, &mut answers[offset..]);
-        offset += 20;
+        offset += ANSWER_BYTES;
         at = advance.next;
     }
 }
 
 // The answers to the orders on an empty registry.
-fn run(orders: &[u8], n: usize, links: &[u32], queues: &[u32], answers: &mut [u8])
-    requires { ⌜ Kept n (now links) (now queues) noFlows noHops noSums ⌝ }
-    requires { ⌜ Room (now orders) (now answers) ⌝ }
-    ensures { λ _. ⌜ Answered (now (orders .entry)) n (now (links .entry)) (now (queues .entry)) noFlows noHops (now (answers .entry)) (now (answers .exit)) ⌝ }
+fn run(orders: &[u8], table: &[u32], answers: &mut [u8])
+    requires { ⌜ Kept (now table) noFlows noHops noSums ⌝ }
+    requires { ⌜ Answerable (now orders) (now answers) ⌝ }
+    ensures { λ _. ⌜ Answered (now (orders .entry)) (now (table .entry)) noFlows noHops (now (answers .entry)) (now (answers .exit)) ⌝ }
 {
     let mut slots = [0u32; SLOT_NUMBERS];
     let mut pool = [0u32; POOL];
     let mut sums = [0u64; SUMS];
-    answer_all(
-        orders,
-        n,
-        links,
-        queues,
-        &mut slots,
-        &mut pool,
-        &mut sums,
-        answers,
-    );
+    answer_all(orders, table, &mut slots, &mut pool, &mut sums, answers);
+}
+
+// Document 01's code and line of a refusal.
+fn refused(refusal: Refusal) -> BatchResult
+    ensures { λ r. ⌜ ((area : List ℕ) → resultOf r area ≡ refusedWith refusal area) ⌝ }
+{
+    match refusal {
+        Refusal::Table(fault, line) => BatchResult {
+            code: queue_table::fault_code(fault),
+            line,
+        },
+        Refusal::OrdersTooLong => BatchResult { code: 41, line: 0 },
+        Refusal::AreaTooShort => BatchResult { code: 40, line: 0 },
+    }
 }
 
 // 41, then 40, then the orders, on a table that was accepted.
-fn judge_orders(
-    orders: &[u8],
-    n: usize,
-    links: &[u32],
-    queues: &[u32],
-    answers: &mut [u8],
-) -> BatchResult
-    requires { ⌜ Kept n (now links) (now queues) noFlows noHops noSums ⌝ }
-    ensures { λ r. ⌜ Judged n (now (links .entry)) (now (queues .entry)) (now (orders .entry)) (now (answers .entry)) (now (answers .exit)) r ⌝ }
+fn judge_orders(orders: &[u8], table: &[u32], answers: &mut [u8]) -> BatchResult
+    requires { ⌜ Kept (now table) noFlows noHops noSums ⌝ }
+    ensures { λ r. ⌜ OrdersDone (now (table .entry)) (now (orders .entry)) (now (answers .entry)) (now (answers .exit)) r ⌝ }
 {
-    if MOST_BYTES < orders.len() {
-        return BatchResult { code: 41, line: 0 };
+    if ORDER_BYTES < orders.len() {
+        return refused(Refusal::OrdersTooLong);
     }
     let count = count_lines(orders);
-    if MOST_LINES < count {
-        return BatchResult { code: 41, line: 0 };
+    if ORDER_LINES < count {
+        return refused(Refusal::OrdersTooLong);
     }
-    if answers.len() < 20 * count {
-        return BatchResult { code: 40, line: 0 };
+    if answers.len() < ANSWER_BYTES * count {
+        return refused(Refusal::AreaTooShort);
     }
-    run(orders, n, links, queues, answers);
+    run(orders, table, answers);
     BatchResult {
         code: 0,
         line: count as u32,
@@ -212,10 +210,9 @@ fn judge_orders(
 pub extern "C" fn devvonur_batch(table: &[u8], orders: &[u8], answers: &mut [u8]) -> BatchResult
     ensures { λ r. ⌜ Batched (now (table .entry)) (now (orders .entry)) (now (answers .entry)) (now (answers .exit)) r ⌝ }
 {
-    let mut links = [0u32; LINK_NUMBERS];
-    let mut queues = [0u32; QUEUE_NUMBERS];
-    match queue_table::read_into(table, &mut links, &mut queues) {
-        Verdict::Accepted(n) => judge_orders(orders, n, &links, &queues, answers),
-        Verdict::Refused(code, line) => BatchResult { code, line },
+    let mut numbers = [0u32; TABLE_NUMBERS];
+    match queue_table::read_into(table, &mut numbers) {
+        Verdict::Accepted => judge_orders(orders, &numbers, answers),
+        Verdict::Refused(fault, line) => refused(Refusal::Table(fault, line)),
     }
 }

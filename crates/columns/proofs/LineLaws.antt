@@ -10,7 +10,7 @@ use lib.ListN.{length, getD}
 use lib.Dec.{eqb}
 use Rattle.model.specs.Laws.Columns.{line-step, line-start}
 use Rattle.model.specs.Laws.Test.{or-neither}
-use Rattle.columns.specs.Reading.{lfWithin, SameLine}
+use Rattle.columns.specs.View.{lfWithin, SameLine}
 
 module _ (text : List ℕ) (at : ℕ) where
   pub lf-none : false ≡ lfWithin text at 0

@@ -6,11 +6,11 @@ ghost use Prim.Native.Nat.{_+_, _%_, _≤_, _<_};
 ghost use lib.Dec.{eqb};
 ghost use lib.ListN.{length, drop};
 ghost use Rattle.model.specs.Columns.{field, fieldAt, digits, justified, writtenAt, between};
-ghost use Rattle.columns.specs.Reading.{valueOf, AfterBlanks, lfWithin, SameLine, FirstLine};
+ghost use Rattle.columns.specs.View.{valueOf, AfterBlanks, lfWithin, SameLine, FirstLine};
 
 const BLANK: u8 = 32;
 
-const LF: u8 = 10;
+pub const LF: u8 = 10;
 
 // What a field says.
 pub enum Field {

@@ -1,20 +1,24 @@
--- The levels of a link, as they are or with a flow counted in at one of them: no sum over them is large. Which columns are so bounded.
+-- The levels of a link, as they are or with a flow counted in at one of them: no sum over them is large. Which arrays are so bounded.
 -- Assumes nothing.
 use Prim.Native.Nat.{ℕ, zero, suc, _+_, _*_, _/_, _%_, _^_, _≤_, _<_}
-use mathlib.Core.Path.{_≡_, refl, ap₂, _∙_}
+use mathlib.Core.Path.{_≡_, refl, sym, ap₂, _∙_}
+use mathlib.Core.Bool.{Bool, true, false}
 use mathlib.Core.List.{List, [], _∷_, map}
 use native.Mathlib.Omega.{arith}
-use native.Mathlib.Nat.{div-add-mod}
-use lib.ListN.{length, set, length-set}
+use native.Mathlib.Nat.{div-add-mod, mod-lt}
+use borrow.Author.Tests.{ltb-true, ltb-false}
+use lib.Dec.{ltb}
+use lib.ListN.{length, getD, set, length-set, List·getD-eq-default}
+use Rattle.model.specs.Words.{All}
+use Rattle.model.specs.Sizes.{linksMost, levelsMost, queuesMost}
 use Rattle.model.specs.Total.{total}
 use Rattle.model.specs.Formula.{Aggregate}
-use Rattle.model.specs.WithFlow.{withFlow}
-use Rattle.model.specs.Schedulable.{All}
+use Rattle.model.specs.WithFlow.{together}
 use Rattle.model.specs.Laws.Total.{total-le, largest-le}
 use Rattle.model.specs.Laws.All.{all-append}
-use Rattle.queue_table.specs.View.{upTo}
+use Rattle.queue_table.specs.View.{upTo, entryAt, linkIn, levelIn}
 use Rattle.queue_table.proofs.ViewLaws.{length-up}
-use Rattle.figures.specs.View.{figureAt, levelFigures, levelsWith, Room, Bounded}
+use Rattle.figures.specs.View.{sumNumbers, figureAt, levelFigures, levelsWith, Summable, Below, ShareBounded, Bounded}
 
 module _ {A : Type 0} where
   set-all : (P : A → Type 0) (l : List A) (i : ℕ) (v : A) → All P l → P v → All P (set l i v)
@@ -32,55 +36,71 @@ map-set f [] i a = refl
 map-set f (x ∷ l) zero a = refl
 map-set f (x ∷ l) (suc i) a = ap₂ (λ y m. y ∷ m) refl (map-set f l i a)
 
-levels-room : (levels : List Aggregate) → length levels ≡ 8 → All (λ a. a .rate ≤ 20000000) levels → All (λ a. a .burst ≤ 2 ^ 33) levels
+levels-summable : (levels : List Aggregate) → length levels ≡ levelsMost → All (λ a. a .rate ≤ 20000000) levels → All (λ a. a .burst ≤ 2 ^ 33) levels
     → All (λ a. a .frame ≤ 1542) levels
-    → Room levels
-levels-room levels long rates bursts frames =
-    let rate-sum : total (λ a. a .rate) levels ≤ 8 * 20000000 = rw long at (total-le (λ a. a .rate) 20000000 levels rates) in
-    let burst-sum : total (λ a. a .burst) levels ≤ 8 * 2 ^ 33 = rw long at (total-le (λ a. a .burst) (2 ^ 33) levels bursts) in
+    → Summable levels
+levels-summable levels long rates bursts frames =
+    let rate-sum : total (λ a. a .rate) levels ≤ levelsMost * 20000000 = rw long at (total-le (λ a. a .rate) 20000000 levels rates) in
+    let burst-sum : total (λ a. a .burst) levels ≤ levelsMost * 2 ^ 33 = rw long at (total-le (λ a. a .burst) (2 ^ 33) levels bursts) in
     let frame = largest-le (λ a. a .frame) 1542 levels frames in
     (omega arith, omega arith)
 
-module _ (sums : List ℕ) (bounded : Bounded sums) (e : ℕ) (low : e < 512) (rate burst frame : ℕ)
-    (small : (rate ≤ 10000000) × (burst ≤ 2 ^ 31) × (frame ≤ 1542)) where
-  each : (m : Aggregate → ℕ) (most : ℕ) → ((d : ℕ) → d < 512 → m (figureAt sums d) ≤ most) → m (withFlow (figureAt sums e) rate burst frame) ≤ most
-      → All (λ a. m a ≤ most) (levelsWith sums e rate burst frame)
+module _ (sums : List ℕ) (bounded : Bounded sums) (e : ℕ) (low : e < queuesMost) (share : Aggregate) (small : ShareBounded share) where
+  each : (m : Aggregate → ℕ) (most : ℕ) → ((d : ℕ) → d < queuesMost → m (figureAt sums d) ≤ most) → m (together (figureAt sums e) share) ≤ most
+      → All (λ a. m a ≤ most) (levelsWith sums e share)
   unfolding levelsWith levelFigures
   each m most figures own =
-      set-all (λ a. m a ≤ most) (levelFigures sums (e / 8)) (e % 8) (withFlow (figureAt sums e) rate burst frame)
-      (up-all (λ a. m a ≤ most) 8 (λ p. figureAt sums (8 * (e / 8) + p)) (λ p lt. figures (8 * (e / 8) + p) (omega (arith, div-add-mod e 8))))
+      set-all (λ a. m a ≤ most) (levelFigures sums (linkIn e)) (levelIn e) (together (figureAt sums e) share)
+      (up-all (λ a. m a ≤ most) levelsMost (λ p. figureAt sums (entryAt (linkIn e) p)) (λ p lt. figures (entryAt (linkIn e) p) (omega (arith, div-add-mod e levelsMost))))
       own
 
-  long : length (levelsWith sums e rate burst frame) ≡ 8
+  long : length (levelsWith sums e share) ≡ levelsMost
   unfolding levelsWith levelFigures
-  long = length-set (levelFigures sums (e / 8)) (e % 8) (withFlow (figureAt sums e) rate burst frame) ∙ length-up 8 (λ p. figureAt sums (8 * (e / 8) + p))
+  long =
+      length-set (levelFigures sums (linkIn e)) (levelIn e) (together (figureAt sums e) share) ∙ length-up levelsMost (λ p. figureAt sums (entryAt (linkIn e) p))
 
-  pub room : Room (levelsWith sums e rate burst frame)
-  unfolding withFlow
-  room =
-      levels-room (levelsWith sums e rate burst frame) long
-      (each (λ a. a .rate) 20000000 (λ d lt. omega (arith, bounded .rates d lt)) (omega (arith, bounded .rates e low)))
-      (each (λ a. a .burst) (2 ^ 33) (λ d lt. omega (arith, bounded .bursts d lt)) (omega (arith, bounded .bursts e low)))
-      (each (λ a. a .frame) 1542 (λ d lt. bounded .frames d lt) (omega (arith, bounded .frames e low)))
+  pub summable : Summable (levelsWith sums e share)
+  unfolding together
+  summable =
+      levels-summable (levelsWith sums e share) long
+      (each (λ a. a .rate) 20000000 (λ d lt. omega (arith, bounded .rates d lt)) (omega (arith, small .0, bounded .rates e low)))
+      (each (λ a. a .burst) (2 ^ 33) (λ d lt. omega (arith, bounded .bursts d lt)) (omega (arith, small .1, bounded .bursts e low)))
+      (each (λ a. a .frame) 1542 (λ d lt. bounded .frames d lt) (omega (arith, small .2, bounded .frames e low)))
 
 -- The levels as they are.
-pub room-alone : (sums : List ℕ) → Bounded sums → (link : ℕ) → link < 64 → Room (levelFigures sums link)
+pub summable-alone : (sums : List ℕ) → Bounded sums → (link : ℕ) → link < linksMost → Summable (levelFigures sums link)
 unfolding levelFigures
-room-alone sums bounded link low =
-    let level : ℕ → Aggregate = λ p. figureAt sums (8 * link + p) in
-    levels-room (upTo 8 level) (length-up 8 level)
-    (up-all (λ a. a .rate ≤ 20000000) 8 level (λ p lt. omega (arith, bounded .rates (8 * link + p) (omega arith))))
-    (up-all (λ a. a .burst ≤ 2 ^ 33) 8 level (λ p lt. omega (arith, bounded .bursts (8 * link + p) (omega arith))))
-    (up-all (λ a. a .frame ≤ 1542) 8 level (λ p lt. bounded .frames (8 * link + p) (omega arith)))
+summable-alone sums bounded link low =
+    let level : ℕ → Aggregate = λ p. figureAt sums (entryAt link p) in
+    levels-summable (upTo levelsMost level) (length-up levelsMost level)
+    (up-all (λ a. a .rate ≤ 20000000) levelsMost level (λ p lt. omega (arith, bounded .rates (entryAt link p) (omega arith))))
+    (up-all (λ a. a .burst ≤ 2 ^ 33) levelsMost level (λ p lt. omega (arith, bounded .bursts (entryAt link p) (omega arith))))
+    (up-all (λ a. a .frame ≤ 1542) levelsMost level (λ p lt. bounded .frames (entryAt link p) (omega arith)))
 
 -- The figures of one queue are small.
 abbrev pub Small : Aggregate → Type 0
 Small a = (a .rate ≤ 10000000) × (a .burst ≤ 2 ^ 32) × (a .frame ≤ 1542)
 
 module _ (sums : List ℕ) where
-  pub small-all : length sums ≡ 1536 → ((e : ℕ) → e < 512 → Small (figureAt sums e)) → Bounded sums
+  pub small-all : length sums ≡ sumNumbers → ((e : ℕ) → e < queuesMost → Small (figureAt sums e)) → Bounded sums
   small-all long small =
       record { long = long; rates = λ e lt. small e lt .0; bursts = λ e lt. small e lt .1; frames = λ e lt. small e lt .2 }
 
-  pub all-small : Bounded sums → (e : ℕ) → e < 512 → Small (figureAt sums e)
+  pub all-small : Bounded sums → (e : ℕ) → e < queuesMost → Small (figureAt sums e)
   all-small bounded e lt = (bounded .rates e lt, bounded .bursts e lt, bounded .frames e lt)
+
+-- Every number of a bounded array is small.
+pub bounded-below : (sums : List ℕ) → Bounded sums → Below (2 ^ 62) sums
+unfolding figureAt
+bounded-below sums b j = go (ltb j (length sums)) refl
+  where
+    third : (e r : ℕ) → 3 * e + r ≡ j → e < queuesMost → r < 3 → getD sums j 0 ≤ 2 ^ 62
+    third e zero p lt low = let q : 3 * e ≡ j = omega arith in rw (sym q) (omega (arith, b .rates e lt))
+    third e (suc zero) p lt low = rw (sym p) (omega (arith, b .bursts e lt))
+    third e (suc (suc zero)) p lt low = rw (sym p) (omega (arith, b .frames e lt))
+    third e (suc (suc (suc r))) p lt low = absurd (omega arith)
+
+    go : (within : Bool) → ltb j (length sums) ≡ within → getD sums j 0 ≤ 2 ^ 62
+    go false e = omega (arith, List·getD-eq-default sums 0 {n = j} (ltb-false j (length sums) e))
+    go true e =
+        third (j / 3) (j % 3) (omega (arith, div-add-mod j 3)) (omega (arith, div-add-mod j 3, b .long, ltb-true j (length sums) e)) (mod-lt j {m = 3} (omega arith))

@@ -1,22 +1,18 @@
--- Figures stored in the column are read back, and those of the other queues stay as they were.
+-- Figures stored in the array are read back, and those of the other queues stay as they were.
 -- Assumes nothing.
-use Prim.Native.Nat.{ℕ, zero, suc, _+_, _*_, _^_, _≤_, _<_, max}
+use Prim.Native.Nat.{ℕ, zero, suc, _+_, _*_, _/_, _%_, _^_, _≤_, _<_, max}
 use mathlib.Core.Path.{_≡_, refl, sym, ap, _∙_}
 use mathlib.Core.List.{List, [], _∷_}
 use native.Mathlib.Nat.{add-zero}
 use native.Mathlib.Omega.{arith}
-use native.Mathlib.Numerals.{add-one, add-two}
-use native.Mathlib.Decide.{decLt}
-use lib.ListN.{length, getD, set}
-use lib.Seq.{sets, length-sets, getD-set-other, set-getD}
+use lib.ListN.{length, getD, set, length-set}
+use lib.Seq.{getD-set-same, getD-set-other, set-getD, ext-getD}
+use Rattle.model.specs.Sizes.{queuesMost}
 use Rattle.model.specs.Formula.{Aggregate}
-use Rattle.model.specs.WithFlow.{withFlow}
-use Rattle.queue_table.proofs.StoreLaws.{sets-below, sets-at}
-use Rattle.figures.specs.View.{figureAt, Below, figureStored}
-
-sets-past : (l : List ℕ) (i : ℕ) (vs : List ℕ) (k : ℕ) → i + length vs ≤ k → getD (sets l i vs) k 0 ≡ getD l k 0
-sets-past l i [] k h = refl
-sets-past l i (v ∷ vs) k h = sets-past (set l i v) (suc i) vs k (omega arith) ∙ getD-set-other l i k v 0 (omega arith)
+use Rattle.model.specs.QueueTable.{Table}
+use Rattle.model.specs.Orders.{Flow}
+use Rattle.model.specs.WithFlow.{together}
+use Rattle.figures.specs.View.{figureAt, Below, figureStored, Figures}
 
 set-below : (bound : ℕ) (l : List ℕ) (i v : ℕ) → Below bound l → v ≤ bound → Below bound (set l i v)
 set-below bound [] i v b h k = b k
@@ -26,42 +22,51 @@ set-below bound (x ∷ l) (suc i) v b h zero = b 0
 set-below bound (x ∷ l) (suc i) v b h (suc k) = set-below bound l i v (λ j. b (suc j)) h k
 
 module _ (sums : List ℕ) (e : ℕ) (a : Aggregate) where
-  abbrev values : List ℕ
-  values = a .rate ∷ a .burst ∷ a .frame ∷ []
+  abbrev one : List ℕ
+  one = set sums (3 * e) (a .rate)
+
+  abbrev two : List ℕ
+  two = set one (3 * e + 1) (a .burst)
 
   pub stored-length : length (figureStored sums e a) ≡ length sums
   unfolding figureStored
-  stored-length = length-sets sums (3 * e) values
-
-  other-place : (k : ℕ) → (3 * e ≤ k → 3 * e + 3 ≤ k) → Dec (k < 3 * e) → getD (figureStored sums e a) k 0 ≡ getD sums k 0
-  unfolding figureStored
-  other-place k out (yes lt) = sets-below sums (3 * e) values k lt
-  other-place k out (no ge) = sets-past sums (3 * e) values k (out (omega arith))
+  stored-length = length-set two (3 * e + 2) (a .frame) ∙ length-set one (3 * e + 1) (a .burst) ∙ length-set sums (3 * e) (a .rate)
 
   pub stored-other : (d : ℕ) → (d ≡ e → ⊥) → figureAt (figureStored sums e a) d ≡ figureAt sums d
-  unfolding figureAt
+  unfolding figureAt figureStored
   stored-other d ne =
       λ i. record { rate = (rw (add-zero (3 * d)) at (other 0 (omega arith))) i; burst = other 1 (omega arith) i; frame = other 2 (omega arith) i }
     where
-      other : (j : ℕ) → j < 3 → getD (figureStored sums e a) (3 * d + j) 0 ≡ getD sums (3 * d + j) 0
-      other j lt = other-place (3 * d + j) (λ low. omega arith) (decLt (3 * d + j) (3 * e))
+      other : (j : ℕ) → j < 3 → getD (set two (3 * e + 2) (a .frame)) (3 * d + j) 0 ≡ getD sums (3 * d + j) 0
+      other j lt =
+          getD-set-other two (3 * e + 2) (3 * d + j) (a .frame) 0 (omega arith)
+          ∙ getD-set-other one (3 * e + 1) (3 * d + j) (a .burst) 0 (omega arith)
+          ∙ getD-set-other sums (3 * e) (3 * d + j) (a .rate) 0 (omega arith)
 
   pub stored-here : 3 * e + 3 ≤ length sums → figureAt (figureStored sums e a) e ≡ a
   unfolding figureAt figureStored
   stored-here within =
-      λ i. record { rate = first i; burst = sets-at sums (3 * e) values 1 (omega arith) (omega arith) i; frame = sets-at sums (3 * e) values 2 (omega arith) (omega arith) i }
-    where
-      first : getD (sets sums (3 * e) values) (3 * e) 0 ≡ a .rate
-      first = rw (add-zero (3 * e)) at (sets-at sums (3 * e) values 0 (omega arith) (omega arith))
+      let long : length two ≡ length sums = length-set one (3 * e + 1) (a .burst) ∙ length-set sums (3 * e) (a .rate) in
+      λ i.
+      record {
+        rate =
+            (getD-set-other two (3 * e + 2) (3 * e) (a .frame) 0 (omega arith)
+            ∙ getD-set-other one (3 * e + 1) (3 * e) (a .burst) 0 (omega arith)
+            ∙ getD-set-same sums (3 * e) (a .rate) 0 (omega arith))
+            i;
+        burst =
+            (getD-set-other two (3 * e + 2) (3 * e + 1) (a .frame) 0 (omega arith)
+            ∙ getD-set-same one (3 * e + 1) (a .burst) 0 (omega (arith, length-set sums (3 * e) (a .rate))))
+            i;
+        frame = getD-set-same two (3 * e + 2) (a .frame) 0 (omega (arith, long)) i;
+      }
 
   pub stored-below : (bound : ℕ) → Below bound sums → a .rate ≤ bound → a .burst ≤ bound → a .frame ≤ bound → Below bound (figureStored sums e a)
   unfolding figureStored
   stored-below bound b r s f =
-      let one : List ℕ = set sums (3 * e) (a .rate) in
-      let two : List ℕ = set one (suc (3 * e)) (a .burst) in
-      set-below bound two (suc (suc (3 * e))) (a .frame) (set-below bound one (suc (3 * e)) (a .burst) (set-below bound sums (3 * e) (a .rate) b r) s) f
+      set-below bound two (3 * e + 2) (a .frame) (set-below bound one (3 * e + 1) (a .burst) (set-below bound sums (3 * e) (a .rate) b r) s) f
 
--- A number of the column has room for one more flow.
+-- A number of the array has room for one more flow.
 pub sum-fits : (sums : List ℕ) (k more : ℕ) → Below (2 ^ 63) sums → more ≤ 2 ^ 31 → getD sums k 0 + more < 2 ^ 64
 sum-fits sums k more below small = omega (arith, below k)
 
@@ -72,7 +77,7 @@ module _ (sums : List ℕ) (e rate burst : ℕ) where
 
   pub frame-stored : (frame : ℕ) → set sumsStored (3 * e + 2) frame ≡ figureStored sums e (record { rate = rate; burst = burst; frame = frame })
   unfolding figureStored
-  frame-stored frame = simp (add-one, add-two)
+  frame-stored frame = refl
 
   -- The largest frame isn't stored where it stays as it was.
   pub frame-kept : sumsStored ≡ figureStored sums e (record { rate = rate; burst = burst; frame = getD sums (3 * e + 2) 0 })
@@ -83,19 +88,38 @@ module _ (sums : List ℕ) (e rate burst : ℕ) where
       sym (set-getD sumsStored (3 * e + 2) 0) ∙ ap (set sumsStored (3 * e + 2)) same ∙ frame-stored (getD sums (3 * e + 2) 0)
 
 -- The stores that count a flow in.
-module _ (sums : List ℕ) (e rate burst frame : ℕ) where
+module _ (sums : List ℕ) (e : ℕ) (share : Aggregate) where
   abbrev sumsMore : List ℕ
-  sumsMore = sumsStored sums e (getD sums (3 * e) 0 + rate) (getD sums (3 * e + 1) 0 + burst)
+  sumsMore = sumsStored sums e (getD sums (3 * e) 0 + share .rate) (getD sums (3 * e + 1) 0 + share .burst)
 
-  more-stored : (largest : ℕ) → largest ≡ max (getD sums (3 * e + 2) 0) frame
-      → figureStored sums e (record { rate = getD sums (3 * e) 0 + rate; burst = getD sums (3 * e + 1) 0 + burst; frame = largest })
-      ≡ figureStored sums e (withFlow (figureAt sums e) rate burst frame)
-  unfolding figureAt withFlow
+  more-stored : (largest : ℕ) → largest ≡ max (getD sums (3 * e + 2) 0) (share .frame)
+      → figureStored sums e (record { rate = getD sums (3 * e) 0 + share .rate; burst = getD sums (3 * e + 1) 0 + share .burst; frame = largest })
+      ≡ figureStored sums e (together (figureAt sums e) share)
+  unfolding figureAt together
   more-stored largest most = rw most
 
-  pub frame-grows : getD sums (3 * e + 2) 0 < frame
-      → set sumsMore (3 * e + 2) frame ≡ figureStored sums e (withFlow (figureAt sums e) rate burst frame)
-  frame-grows lt = frame-stored sums e _ _ frame ∙ more-stored frame (omega arith)
+  pub frame-grows : getD sums (3 * e + 2) 0 < share .frame
+      → set sumsMore (3 * e + 2) (share .frame) ≡ figureStored sums e (together (figureAt sums e) share)
+  frame-grows lt = frame-stored sums e _ _ (share .frame) ∙ more-stored (share .frame) (omega arith)
 
-  pub frame-stays : frame ≤ getD sums (3 * e + 2) 0 → sumsMore ≡ figureStored sums e (withFlow (figureAt sums e) rate burst frame)
+  pub frame-stays : share .frame ≤ getD sums (3 * e + 2) 0 → sumsMore ≡ figureStored sums e (together (figureAt sums e) share)
   frame-stays le = frame-kept sums e _ _ ∙ more-stored (getD sums (3 * e + 2) 0) (omega arith)
+
+-- Two arrays with the figures of the same flows are equal.
+module _ {t : Table} {fs : List Flow} {a b : List ℕ} (fa : Figures t fs a) (fb : Figures t fs b) where
+  figure-same : (e : ℕ) → e < queuesMost → figureAt a e ≡ figureAt b e
+  figure-same e lt = fa .same e lt ∙ sym (fb .same e lt)
+
+  place-same : (e k : ℕ) → e < queuesMost → k < 3 → getD a (3 * e + k) 0 ≡ getD b (3 * e + k) 0
+  unfolding figureAt
+  place-same e zero lt h = rw (add-zero (3 * e)) (ap (λ (x : Aggregate). x .rate) (figure-same e lt))
+  place-same e (suc zero) lt h = ap (λ (x : Aggregate). x .burst) (figure-same e lt)
+  place-same e (suc (suc zero)) lt h = ap (λ (x : Aggregate). x .frame) (figure-same e lt)
+  place-same e (suc (suc (suc k))) lt h = absurd (omega arith)
+
+  pub figures-unique : a ≡ b
+  figures-unique =
+      ext-getD 0 a b (fa .long ∙ sym (fb .long))
+      (λ j lt.
+      let split : j ≡ 3 * (j / 3) + j % 3 = omega arith in
+      rw split (place-same (j / 3) (j % 3) (omega (arith, fa .long)) (omega arith)))

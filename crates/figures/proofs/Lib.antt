@@ -3,6 +3,7 @@ pub mod EntryLaws
 pub mod AddLaws
 pub mod RemoveLaws
 pub mod RaiseLaws
+pub mod ClearLaws
 pub mod LoadLaws
 pub mod BoundLaws
 pub mod LinkLaws

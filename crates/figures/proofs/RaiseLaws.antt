@@ -1,5 +1,5 @@
 -- The loop that raises the largest frames along a path: the figures so far, raised by what the hops left have, are the whole.
--- A path's largest frame at a queue doesn't depend on the thresholds along it. Assumes nothing.
+-- A path's largest frame at a queue doesn't depend on S along it. Assumes nothing.
 use Prim.Native.Nat.{ℕ, _+_, _*_, _≤_, _<_, max}
 use mathlib.Core.Path.{_≡_, refl, sym, ap, _∙_}
 use mathlib.Core.Bool.{cond}
@@ -17,7 +17,7 @@ use Rattle.model.specs.Aggregates as model
 use Rattle.model.specs.Laws.Aggregates.{hop-same}
 use Rattle.model.specs.Laws.Figures.{sharesAt, aggregate-alone}
 use Rattle.queue_table.specs.View.{hopAt}
-use Rattle.figures.specs.View.{figureAt, raised, FrameRaised}
+use Rattle.figures.specs.View.{sumNumbers, figureAt, raised, FrameRaised}
 use Rattle.figures.proofs.EntryLaws.{other-entry}
 
 -- The largest frame that a hop at queue `x` has at queue `e`, and that the hops of a path have there.
@@ -32,7 +32,7 @@ frame-entries : (t : Table) (f : Flow) (sum : ℕ) (entries : List ℕ) (e : ℕ
 unfolding sharesAt model.shares model.addsAt largest
 frame-entries t f sum [] e = refl
 frame-entries t f sum (x ∷ entries) e =
-    ap (max (hopFrame (f .frame) e x)) (frame-entries t f (sum + model.thresholdOf (model.queueAt t (hopAt x))) entries e)
+    ap (max (hopFrame (f .frame) e x)) (frame-entries t f (sum + model.growth t (hopAt x)) entries e)
 
 frame-alone : (t : Table) (f : Flow) (entries : List ℕ) → f .path ≡ map hopAt entries → (e : ℕ)
     → model.aggregateAt t (f ∷ []) (hopAt e) .frame ≡ frameAt (f .frame) entries e
@@ -86,11 +86,11 @@ module _ (sums : List ℕ) (x : ℕ) (inside : 3 * x + 2 < length sums) (frame :
 
 -- The figures so far, `sums`, with the hops from `i` on left.
 pub record Raising (frame : ℕ) (entries before sums : List ℕ) (i : ℕ) : Type 0 where
-  pub long : length sums ≡ 1536
+  pub long : length sums ≡ sumNumbers
   pub left : (e : ℕ) → raised (figureAt sums e) (frameAt frame (drop i entries) e) ≡ raised (figureAt before e) (frameAt frame entries e)
 
 module _ (frame : ℕ) (entries before : List ℕ) where
-  pub raising-none : length before ≡ 1536 → Raising frame entries before before 0
+  pub raising-none : length before ≡ sumNumbers → Raising frame entries before before 0
   raising-none long = record { long = long; left = λ e. refl }
 
   module _ {sums : List ℕ} {i : ℕ} (so-far : Raising frame entries before sums i) where
@@ -107,11 +107,11 @@ module _ (frame : ℕ) (entries before : List ℕ) where
         }
 
     -- The hop at `i` is raised, whose largest frame stands at `place`.
-    module _ (more : i < length entries) {place : ℕ} (there : (place ≡ 3 * getD entries i 0 + 2) × (place < 1536)) where
+    module _ (more : i < length entries) {place : ℕ} (there : (place ≡ 3 * getD entries i 0 + 2) × (place < sumNumbers)) where
       abbrev x : ℕ
       x = getD entries i 0
 
-      next : {sums′ : List ℕ} → length sums′ ≡ 1536 → ((e : ℕ) → figureAt sums′ e ≡ raised (figureAt sums e) (hopFrame frame e x))
+      next : {sums′ : List ℕ} → length sums′ ≡ sumNumbers → ((e : ℕ) → figureAt sums′ e ≡ raised (figureAt sums e) (hopFrame frame e x))
           → Raising frame entries before sums′ (i + 1)
       unfolding largest
       next {sums′} long same =

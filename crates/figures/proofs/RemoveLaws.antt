@@ -7,36 +7,39 @@ use mathlib.Core.List.{List, _∷_}
 use native.Mathlib.Omega.{arith}
 use native.Mathlib.Decide.{ℕ-discrete}
 use lib.ListN.{length, getD, set, drop}
+use Rattle.model.specs.Words.{All}
+use Rattle.model.specs.Sizes.{queuesMost}
 use Rattle.model.specs.Orders.{Flow}
-use Rattle.model.specs.Formula.{Aggregate, burstAtHop}
+use Rattle.model.specs.Formula.{Aggregate}
 use Rattle.model.specs.QueueTable.{Table}
 use Rattle.model.specs.Aggregates as model
-use Rattle.model.specs.WithFlow.{withFlow, together}
+use Rattle.model.specs.WithFlow.{together}
+use Rattle.model.specs.Laws.All.{all-getD}
 use Rattle.model.specs.Laws.Aggregates.{hop-same}
 use Rattle.model.specs.Laws.Figures.{sharesAt, shares-nothing, shares-other, shares-here, shares-carried, aggregate-alone, aggregate-more}
 use Rattle.queue_table.specs.View.{tableOf, hopAt, AllQueues}
-use Rattle.figures.specs.View.{figureAt, figureStored, FlowOf, Figures, PathCounted, Carried, FrameLeft, no-flow, unknown, another, HopRemoved, PathRemoved, Near}
+use Rattle.figures.specs.View.{sumNumbers, figureAt, growthAt, figureStored, FlowOf, Figures, PathCounted, Carried, FrameLeft, no-flow, unknown, another, HopRemoved, PathRemoved, Near}
 use Rattle.figures.proofs.FigureLaws.{stored-length, stored-here, stored-other, frame-stored, frame-kept}
 use Rattle.figures.proofs.EntryLaws.{other-entry, shares-next, shares-end}
 
 -- The stores that take a flow out at a queue.
-module _ (sums : List ℕ) (e rate burst frame : ℕ) (counted : (rate ≤ figureAt sums e .rate) × (burst ≤ figureAt sums e .burst)) where
+module _ (sums : List ℕ) (e : ℕ) (share : Aggregate) (counted : (share .rate ≤ figureAt sums e .rate) × (share .burst ≤ figureAt sums e .burst)) where
   abbrev rates : ℕ
-  rates = getD sums (3 * e) 0 - rate
+  rates = getD sums (3 * e) 0 - share .rate
 
   abbrev bursts : ℕ
-  bursts = getD sums (3 * e + 1) 0 - burst
+  bursts = getD sums (3 * e + 1) 0 - share .burst
 
   abbrev sumsLess : List ℕ
   sumsLess = set (set sums (3 * e) rates) (3 * e + 1) bursts
 
   less : (largest : ℕ) {sums′ : List ℕ} {again : Bool} → sums′ ≡ figureStored sums e (record { rate = rates; burst = bursts; frame = largest })
-      → FrameLeft rates frame (getD sums (3 * e + 2) 0) largest again
-      → HopRemoved rate burst frame sums e sums′ again
+      → FrameLeft rates (share .frame) (getD sums (3 * e + 2) 0) largest again
+      → HopRemoved share sums e sums′ again
   unfolding figureAt
   less largest stored left =
-      let r : rate ≤ getD sums (3 * e) 0 = counted .0 in
-      let b : burst ≤ getD sums (3 * e + 1) 0 = counted .1 in
+      let r : share .rate ≤ getD sums (3 * e) 0 = counted .0 in
+      let b : share .burst ≤ getD sums (3 * e + 1) 0 = counted .1 in
       record {
         left = record { rate = rates; burst = bursts; frame = largest };
         stored = stored;
@@ -45,24 +48,24 @@ module _ (sums : List ℕ) (e rate burst frame : ℕ) (counted : (rate ≤ figur
         frame-left = left;
       }
 
-  pub less-none : rates ≡ 0 → HopRemoved rate burst frame sums e (set sumsLess (3 * e + 2) 0) false
+  pub less-none : rates ≡ 0 → HopRemoved share sums e (set sumsLess (3 * e + 2) 0) false
   less-none z = less 0 (frame-stored sums e rates bursts 0) (no-flow z refl)
 
-  pub less-own : HopRemoved rate burst frame sums e (set sumsLess (3 * e + 2) 0) true
+  pub less-own : HopRemoved share sums e (set sumsLess (3 * e + 2) 0) true
   less-own = less 0 (frame-stored sums e rates bursts 0) (unknown refl refl)
 
-  pub less-kept : frame < getD sums (3 * e + 2) 0 → HopRemoved rate burst frame sums e sumsLess false
+  pub less-kept : share .frame < getD sums (3 * e + 2) 0 → HopRemoved share sums e sumsLess false
   less-kept lt = less (getD sums (3 * e + 2) 0) (frame-kept sums e rates bursts) (another lt refl)
 
--- The figures so far, `sums`, with the hops from `i` on left, before which the thresholds sum to `sum`.
-pub record Removing (rate burst frame : ℕ) (queues entries before sums : List ℕ) (sum i : ℕ) (again : Bool) : Type 0 where
-  pub long : length sums ≡ 1536
+-- The figures so far, `sums`, with the hops from `i` on left, before which S is `sum`.
+pub record Removing (share : Aggregate) (table entries before sums : List ℕ) (sum i : ℕ) (again : Bool) : Type 0 where
+  pub long : length sums ≡ sumNumbers
   pub sum-below : sum ≤ i * 100000
-  pub left : (n : ℕ) (links : List ℕ) (f : Flow) (fs : List Flow) → AllQueues n links entries → FlowOf rate burst frame entries f
-      → Figures (tableOf n links queues) (f ∷ fs) before
-      → (e : ℕ) → e < 512
-      → Near ((1 ≤ rate) × Carried (tableOf n links queues) fs × (again ≡ false)) (figureAt sums e)
-      (together (sharesAt (hopAt e) (model.shares (tableOf n links queues) f sum (drop i (f .path)))) (model.aggregateAt (tableOf n links queues) fs (hopAt e)))
+  pub left : (f : Flow) (fs : List Flow) → AllQueues table entries → FlowOf share entries f → Figures (tableOf table) (f ∷ fs) before
+      → (e : ℕ) → e < queuesMost
+      → Near ((1 ≤ share .rate) × Carried (tableOf table) fs × (again ≡ false)) (figureAt sums e)
+      (together (sharesAt (hopAt e) (model.shares (tableOf table) f sum (drop i (f .path)))) (model.aggregateAt (tableOf table) fs (hopAt e)))
+  pub others : (e : ℕ) → All (λ x. e ≡ x → ⊥) entries → figureAt sums e ≡ figureAt before e
 
 near-same : {sure : Type 0} {a b : Aggregate} → a ≡ b → Near sure a b
 near-same {a = a} {b = b} e = record { rate = rates; burst = ap (λ (x : Aggregate). x .burst) e; low = omega (arith, frames); frame = λ s. frames }
@@ -77,24 +80,24 @@ near-less : {sure sure′ : Type 0} {a b : Aggregate} → (sure′ → sure) →
 near-less h near = record { rate = near .rate; burst = near .burst; low = near .low; frame = λ s. near .frame (h s) }
 
 -- A flow taken out of the figures `a` of a queue: `b` are those of the others, and `rest` is what the flow's later hops add there.
-module _ {sure sure′ : Type 0} (rate burst frame : ℕ) (a a′ rest b : Aggregate) {own : Bool}
-    (rate-left : a′ .rate + rate ≡ a .rate) (burst-left : a′ .burst + burst ≡ a .burst)
-    (near : Near sure a (together rest (withFlow b rate burst frame)))
+module _ {sure sure′ : Type 0} (share a a′ rest b : Aggregate) {own : Bool}
+    (rate-left : a′ .rate + share .rate ≡ a .rate) (burst-left : a′ .burst + share .burst ≡ a .burst)
+    (near : Near sure a (together rest (together b share)))
     (known : sure′ → sure × (own ≡ false) × (rest .rate + b .rate ≡ 0 → max (rest .frame) (b .frame) ≡ 0)) where
-  frame-low : FrameLeft (a′ .rate) frame (a .frame) (a′ .frame) own → a′ .frame ≤ max (rest .frame) (b .frame)
-  unfolding together withFlow
+  frame-low : FrameLeft (a′ .rate) (share .frame) (a .frame) (a′ .frame) own → a′ .frame ≤ max (rest .frame) (b .frame)
+  unfolding together
   frame-low (no-flow z l) = omega arith
   frame-low (unknown o l) = omega arith
   frame-low (another lt l) = omega (arith, near .low)
 
-  frame-same : FrameLeft (a′ .rate) frame (a .frame) (a′ .frame) own → sure′ → a′ .frame ≡ max (rest .frame) (b .frame)
-  unfolding together withFlow
+  frame-same : FrameLeft (a′ .rate) (share .frame) (a .frame) (a′ .frame) own → sure′ → a′ .frame ≡ max (rest .frame) (b .frame)
+  unfolding together
   frame-same (no-flow z l) s = l ∙ sym (known s .2 (omega (arith, rate-left, near .rate)))
   frame-same (unknown o l) s = absurd (true≢false (sym o ∙ known s .1))
   frame-same (another lt l) s = omega (arith, near .frame (known s .0))
 
-  taken-out : FrameLeft (a′ .rate) frame (a .frame) (a′ .frame) own → Near sure′ a′ (together rest b)
-  unfolding together withFlow
+  taken-out : FrameLeft (a′ .rate) (share .frame) (a .frame) (a′ .frame) own → Near sure′ a′ (together rest b)
+  unfolding together
   taken-out left =
       record {
         rate = omega (arith, rate-left, near .rate);
@@ -103,102 +106,110 @@ module _ {sure sure′ : Type 0} (rate burst frame : ℕ) (a a′ rest b : Aggre
         frame = frame-same left;
       }
 
-module _ (rate burst frame : ℕ) (queues entries before : List ℕ) where
-  pub removing-none : length before ≡ 1536 → Removing rate burst frame queues entries before before 0 0 false
+module _ (share : Aggregate) (table entries before : List ℕ) where
+  abbrev t : Table
+  t = tableOf table
+
+  pub removing-none : length before ≡ sumNumbers → Removing share table entries before before 0 0 false
   removing-none long =
       record {
         long = long;
         sum-below = omega arith;
-        left = λ n links f fs named is figures e lt.
-            let t = tableOf n links queues in
+        left = λ f fs named is figures e lt.
             near-same
             (figures .same e lt ∙ aggregate-more t f fs (hopAt e) ∙ ap (λ a. together a (model.aggregateAt t fs (hopAt e))) (aggregate-alone t f (hopAt e)));
+        others = λ e off. refl;
       }
 
-  module _ {sums : List ℕ} {sum i : ℕ} {again : Bool} (so-far : Removing rate burst frame queues entries before sums sum i again) where
-    pub removing-all : length entries ≤ i → PathRemoved rate burst frame queues entries before sums again
+  module _ {sums : List ℕ} {sum i : ℕ} {again : Bool} (so-far : Removing share table entries before sums sum i again) where
+    pub removing-all : length entries ≤ i → PathRemoved share table entries before sums again
     removing-all end =
         record {
           long = so-far .long;
-          left = λ n links f fs named is figures one carried e lt.
-              let t = tableOf n links queues in
+          left = λ f fs named is figures one carried e lt.
               let a = model.aggregateAt t fs (hopAt e) in
-              let nothing = ap (λ l. together (sharesAt (hopAt e) l) a) (shares-end is n links queues sum i end) ∙ shares-nothing (hopAt e) a in
-              let near = subst (Near ((1 ≤ rate) × Carried t fs × (again ≡ false)) (figureAt sums e)) nothing (so-far .left n links f fs named is figures e lt) in
+              let nothing = ap (λ l. together (sharesAt (hopAt e) l) a) (shares-end is table sum i end) ∙ shares-nothing (hopAt e) a in
+              let near = subst (Near ((1 ≤ share .rate) × Carried t fs × (again ≡ false)) (figureAt sums e)) nothing (so-far .left f fs named is figures e lt) in
               record { rate = near .rate; burst = near .burst; low = near .low; frame = λ known. near .frame (one, carried, known) };
+          others = so-far .others;
         }
 
-    module _ (more : i < length entries) (e₁ : getD entries i 0 < 512) where
+    module _ (more : i < length entries) (e₁ : getD entries i 0 < queuesMost) where
       abbrev x : ℕ
       x = getD entries i 0
 
-      module _ (n : ℕ) (links : List ℕ) (f : Flow) (fs : List Flow) (named : AllQueues n links entries) (is : FlowOf rate burst frame entries f)
-          (figures : Figures (tableOf n links queues) (f ∷ fs) before) where
-        abbrev t : Table
-        t = tableOf n links queues
+      abbrev there : Aggregate
+      there = model.grown share sum
 
+      module _ (f : Flow) (fs : List Flow) (named : AllQueues table entries) (is : FlowOf share entries f) (figures : Figures t (f ∷ fs) before) where
         abbrev rest : List model.Share
-        rest = model.shares t f (sum + getD queues (2 * x) 0) (drop (i + 1) (f .path))
+        rest = model.shares t f (sum + growthAt table x) (drop (i + 1) (f .path))
 
-        abbrev share : model.Share
-        share = record { hop = hopAt x; adds = record { rate = rate; burst = burstAtHop rate burst sum; frame = frame } }
+        abbrev here : model.Share
+        here = record { hop = hopAt x; adds = there }
 
         abbrev Sure : Bool → Type 0
-        Sure again = (1 ≤ rate) × Carried t fs × (again ≡ false)
+        Sure again = (1 ≤ share .rate) × Carried t fs × (again ≡ false)
 
         -- What was left is this hop's share and what is left then.
-        left-now : (e : ℕ) → e < 512 → Near (Sure again) (figureAt sums e) (together (sharesAt (hopAt e) (share ∷ rest)) (model.aggregateAt t fs (hopAt e)))
+        left-now : (e : ℕ) → e < queuesMost → Near (Sure again) (figureAt sums e) (together (sharesAt (hopAt e) (here ∷ rest)) (model.aggregateAt t fs (hopAt e)))
         left-now e lt =
             subst (λ l. Near (Sure again) (figureAt sums e) (together (sharesAt (hopAt e) l) (model.aggregateAt t fs (hopAt e))))
-            (shares-next is n links queues sum i named more) (so-far .left n links f fs named is figures e lt)
+            (shares-next is table sum i named more) (so-far .left f fs named is figures e lt)
 
-        left-here : Near (Sure again) (figureAt sums x) (together (sharesAt (hopAt x) rest) (withFlow (model.aggregateAt t fs (hopAt x)) rate (burstAtHop rate burst sum) frame))
+        left-here : Near (Sure again) (figureAt sums x) (together (sharesAt (hopAt x) rest) (together (model.aggregateAt t fs (hopAt x)) there))
         left-here =
             subst (Near (Sure again) (figureAt sums x))
-            (shares-here (hopAt x) share rest (model.aggregateAt t fs (hopAt x)) (hop-same (hopAt x) (hopAt x) refl)) (left-now x e₁)
+            (shares-here (hopAt x) here rest (model.aggregateAt t fs (hopAt x)) (hop-same (hopAt x) (hopAt x) refl)) (left-now x e₁)
 
-        here-room : (rate ≤ figureAt sums x .rate) × (burstAtHop rate burst sum ≤ figureAt sums x .burst)
-        unfolding together withFlow
+        here-room : (there .rate ≤ figureAt sums x .rate) × (there .burst ≤ figureAt sums x .burst)
+        unfolding together
         here-room = (omega (arith, left-here .rate), omega (arith, left-here .burst))
 
-        none-left : 1 ≤ rate → Carried t fs → sharesAt (hopAt x) rest .rate + model.aggregateAt t fs (hopAt x) .rate ≡ 0
+        none-left : 1 ≤ share .rate → Carried t fs → sharesAt (hopAt x) rest .rate + model.aggregateAt t fs (hopAt x) .rate ≡ 0
             → max (sharesAt (hopAt x) rest .frame) (model.aggregateAt t fs (hopAt x) .frame) ≡ 0
         none-left one carried z =
             omega (
               arith,
-              shares-carried t f (subst (λ r. 1 ≤ r) (sym (is .rate-is)) one) (hopAt x) (sum + getD queues (2 * x) 0) (drop (i + 1) (f .path)) (omega arith),
+              shares-carried t f (subst (λ (a : Aggregate). 1 ≤ a .rate) (sym (is .is)) one) (hopAt x) (sum + growthAt table x) (drop (i + 1) (f .path)) (omega arith),
               carried (hopAt x) (omega arith),
             )
 
-        module _ {sums′ : List ℕ} {own again′ : Bool} (removed : HopRemoved rate (burstAtHop rate burst sum) frame sums x sums′ own)
-            (both : again′ ≡ false → (again ≡ false) × (own ≡ false)) where
-          step : (e : ℕ) → e < 512 → Dec (e ≡ x)
+        module _ {sums′ : List ℕ} {own again′ : Bool} (removed : HopRemoved there sums x sums′ own) (both : again′ ≡ false → (again ≡ false) × (own ≡ false)) where
+          step : (e : ℕ) → e < queuesMost → Dec (e ≡ x)
               → Near (Sure again′) (figureAt sums′ e) (together (sharesAt (hopAt e) rest) (model.aggregateAt t fs (hopAt e)))
           step e lt (yes same) =
               rw (same, removed .stored, stored-here sums x (removed .left) (omega (arith, so-far .long)))
-              (taken-out rate (burstAtHop rate burst sum) frame (figureAt sums x) (removed .left) (sharesAt (hopAt x) rest) (model.aggregateAt t fs (hopAt x))
+              (taken-out there (figureAt sums x) (removed .left) (sharesAt (hopAt x) rest) (model.aggregateAt t fs (hopAt x))
               (removed .rate-left) (removed .burst-left) left-here
               (λ s. let no = both (s .2) in ((s .0, s .1, no .0), no .1, none-left (s .0) (s .1))) (removed .frame-left))
           step e lt (no other) =
               rw (removed .stored, stored-other sums x (removed .left) e other)
               (near-less (λ s. (s .0, s .1, both (s .2) .0))
               (subst (λ a. Near (Sure again) (figureAt sums e) (together a (model.aggregateAt t fs (hopAt e))))
-              (shares-other (hopAt e) share rest (other-entry e x other)) (left-now e lt)))
+              (shares-other (hopAt e) here rest (other-entry e x other)) (left-now e lt)))
 
       -- The flow is counted in at the hop.
-      pub removing-room : PathCounted rate burst frame queues entries before → (rate ≤ figureAt sums x .rate) × (burstAtHop rate burst sum ≤ figureAt sums x .burst)
-      removing-room counted = here-room (counted .n) (counted .links) (counted .f) (counted .fs) (counted .named) (counted .is) (counted .figures)
+      pub removing-room : PathCounted share table entries before → {own : Aggregate} → own ≡ there
+          → (own .rate ≤ figureAt sums x .rate) × (own .burst ≤ figureAt sums x .burst)
+      removing-room counted own-is =
+          rw own-is (here-room (counted .f) (counted .fs) (counted .named) (counted .is) (counted .figures))
 
       -- The flow is taken out at the hop.
-      pub removing-next : (low : getD queues (2 * x) 0 ≤ 100000) {there : ℕ} {sums′ : List ℕ} {own again′ : Bool}
-          → there ≡ burstAtHop rate burst sum
-          → HopRemoved rate there frame sums x sums′ own
+      pub removing-next : (low : growthAt table x ≤ 100000) {share′ : Aggregate} {past : ℕ} {sums′ : List ℕ} {own again′ : Bool}
+          → share′ ≡ there → past ≡ sum + growthAt table x
+          → HopRemoved share′ sums x sums′ own
           → (again′ ≡ false → (again ≡ false) × (own ≡ false))
-          → Removing rate burst frame queues entries before sums′ (sum + getD queues (2 * x) 0) (i + 1) again′
-      removing-next low {sums′ = sums′} {own = own} same removed both =
-          let now = subst (λ b. HopRemoved rate b frame sums x sums′ own) same removed in
-          record {
+          → Removing share table entries before sums′ past (i + 1) again′
+      removing-next low {sums′ = sums′} {own = own} same past-is removed both =
+          let now = subst (λ (a : Aggregate). HopRemoved a sums x sums′ own) same removed in
+          rw past-is
+          (record {
             long = ap length (removed .stored) ∙ stored-length sums x (removed .left) ∙ so-far .long;
             sum-below = omega (arith, so-far .sum-below);
-            left = λ n links f fs named is figures e lt. step n links f fs named is figures now both e lt (ℕ-discrete e x);
-          }
+            left = λ f fs named is figures e lt. step f fs named is figures now both e lt (ℕ-discrete e x);
+            others = λ e off.
+                ap (λ l. figureAt l e) (removed .stored)
+                ∙ stored-other sums x (removed .left) e (all-getD (λ d. e ≡ d → ⊥) entries i 0 off more)
+                ∙ so-far .others e off;
+          })

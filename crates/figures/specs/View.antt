@@ -1,82 +1,94 @@
--- What the columns and answers of this crate say in the terms of the model.
-use Prim.Native.Nat.{ℕ, _+_, _*_, _/_, _%_, _^_, _≤_, _<_, max}
+-- What the array and the answers of this crate say in the terms of the model.
+use Prim.Native.Nat.{ℕ, _+_, _*_, _^_, _≤_, _<_, max}
 use mathlib.Core.Path.{_≡_}
 use mathlib.Core.Bool.{Bool, true, false}
 use mathlib.Core.List.{List, [], _∷_, map}
-use mathlib.Core.Option.{Option, none, some}
+use mathlib.Core.Option.{Option, none}
 use lib.ListN.{length, getD, set}
-use lib.Seq.{sets}
+use Rattle.model.specs.Words.{All}
+use Rattle.model.specs.Sizes.{levelsMost, queuesMost, hopsMost}
 use Rattle.model.specs.Total.{total, largest}
 use Rattle.model.specs.Formula.{Aggregate}
 use Rattle.model.specs.QueueTable.{Table}
 use Rattle.model.specs.Orders.{Hop, Flow}
-use Rattle.model.specs.Aggregates.{aggregateAt}
+use Rattle.model.specs.Aggregates.{source, aggregateAt}
 use Rattle.model.specs.LinkCheck.{linkFinding}
-use Rattle.model.specs.Schedulable.{All, Named, LinkMeets}
-use Rattle.model.specs.WithFlow.{withFlow, together}
-use Rattle.model.specs.Reference.{Cause, firstCause, linkFindings, atHop, metEarlier}
-use Rattle.queue_table.specs.View.{upTo, Columns, tableOf, queueAt, hopAt, AllQueues}
-use Rattle.figures.specs.declared.PathFinding.{PathFinding}
-use Rattle.figures.specs.declared.PathFinding.the-variants.{Fits, OverRate, OverDelay, OverBacklog}
+use Rattle.model.specs.Schedulable.{Named, LinkMeets}
+use Rattle.model.specs.WithFlow.{together}
+use Rattle.model.specs.Reference.{Cause, linkCause, firstCause, linkFindings, atHop, metEarlier}
+use Rattle.causes.specs.declared.Finding.{Finding}
+use Rattle.causes.specs.View.{findingOf}
+use Rattle.queue_table.specs.View.{upTo, entryAt, linkIn, levelIn, hopAt, tableNumbers, linkCount, speedAt, thresholdAt, queueAt, tableOf, AllQueues, WellFormed}
+
+-- How many numbers a queue has in the array, and the array.
+abbrev pub figureNumbers : ℕ
+figureNumbers = 3
+
+abbrev pub sumNumbers : ℕ
+sumNumbers = figureNumbers * queuesMost
 
 -- The figures of queue `e`, named as hop entries name it.
 unfoldable pub figureAt : (sums : List ℕ) (e : ℕ) → Aggregate
-figureAt sums e = record { rate = getD sums (3 * e) 0; burst = getD sums (3 * e + 1) 0; frame = getD sums (3 * e + 2) 0 }
+figureAt sums e = record { rate = getD sums (figureNumbers * e) 0; burst = getD sums (figureNumbers * e + 1) 0; frame = getD sums (figureNumbers * e + 2) 0 }
 
 -- The figures of the eight levels of a link, counted from 0.
 unfoldable pub levelFigures : (sums : List ℕ) (link : ℕ) → List Aggregate
-levelFigures sums link = upTo 8 (λ p. figureAt sums (8 * link + p))
+levelFigures sums link = upTo levelsMost (λ p. figureAt sums (entryAt link p))
 
--- The levels of the link of queue `e`, with a flow counted in there: its rate, its burst there and its largest frame.
-unfoldable pub levelsWith : (sums : List ℕ) (e rate burst frame : ℕ) → List Aggregate
-levelsWith sums e rate burst frame = set (levelFigures sums (e / 8)) (e % 8) (withFlow (figureAt sums e) rate burst frame)
+-- The levels of the link of queue `e`, with a flow counted in there by its share.
+unfoldable pub levelsWith : (sums : List ℕ) (e : ℕ) (share : Aggregate) → List Aggregate
+levelsWith sums e share = set (levelFigures sums (linkIn e)) (levelIn e) (together (figureAt sums e) share)
 
 -- What the check of a link asks of its levels.
-abbrev pub Room : List Aggregate → Type 0
-Room levels = (total (λ a. a .rate) levels < 2 ^ 40) × (total (λ a. a .burst) levels + 2 * largest (λ a. a .frame) levels ≤ 2 ^ 40)
+abbrev pub Summable : List Aggregate → Type 0
+Summable levels = (total (λ a. a .rate) levels < 2 ^ 40) × (total (λ a. a .burst) levels + 2 * largest (λ a. a .frame) levels ≤ 2 ^ 40)
 
--- The column holds the figures of the flows.
+-- The array holds the figures of the flows.
 pub record Figures (t : Table) (fs : List Flow) (sums : List ℕ) : Type 0 where
-  pub long : length sums ≡ 1536
-  pub same : (e : ℕ) → e < 512 → figureAt sums e ≡ aggregateAt t fs (hopAt e)
+  pub long : length sums ≡ sumNumbers
+  pub same : (e : ℕ) → e < queuesMost → figureAt sums e ≡ aggregateAt t fs (hopAt e)
 
--- Each number of the column is at most so large.
+-- Each number of the array is at most so large.
 abbrev pub Below : (bound : ℕ) (sums : List ℕ) → Type 0
 Below bound sums = (j : ℕ) → getD sums j 0 ≤ bound
 
--- The figures of a queue stored in the column.
+-- The figures of a queue stored in the array.
 unfoldable pub figureStored : (sums : List ℕ) (e : ℕ) → Aggregate → List ℕ
-figureStored sums e a = sets sums (3 * e) (a .rate ∷ a .burst ∷ a .frame ∷ [])
+figureStored sums e a = set (set (set sums (figureNumbers * e) (a .rate)) (figureNumbers * e + 1) (a .burst)) (figureNumbers * e + 2) (a .frame)
 
--- Hop entries within the columns, with thresholds in their range.
-pub record Hops (queues entries : List ℕ) : Type 0 where
-  pub queues-long : length queues ≡ 1024
-  pub few : length entries ≤ 12
-  pub each : All (λ e. (e < 512) × (getD queues (2 * e) 0 ≤ 100000)) entries
+-- What queue `e` adds to S for the hops after it.
+unfoldable pub growthAt : (table : List ℕ) (e : ℕ) → ℕ
+growthAt table e = thresholdAt table e
 
--- A flow with this rate, burst and largest frame on this path.
-pub record FlowOf (rate burst frame : ℕ) (entries : List ℕ) (f : Flow) : Type 0 where
-  pub rate-is : f .rate ≡ rate
-  pub burst-is : f .burst ≡ burst
-  pub frame-is : f .frame ≡ frame
+-- A flow's share at any of its hops is at most this.
+abbrev pub ShareBounded : Aggregate → Type 0
+ShareBounded a = (a .rate ≤ 10000000) × (a .burst ≤ 2 ^ 31) × (a .frame ≤ 1542)
+
+-- Hop entries within the table's array, each of which adds no more to S than a threshold in its range.
+pub record Hops (table entries : List ℕ) : Type 0 where
+  pub table-long : length table ≡ tableNumbers
+  pub few : length entries ≤ hopsMost
+  pub each : All (λ e. (e < queuesMost) × (growthAt table e ≤ 100000)) entries
+
+-- A flow with this share at its source, on this path.
+pub record FlowOf (share : Aggregate) (entries : List ℕ) (f : Flow) : Type 0 where
+  pub is : source f ≡ share
   pub path-is : f .path ≡ map hopAt entries
 
 -- What the path adds at each queue is counted in, and no number grew by more than 2 ^ 35.
-pub record PathAdded (rate burst frame : ℕ) (queues entries sums sums′ : List ℕ) : Type 0 where
-  pub long : length sums′ ≡ 1536
-  pub same : (n : ℕ) (links : List ℕ) (f : Flow) → AllQueues n links entries → FlowOf rate burst frame entries f
-      → (e : ℕ) → e < 512 → figureAt sums′ e ≡ together (aggregateAt (tableOf n links queues) (f ∷ []) (hopAt e)) (figureAt sums e)
+pub record PathAdded (share : Aggregate) (table entries sums sums′ : List ℕ) : Type 0 where
+  pub long : length sums′ ≡ sumNumbers
+  pub same : (f : Flow) → AllQueues table entries → FlowOf share entries f
+      → (e : ℕ) → e < queuesMost → figureAt sums′ e ≡ together (aggregateAt (tableOf table) (f ∷ []) (hopAt e)) (figureAt sums e)
   pub below : (bound : ℕ) → Below bound sums → Below (bound + 2 ^ 35) sums′
 
 -- The figures are those of some flows and of a flow with this path, so that it can be taken out.
-pub record PathCounted (rate burst frame : ℕ) (queues entries sums : List ℕ) : Type 0 where
-  pub n : ℕ
-  pub links : List ℕ
+pub record PathCounted (share : Aggregate) (table entries sums : List ℕ) : Type 0 where
   pub f : Flow
   pub fs : List Flow
-  pub named : AllQueues n links entries
-  pub is : FlowOf rate burst frame entries f
-  pub figures : Figures (tableOf n links queues) (f ∷ fs) sums
+  pub named : AllQueues table entries
+  pub is : FlowOf share entries f
+  pub figures : Figures (tableOf table) (f ∷ fs) sums
 
 -- A queue whose rate sum is 0 has no largest frame.
 abbrev pub Carried : Table → List Flow → Type 0
@@ -89,13 +101,13 @@ pub data FrameLeft (rate frame largest left : ℕ) (again : Bool) : Type 0 where
   unknown : again ≡ true → left ≡ 0 → FrameLeft rate frame largest left again
   another : frame < largest → left ≡ largest → FrameLeft rate frame largest left again
 
--- A flow is taken out at queue `e`, with its burst there.
-pub record HopRemoved (rate burst frame : ℕ) (sums : List ℕ) (e : ℕ) (sums′ : List ℕ) (again : Bool) : Type 0 where
+-- A flow is taken out at queue `e`, with its share there.
+pub record HopRemoved (share : Aggregate) (sums : List ℕ) (e : ℕ) (sums′ : List ℕ) (again : Bool) : Type 0 where
   pub left : Aggregate
   pub stored : sums′ ≡ figureStored sums e left
-  pub rate-left : left .rate + rate ≡ figureAt sums e .rate
-  pub burst-left : left .burst + burst ≡ figureAt sums e .burst
-  pub frame-left : FrameLeft (left .rate) frame (figureAt sums e .frame) (left .frame) again
+  pub rate-left : left .rate + share .rate ≡ figureAt sums e .rate
+  pub burst-left : left .burst + share .burst ≡ figureAt sums e .burst
+  pub frame-left : FrameLeft (left .rate) (share .frame) (figureAt sums e .frame) (left .frame) again
 
 -- The figures `a` of a queue are right (`b`), its largest frame if `sure`; else that may be too small.
 pub record Near (sure : Type 0) (a b : Aggregate) : Type 0 where
@@ -104,12 +116,14 @@ pub record Near (sure : Type 0) (a b : Aggregate) : Type 0 where
   pub low : a .frame ≤ b .frame
   pub frame : sure → a .frame ≡ b .frame
 
--- What the path added at each queue is taken out, where a rate sum of 0 says that no flow is left (`Carried`).
-pub record PathRemoved (rate burst frame : ℕ) (queues entries sums sums′ : List ℕ) (again : Bool) : Type 0 where
-  pub long : length sums′ ≡ 1536
-  pub left : (n : ℕ) (links : List ℕ) (f : Flow) (fs : List Flow) → AllQueues n links entries → FlowOf rate burst frame entries f
-      → Figures (tableOf n links queues) (f ∷ fs) sums → 1 ≤ rate → Carried (tableOf n links queues) fs
-      → (e : ℕ) → e < 512 → Near (again ≡ false) (figureAt sums′ e) (aggregateAt (tableOf n links queues) fs (hopAt e))
+-- What the path added at each queue is taken out, where a rate sum of 0 says that no flow is left (`Carried`). Figures off the path
+-- stay.
+pub record PathRemoved (share : Aggregate) (table entries sums sums′ : List ℕ) (again : Bool) : Type 0 where
+  pub long : length sums′ ≡ sumNumbers
+  pub left : (f : Flow) (fs : List Flow) → AllQueues table entries → FlowOf share entries f
+      → Figures (tableOf table) (f ∷ fs) sums → 1 ≤ share .rate → Carried (tableOf table) fs
+      → (e : ℕ) → e < queuesMost → Near (again ≡ false) (figureAt sums′ e) (aggregateAt (tableOf table) fs (hopAt e))
+  pub others : (e : ℕ) → All (λ x. e ≡ x → ⊥) entries → figureAt sums′ e ≡ figureAt sums e
 
 -- Figures with a largest frame of at least this.
 unfoldable pub raised : Aggregate → (frame : ℕ) → Aggregate
@@ -117,52 +131,49 @@ raised a frame = record { rate = a .rate; burst = a .burst; frame = max (a .fram
 
 -- The largest frame of a flow on this path is counted in at its queues; rate and burst sums stay.
 pub record FrameRaised (frame : ℕ) (entries sums sums′ : List ℕ) : Type 0 where
-  pub long : length sums′ ≡ 1536
-  pub same : (t : Table) (f : Flow) → f .frame ≡ frame → f .path ≡ map hopAt entries → (e : ℕ) → e < 512
+  pub long : length sums′ ≡ sumNumbers
+  pub same : (t : Table) (f : Flow) → f .frame ≡ frame → f .path ≡ map hopAt entries → (e : ℕ) → e < queuesMost
       → figureAt sums′ e ≡ raised (figureAt sums e) (aggregateAt t (f ∷ []) (hopAt e) .frame)
 
--- The figures of a consistent registry stay below these numbers: a delay that passed bounds the burst sum.
+-- The figures of a consistent registry stay below these numbers: a backlog that passed bounds the burst sum.
 pub record Bounded (sums : List ℕ) : Type 0 where
-  pub long : length sums ≡ 1536
-  pub rates : (e : ℕ) → e < 512 → figureAt sums e .rate ≤ 10000000
-  pub bursts : (e : ℕ) → e < 512 → figureAt sums e .burst ≤ 2 ^ 32
-  pub frames : (e : ℕ) → e < 512 → figureAt sums e .frame ≤ 1542
+  pub long : length sums ≡ sumNumbers
+  pub rates : (e : ℕ) → e < queuesMost → figureAt sums e .rate ≤ 10000000
+  pub bursts : (e : ℕ) → e < queuesMost → figureAt sums e .burst ≤ 2 ^ 32
+  pub frames : (e : ℕ) → e < queuesMost → figureAt sums e .frame ≤ 1542
 
 -- The links of the hop entries, with speeds in their range.
-pub record Speeds (links entries : List ℕ) : Type 0 where
-  pub links-long : length links ≡ 256
-  pub each : All (λ e. getD links (4 * (e / 8) + 2) 0 ≤ 10000) entries
+pub record Speeds (table entries : List ℕ) : Type 0 where
+  pub each : All (λ e. speedAt table (linkIn e) ≤ 10000) entries
 
 -- A path over queues of the table (14) that meets no link twice (16).
-pub record OnTable (n : ℕ) (links entries : List ℕ) : Type 0 where
-  pub named : AllQueues n links entries
+pub record OnTable (table entries : List ℕ) : Type 0 where
+  pub named : AllQueues table entries
   pub once : atHop 16 metEarlier [] (map hopAt entries) ≡ none
 
--- Document 01's code, link and level.
-abbrev pub causeOf : PathFinding → Option Cause
-causeOf Fits = none
-causeOf OverRate = some (record { code = 21; link = 0; level = 0 })
-causeOf (OverDelay link level) = some (record { code = 22; link = link; level = level })
-causeOf (OverBacklog link level) = some (record { code = 23; link = link; level = level })
+-- What the check of the link of queue `e` finds with a flow counted in there by its share.
+abbrev pub causeWith : (table sums : List ℕ) (e : ℕ) (share : Aggregate) → Option Cause
+causeWith table sums e share =
+    linkCause (linkIn e + 1) (linkFinding (speedAt table (linkIn e)) (upTo levelsMost (queueAt table (linkIn e))) (levelsWith sums e share))
 
 -- The first of 21 to 23 along the path with the flow beside the others, which are on queues of the table.
-pub record PathChecked (rate burst frame : ℕ) (links queues sums entries : List ℕ) (r : PathFinding) : Type 0 where
-  pub first : (n : ℕ) (fs : List Flow) (f : Flow) → Columns n links queues → OnTable n links entries → FlowOf rate burst frame entries f
-      → Figures (tableOf n links queues) fs sums
-      → All (λ g. All (Named (tableOf n links queues)) (g .path)) fs
-      → causeOf r ≡ firstCause (linkFindings (tableOf n links queues) (f ∷ fs) (f .path))
+pub record PathChecked (share : Aggregate) (table sums entries : List ℕ) (r : Finding) : Type 0 where
+  pub first : (fs : List Flow) (f : Flow) → WellFormed table → OnTable table entries → FlowOf share entries f
+      → Figures (tableOf table) fs sums
+      → All (λ g. All (Named (tableOf table)) (g .path)) fs
+      → findingOf r ≡ firstCause (linkFindings (tableOf table) (f ∷ fs) (f .path))
 
 -- What the check of the eight levels of a link finds with these figures: the code of 21 to 23, or 0.
-abbrev pub codeAt : (links queues sums : List ℕ) (link : ℕ) → ℕ
-codeAt links queues sums link = linkFinding (getD links (4 * link + 2) 0) (upTo 8 (queueAt queues link)) (levelFigures sums link) .code
+abbrev pub codeAt : (table sums : List ℕ) (link : ℕ) → ℕ
+codeAt table sums link = linkFinding (speedAt table link) (upTo levelsMost (queueAt table link)) (levelFigures sums link) .code
 
 -- The links of the table, with speeds in their range.
-pub record LinkSpeeds (n : ℕ) (links : List ℕ) : Type 0 where
-  pub each : (link : ℕ) → link < n → getD links (4 * link + 2) 0 ≤ 10000
+pub record LinkSpeeds (table : List ℕ) : Type 0 where
+  pub each : (link : ℕ) → link < linkCount table → speedAt table link ≤ 10000
 
 -- Whether every link of the table meets 21 to 23 with flows on its queues that have these figures.
-pub record LinksMet (n : ℕ) (links queues sums : List ℕ) (r : Bool) : Type 0 where
-  pub sound : r ≡ true → (fs : List Flow) → Figures (tableOf n links queues) fs sums → All (λ g. All (Named (tableOf n links queues)) (g .path)) fs
-      → (link : ℕ) → LinkMeets (tableOf n links queues) fs link
-  pub complete : r ≡ false → (fs : List Flow) → Figures (tableOf n links queues) fs sums → All (λ g. All (Named (tableOf n links queues)) (g .path)) fs
-      → ((link : ℕ) → LinkMeets (tableOf n links queues) fs link) → ⊥
+pub record LinksMet (table sums : List ℕ) (r : Bool) : Type 0 where
+  pub sound : r ≡ true → (fs : List Flow) → Figures (tableOf table) fs sums → All (λ g. All (Named (tableOf table)) (g .path)) fs
+      → (link : ℕ) → LinkMeets (tableOf table) fs link
+  pub complete : r ≡ false → (fs : List Flow) → Figures (tableOf table) fs sums → All (λ g. All (Named (tableOf table)) (g .path)) fs
+      → ((link : ℕ) → LinkMeets (tableOf table) fs link) → ⊥

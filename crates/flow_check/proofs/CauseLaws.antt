@@ -8,10 +8,12 @@ use mathlib.Core.Option.{none, some}
 use borrow.Author.Tests.{lt-ltb, le-ltb}
 use lib.ListN.{length}
 use lib.Dec.{leb, ltb}
+use Rattle.model.specs.Words.{every}
+use Rattle.model.specs.Sizes.{hopEntries}
 use Rattle.model.specs.Orders.{Flow}
-use Rattle.model.specs.Reference.{State, Slot, firstCause, whole, atHop, noQueue, withNumber, heldFlows, heldHops, hopEntries, every, isHeld, numberFinding, lineFindings, deadlineFinding, roomFindings}
+use Rattle.model.specs.Reference.{State, Slot, firstCause, whole, atHop, noQueue, withNumber, heldFlows, heldHops, isHeld, numberFinding, lineFindings, deadlineFinding, roomFindings}
 use Rattle.model.specs.Outcomes.{earlyFindings}
-use Rattle.flow_check.specs.Findings.{entryFindings}
+use Rattle.flow_check.specs.View.{entryFindings}
 
 module _ (s : State) (f : Flow) where
   pub early-held : leb 1 (withNumber (f .number) (heldFlows (s .slots))) ≡ true
@@ -35,10 +37,10 @@ module _ (slots : List Slot) (f : Flow) where
   room-slots e = simp e
 
   module _ (free : every isHeld slots ≡ false) where
-    pub room-hops : 1024 < heldHops (heldFlows slots) + length (f .path) → firstCause (roomFindings slots f) ≡ some (record { code = 31; link = 0; level = 0 })
-    unfolding firstCause roomFindings whole hopEntries
+    pub room-hops : hopEntries < heldHops (heldFlows slots) + length (f .path) → firstCause (roomFindings slots f) ≡ some (record { code = 31; link = 0; level = 0 })
+    unfolding firstCause roomFindings whole
     room-hops h = simp (free, lt-ltb _ _ h)
 
-    pub room-left : heldHops (heldFlows slots) + length (f .path) ≤ 1024 → firstCause (roomFindings slots f) ≡ none
-    unfolding firstCause roomFindings whole hopEntries
+    pub room-left : heldHops (heldFlows slots) + length (f .path) ≤ hopEntries → firstCause (roomFindings slots f) ≡ none
+    unfolding firstCause roomFindings whole
     room-left h = simp (free, le-ltb _ _ h)

@@ -10,15 +10,15 @@ use native.Mathlib.Omega.{arith}
 use borrow.Author.Tests.{ltb-true, ltb-false, eqb-true, eq-eqb, leb-true, le-leb}
 use lib.ListN.{length, getD, List·getD-eq-default}
 use lib.Dec.{leb, ltb, eqb}
+use Rattle.model.specs.Words.{All, every, firstIndex}
 use Rattle.model.specs.Laws.Slot.{held-at}
 use Rattle.model.specs.Total.{total}
 use Rattle.model.specs.Orders.{Flow}
 use Rattle.model.specs.QueueTable.{Table}
-use Rattle.model.specs.Schedulable.{All}
-use Rattle.model.specs.Reference.{Slot, heldFlows, withNumber, firstIndex, holds, every}
+use Rattle.model.specs.Reference.{Slot, heldFlows, withNumber, holds}
 use Rattle.model.specs.Consistent.{flowInRange}
 use Rattle.model.specs.Laws.Test.{and-both, both-and, every-all, all-every}
-use Rattle.flow_check.specs.Findings.{flowAlone, slotAlone}
+use Rattle.flow_check.specs.View.{flowAlone, slotAlone}
 
 module _ (n : ℕ) where
   with-slot : (x : Slot) (l : List Slot) → withNumber n (heldFlows (x ∷ l)) ≡ cond (holds n x) 1 0 + withNumber n (heldFlows l)

@@ -1,4 +1,4 @@
--- A slot of the columns judged test by test: what the tests of its numbers say of the flow that it holds.
+-- A slot judged test by test: what the tests of its numbers say of the flow that it holds.
 -- Assumes nothing.
 use Prim.Native.Nat.{ℕ, zero, suc, _≤_, _<_}
 use mathlib.Core.Path.{_≡_, refl, sym, ap, _∙_}
@@ -9,18 +9,20 @@ use native.Mathlib.Omega.{arith}
 use borrow.Author.Tests.{eq-eqb, ne-eqb, le-leb, lt-leb, lt-ltb, le-ltb}
 use lib.ListN.{getD}
 use lib.Dec.{leb, ltb, eqb}
+use Rattle.model.specs.Words.{firstIndex, isNone}
+use Rattle.model.specs.Sizes.{hopsMost, slotCount}
 use Rattle.model.specs.Columns.{between}
 use Rattle.model.specs.Orders as model
 use Rattle.model.specs.QueueTable.{Table}
 use Rattle.model.specs.Laws.Test.{both-and}
 use Rattle.model.specs.Consistent.{flowInRange, headOf}
-use Rattle.model.specs.Reference.{Cause, Slot, firstCause, whole, isNone, firstIndex, holds, lineFindings, deadlineFinding}
+use Rattle.model.specs.Reference.{Cause, Slot, firstCause, whole, holds, lineFindings, deadlineFinding}
 use Rattle.orders.specs.declared.Flow.{Flow}
-use Rattle.orders.specs.Reading.{fieldsOf}
+use Rattle.orders.specs.View.{fieldsOf}
 use Rattle.queue_table.specs.View.{hopAt}
-use Rattle.flow_store.specs.View.{Store, countAt, flowAt, slotOf, slotsOf, entriesIn, flowIn}
+use Rattle.flow_store.specs.View.{Store, countAt, headAt, flowAt, slotOf, slotsOf, entriesIn, flowIn}
 use Rattle.flow_store.proofs.ViewLaws.{slot-at, flow-long}
-use Rattle.flow_check.specs.Findings.{entryFindings, pathFindings, headAt, slotAlone}
+use Rattle.flow_check.specs.View.{entryFindings, pathFindings, slotAlone}
 
 -- The first of the findings is one, or none.
 pub first-some : (x : Option Cause) (l : List (Option Cause)) → isNone x ≡ false → isNone (firstCause (x ∷ l)) ≡ false
@@ -65,7 +67,7 @@ pos : (n : ℕ) → (n ≡ 0 → ⊥) → 1 ≤ n
 pos zero ne = absurd (ne refl)
 pos (suc n) ne = omega arith
 
-module _ (t : Table) (slots pool : List ℕ) (i : ℕ) (inside : i < 256) (store : Store slots pool) where
+module _ (t : Table) (slots pool : List ℕ) (i : ℕ) (inside : i < slotCount) (store : Store slots pool) where
   abbrev here : Bool
   here = slotAlone t (slotsOf slots pool) i (getD (slotsOf slots pool) i none)
 
@@ -80,9 +82,9 @@ module _ (t : Table) (slots pool : List ℕ) (i : ℕ) (inside : i < 256) (store
   unfolding slotOf
   held-slot ne = slot-at slots i pool inside ∙ simp (ne-eqb (countAt slots i) 0 ne)
 
-  range-at : flowInRange held ≡ (model.headInRange (headAt slots i) && between 1 12 (countAt slots i))
+  range-at : flowInRange held ≡ (model.headInRange (headAt slots i) && between 1 hopsMost (countAt slots i))
   unfolding flowInRange headOf model.headInRange model.hopsInRange flowAt
-  range-at = ap (λ (n : ℕ). model.headInRange (headAt slots i) && between 1 12 n) (flow-long slots i pool inside store)
+  range-at = ap (λ (n : ℕ). model.headInRange (headAt slots i) && between 1 hopsMost n) (flow-long slots i pool inside store)
 
   -- By the numbers read from the slot.
   module _ (g : Flow) (e : fieldsOf g ≡ headAt slots i) where
@@ -98,18 +100,18 @@ module _ (t : Table) (slots pool : List ℕ) (i : ℕ) (inside : i < 256) (store
       there : here ≡ slotAlone t (slotsOf slots pool) i (some held)
       there = ap (slotAlone t (slotsOf slots pool) i) (held-slot (λ z. some-hops (sym count ∙ z)))
 
-      past : 12 < g .hops → between 1 12 (countAt slots i) ≡ false
+      past : hopsMost < g .hops → between 1 hopsMost (countAt slots i) ≡ false
       unfolding between
-      past h = and-false (leb 1 (countAt slots i)) (lt-leb (countAt slots i) 12 (omega (arith, count)))
+      past h = and-false (leb 1 (countAt slots i)) (lt-leb (countAt slots i) hopsMost (omega (arith, count)))
 
-      pub judged-hops : 12 < g .hops → here ≡ false
+      pub judged-hops : hopsMost < g .hops → here ≡ false
       judged-hops h =
           there ∙ alone-range t (slotsOf slots pool) i held (range-at ∙ and-false (model.headInRange (headAt slots i)) (past h))
 
-      module _ (few : g .hops ≤ 12) where
-        fits : between 1 12 (countAt slots i) ≡ true
+      module _ (few : g .hops ≤ hopsMost) where
+        fits : between 1 hopsMost (countAt slots i) ≡ true
         unfolding between
-        fits = rw count (both-and (le-leb 1 (g .hops) (pos (g .hops) some-hops)) (le-leb (g .hops) 12 few))
+        fits = rw count (both-and (le-leb 1 (g .hops) (pos (g .hops) some-hops)) (le-leb (g .hops) hopsMost few))
 
         range-here : flowInRange held ≡ model.headInRange (fieldsOf g)
         range-here = range-at ∙ and-true _ fits ∙ ap model.headInRange (sym e)
@@ -126,14 +128,14 @@ module _ (t : Table) (slots pool : List ℕ) (i : ℕ) (inside : i < 256) (store
           judged-number ne = there ∙ alone-number t (slotsOf slots pool) i held (range-here ∙ range) (ne-eqb _ i (λ z. ne (sym own-index ∙ z)))
 
           module _ (own : firstIndex (holds (g .number)) (slotsOf slots pool) ≡ i) where
-            frame-here : ltb (held .burst) (held .frame) ≡ ltb (g .burst .0) (g .frame .0)
+            frame-here : ltb (held .burst) (held .frame) ≡ ltb (g .share .burst .0) (g .share .frame .0)
             unfolding flowAt
             frame-here = ap (λ (h : model.Head). ltb (h .burst) (h .frame)) (sym e)
 
-            pub judged-frame : g .burst .0 < g .frame .0 → here ≡ false
+            pub judged-frame : g .share .burst .0 < g .share .frame .0 → here ≡ false
             judged-frame h = there ∙ alone-frame t (slotsOf slots pool) i held (range-here ∙ range) (eq-eqb _ i (own-index ∙ own)) (frame-here ∙ lt-ltb _ _ h)
 
-            pub judged-path : g .frame .0 ≤ g .burst .0
+            pub judged-path : g .share .frame .0 ≤ g .share .burst .0
                 → here ≡ isNone (firstCause (pathFindings t (g .deadline .0) (map hopAt (entriesIn slots pool i))))
             unfolding flowAt
             judged-path h =

@@ -1,1 +1,1 @@
-pub mod Findings
+pub mod View

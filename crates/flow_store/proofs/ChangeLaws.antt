@@ -7,6 +7,7 @@ use native.Mathlib.Omega.{arith}
 use native.Mathlib.Nat.{suc-add, zero-add}
 use lib.ListN.{getD, set, take, drop}
 use lib.Seq.{take-take, take-nil, set-at}
+use Rattle.model.specs.Sizes.{slotCount}
 use Rattle.model.specs.Orders.{Flow}
 use Rattle.model.specs.Reference.{Slot}
 use Rattle.queue_table.specs.View.{hopAt}
@@ -28,7 +29,7 @@ rest-same c m p q e = sym (drop-take c m q) ∙ ap (drop c) e ∙ drop-take c m 
 module _ (slots slots′ : List ℕ) where
   -- The numbers of n slots from slot i on are the same.
   abbrev Same : (n i : ℕ) → Type 0
-  Same n i = (j r : ℕ) → i ≤ j → j < i + n → getD slots′ (256 * r + j) 0 ≡ getD slots (256 * r + j) 0
+  Same n i = (j r : ℕ) → i ≤ j → j < i + n → getD slots′ (slotCount * r + j) 0 ≡ getD slots (slotCount * r + j) 0
 
   count-same : (n i : ℕ) → Same (suc n) i → countAt slots′ i ≡ countAt slots i
   unfolding countAt
@@ -65,20 +66,20 @@ module _ (slots slots′ : List ℕ) where
       (slots-same n (suc i) (drop c p) (drop c q) (λ j r low high. same j r (omega arith) (omega arith)) (rest-same c m p q e)))
 
 -- Slot k has changed, and the others haven't.
-module _ (slots slots′ : List ℕ) (k : ℕ) (inside : k < 256) (others : (i r : ℕ) → i < 256 → (i ≡ k → ⊥) → getD slots′ (256 * r + i) 0 ≡ getD slots (256 * r + i) 0) where
+module _ (slots slots′ : List ℕ) (k : ℕ) (inside : k < slotCount) (others : (i r : ℕ) → i < slotCount → (i ≡ k → ⊥) → getD slots′ (slotCount * r + i) 0 ≡ getD slots (slotCount * r + i) 0) where
   counts-before : countsFrom k 0 slots′ ≡ countsFrom k 0 slots
   counts-before = counts-same slots slots′ k 0 (λ j r low high. others j r (omega arith) (λ e. omega arith))
 
-  counts-after : countsFrom (255 - k) (suc k) slots′ ≡ countsFrom (255 - k) (suc k) slots
-  counts-after = counts-same slots slots′ (255 - k) (suc k) (λ j r low high. others j r (omega arith) (λ e. omega arith))
+  counts-after : countsFrom (slotCount - suc k) (suc k) slots′ ≡ countsFrom (slotCount - suc k) (suc k) slots
+  counts-after = counts-same slots slots′ (slotCount - suc k) (suc k) (λ j r low high. others j r (omega arith) (λ e. omega arith))
 
-  pub counts-changed : countsFrom 256 0 slots′ + countAt slots k ≡ countsFrom 256 0 slots + countAt slots′ k
+  pub counts-changed : countsFrom slotCount 0 slots′ + countAt slots k ≡ countsFrom slotCount 0 slots + countAt slots′ k
   counts-changed = omega (arith, counts-around slots k inside, counts-around slots′ k inside, counts-before, counts-after)
 
   -- The entries before and after its own are the same too.
   pub slot-changed : (pool pool′ : List ℕ) → take (countsFrom k 0 slots) pool′ ≡ take (countsFrom k 0 slots) pool
-      → take (countsFrom (255 - k) (suc k) slots) (drop (countsFrom k 0 slots + countAt slots′ k) pool′)
-      ≡ take (countsFrom (255 - k) (suc k) slots) (drop (countsFrom k 0 slots + countAt slots k) pool)
+      → take (countsFrom (slotCount - suc k) (suc k) slots) (drop (countsFrom k 0 slots + countAt slots′ k) pool′)
+      ≡ take (countsFrom (slotCount - suc k) (suc k) slots) (drop (countsFrom k 0 slots + countAt slots k) pool)
       → slotsOf slots′ pool′
       ≡ set (slotsOf slots pool) k (slotOf (countAt slots′ k) (flowAt slots′ k (take (countAt slots′ k) (drop (countsFrom k 0 slots) pool′))))
   slot-changed pool pool′ front rest =
@@ -86,9 +87,9 @@ module _ (slots slots′ : List ℕ) (k : ℕ) (inside : k < 256) (others : (i r
       let now = slotOf (countAt slots′ k) (flowAt slots′ k (take (countAt slots′ k) (drop start pool′))) in
       let was = slotOf (countAt slots k) (flowAt slots k (take (countAt slots k) (drop start pool))) in
       let before = slotsFrom k 0 slots pool in
-      let after = slotsFrom (255 - k) (suc k) slots (drop (start + countAt slots k) pool) in
+      let after = slotsFrom (slotCount - suc k) (suc k) slots (drop (start + countAt slots k) pool) in
       slots-around slots′ k pool′ inside
       ∙ rw counts-before
       (ap₂ (λ (a b : List Slot). a ++ now ∷ b) (slots-same slots slots′ k 0 pool pool′ (λ j r low high. others j r (omega arith) (λ e. omega arith)) front)
-      (slots-same slots slots′ (255 - k) (suc k) (drop (start + countAt slots k) pool) (drop (start + countAt slots′ k) pool′) (λ j r low high. others j r (omega arith) (λ e. omega arith)) rest))
+      (slots-same slots slots′ (slotCount - suc k) (suc k) (drop (start + countAt slots k) pool) (drop (start + countAt slots′ k) pool′) (λ j r low high. others j r (omega arith) (λ e. omega arith)) rest))
       ∙ sym (ap (λ (l : List Slot). set l k now) (slots-around slots k pool inside) ∙ set-at before was after now k (length-from slots k 0 pool))

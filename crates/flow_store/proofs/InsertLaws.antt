@@ -9,56 +9,57 @@ use native.Mathlib.Nat.{zero-add}
 use borrow.Author.Tests.{ne-eqb}
 use lib.ListN.{length, getD, set, take, drop, length-set}
 use lib.Seq.{getD-set-same, getD-set-other}
+use Rattle.model.specs.Sizes.{slotCount}
 use Rattle.model.specs.Orders.{flowOf}
 use Rattle.queue_table.specs.View.{hopAt}
 use Rattle.orders.specs.declared.Flow.{Flow}
-use Rattle.orders.specs.Reading.{fieldsOf}
-use Rattle.flow_store.specs.View.{countAt, flowAt, slotOf, slotsOf, countsFrom, Store, flowStored, pathInserted, Insertable}
+use Rattle.orders.specs.View.{fieldsOf}
+use Rattle.flow_store.specs.View.{slotNumbers, countAt, flowAt, slotOf, slotsOf, countsFrom, Store, flowStored, pathInserted, Insertable}
 use Rattle.flow_store.proofs.ViewLaws.{counts-around}
 use Rattle.flow_store.proofs.ChangeLaws.{counts-changed, slot-changed}
 use Rattle.flow_store.proofs.PoolLaws.{inserted-long, inserted-front, inserted-path, inserted-rest}
 
 -- Numbers stored at a slot, one of each kind from kind r on.
-module _ (k : ℕ) (inside : k < 256) where
+module _ (k : ℕ) (inside : k < slotCount) where
   spread : (r : ℕ) (vs l : List ℕ) → List ℕ
   spread r [] l = l
-  spread r (v ∷ vs) l = spread (suc r) vs (set l (256 * r + k) v)
+  spread r (v ∷ vs) l = spread (suc r) vs (set l (slotCount * r + k) v)
 
   spread-long : (r : ℕ) (vs l : List ℕ) → length (spread r vs l) ≡ length l
   unfolding spread
   spread-long r [] l = refl
-  spread-long r (v ∷ vs) l = spread-long (suc r) vs (set l (256 * r + k) v) ∙ length-set l (256 * r + k) v
+  spread-long r (v ∷ vs) l = spread-long (suc r) vs (set l (slotCount * r + k) v) ∙ length-set l (slotCount * r + k) v
 
   -- Elsewhere nothing changes.
-  spread-other : (r : ℕ) (vs l : List ℕ) (p : ℕ) → ((m : ℕ) → r ≤ m → 256 * m + k ≡ p → ⊥) → getD (spread r vs l) p 0 ≡ getD l p 0
+  spread-other : (r : ℕ) (vs l : List ℕ) (p : ℕ) → ((m : ℕ) → r ≤ m → slotCount * m + k ≡ p → ⊥) → getD (spread r vs l) p 0 ≡ getD l p 0
   unfolding spread
   spread-other r [] l p h = refl
   spread-other r (v ∷ vs) l p h =
-      spread-other (suc r) vs (set l (256 * r + k) v) p (λ m le e. h m (omega arith) e)
-      ∙ getD-set-other l (256 * r + k) p v 0 (λ e. h r (omega arith) (omega (arith, e)))
+      spread-other (suc r) vs (set l (slotCount * r + k) v) p (λ m le e. h m (omega arith) e)
+      ∙ getD-set-other l (slotCount * r + k) p v 0 (λ e. h r (omega arith) (omega (arith, e)))
 
-  spread-at : (r : ℕ) (vs l : List ℕ) (q : ℕ) → q < length vs → 256 * (r + length vs) ≤ length l → getD (spread r vs l) (256 * (r + q) + k) 0 ≡ getD vs q 0
+  spread-at : (r : ℕ) (vs l : List ℕ) (q : ℕ) → q < length vs → slotCount * (r + length vs) ≤ length l → getD (spread r vs l) (slotCount * (r + q) + k) 0 ≡ getD vs q 0
   unfolding spread
   spread-at r [] l q h room = absurd (omega arith)
   spread-at r (v ∷ vs) l zero h room =
-      let e : 256 * (r + 0) + k ≡ 256 * r + k = omega arith in
+      let e : slotCount * (r + 0) + k ≡ slotCount * r + k = omega arith in
       rw e
-      (spread-other (suc r) vs (set l (256 * r + k) v) (256 * r + k) (λ m le e. omega arith)
-      ∙ getD-set-same l (256 * r + k) v 0 (omega arith))
+      (spread-other (suc r) vs (set l (slotCount * r + k) v) (slotCount * r + k) (λ m le e. omega arith)
+      ∙ getD-set-same l (slotCount * r + k) v 0 (omega arith))
   spread-at r (v ∷ vs) l (suc q) h room =
-      let e : 256 * (r + suc q) + k ≡ 256 * (suc r + q) + k = omega arith in
-      rw e (spread-at (suc r) vs (set l (256 * r + k) v) q (omega arith) (omega (arith, length-set l (256 * r + k) v)))
+      let e : slotCount * (r + suc q) + k ≡ slotCount * (suc r + q) + k = omega arith in
+      rw e (spread-at (suc r) vs (set l (slotCount * r + k) v) q (omega arith) (omega (arith, length-set l (slotCount * r + k) v)))
 
 -- A flow stored at a slot: its numbers there, every other slot's as they were.
-module _ (k : ℕ) (f : Flow) (slots : List ℕ) (inside : k < 256) (long : length slots ≡ 1536) where
+module _ (k : ℕ) (f : Flow) (slots : List ℕ) (inside : k < slotCount) (long : length slots ≡ slotNumbers) where
   abbrev numbers : List ℕ
-  numbers = f .number ∷ f .rate .0 ∷ f .burst .0 ∷ f .frame .0 ∷ f .deadline .0 ∷ f .hops ∷ []
+  numbers = f .number ∷ f .share .rate .0 ∷ f .share .burst .0 ∷ f .share .frame .0 ∷ f .deadline .0 ∷ f .hops ∷ []
 
   stored : flowStored k f slots ≡ spread k inside 0 numbers slots
   unfolding flowStored spread
   stored = rw (zero-add k)
 
-  number-stored : (q : ℕ) → q < 6 → getD (flowStored k f slots) (256 * (0 + q) + k) 0 ≡ getD numbers q 0
+  number-stored : (q : ℕ) → q < 6 → getD (flowStored k f slots) (slotCount * (0 + q) + k) 0 ≡ getD numbers q 0
   number-stored q h = rw stored (spread-at k inside 0 numbers slots q h (omega arith))
 
   count-stored : countAt (flowStored k f slots) k ≡ f .hops
@@ -78,22 +79,22 @@ module _ (k : ℕ) (f : Flow) (slots : List ℕ) (inside : k < 256) (long : leng
         path = map hopAt entries;
       }
 
-  others : (i r : ℕ) → i < 256 → (i ≡ k → ⊥) → getD (flowStored k f slots) (256 * r + i) 0 ≡ getD slots (256 * r + i) 0
+  others : (i r : ℕ) → i < slotCount → (i ≡ k → ⊥) → getD (flowStored k f slots) (slotCount * r + i) 0 ≡ getD slots (slotCount * r + i) 0
   others i r h other =
-      rw stored (spread-other k inside 0 numbers slots (256 * r + i) (λ m le e. other (omega arith)))
+      rw stored (spread-other k inside 0 numbers slots (slotCount * r + i) (λ m le e. other (omega arith)))
 
-  stored-long : length (flowStored k f slots) ≡ 1536
+  stored-long : length (flowStored k f slots) ≡ slotNumbers
   stored-long = rw stored (spread-long k inside 0 numbers slots ∙ long)
 
 module _ (k : ℕ) (f : Flow) (entries slots pool : List ℕ) (ok : Insertable k f entries slots pool) where
-  long : length slots ≡ 1536
+  long : length slots ≡ slotNumbers
   long = ok .store .slots-long
 
   abbrev start : ℕ
   start = countsFrom k 0 slots
 
   abbrev end : ℕ
-  end = countsFrom 256 0 slots
+  end = countsFrom slotCount 0 slots
 
   order : start ≤ end
   order = omega (arith, counts-around slots k (ok .inside))
@@ -111,10 +112,10 @@ module _ (k : ℕ) (f : Flow) (entries slots pool : List ℕ) (ok : Insertable k
       rw (count, inserted-path start end entries pool order room, flow-stored k f slots (ok .inside) long entries)
       (simp (ne-eqb (length entries) 0 (λ e. omega (arith, ok .path))))
 
-  rest : take (countsFrom (255 - k) (suc k) slots) (drop (start + countAt (flowStored k f slots) k) (pathInserted start end entries pool))
-      ≡ take (countsFrom (255 - k) (suc k) slots) (drop (start + countAt slots k) pool)
+  rest : take (countsFrom (slotCount - suc k) (suc k) slots) (drop (start + countAt (flowStored k f slots) k) (pathInserted start end entries pool))
+      ≡ take (countsFrom (slotCount - suc k) (suc k) slots) (drop (start + countAt slots k) pool)
   rest =
-      let after : countsFrom (255 - k) (suc k) slots ≡ end - start = omega (arith, counts-around slots k (ok .inside), ok .free) in
+      let after : countsFrom (slotCount - suc k) (suc k) slots ≡ end - start = omega (arith, counts-around slots k (ok .inside), ok .free) in
       let same : start + countAt slots k ≡ start = omega (arith, ok .free) in
       rw (count, same, after) (inserted-rest start end entries pool order room)
 

@@ -7,17 +7,18 @@ use mathlib.Core.Option.{none}
 use native.Mathlib.Omega.{arith}
 use lib.ListN.{length, getD, set, take, drop, length-set}
 use lib.Seq.{getD-set-same, getD-set-other}
-use Rattle.flow_store.specs.View.{countAt, flowAt, slotOf, slotsOf, countsFrom, Store, pathRemoved}
+use Rattle.model.specs.Sizes.{slotCount}
+use Rattle.flow_store.specs.View.{hopsPosition, countAt, flowAt, slotOf, slotsOf, countsFrom, Store, pathRemoved}
 use Rattle.flow_store.proofs.ViewLaws.{counts-around}
 use Rattle.flow_store.proofs.ChangeLaws.{counts-changed, slot-changed}
 use Rattle.flow_store.proofs.PoolLaws.{removed-long, removed-front, removed-rest}
 
-module _ (k : ℕ) (slots pool : List ℕ) (inside : k < 256) (store : Store slots pool) where
+module _ (k : ℕ) (slots pool : List ℕ) (inside : k < slotCount) (store : Store slots pool) where
   abbrev start : ℕ
   start = countsFrom k 0 slots
 
   abbrev end : ℕ
-  end = countsFrom 256 0 slots
+  end = countsFrom slotCount 0 slots
 
   pub order : start + countAt slots k ≤ end
   order = omega (arith, counts-around slots k inside)
@@ -25,34 +26,34 @@ module _ (k : ℕ) (slots pool : List ℕ) (inside : k < 256) (store : Store slo
   pub within : end ≤ length pool
   within = omega (arith, store .pool-long, store .fits)
 
-  count : countAt (set slots (1280 + k) 0) k ≡ 0
+  count : countAt (set slots (hopsPosition k) 0) k ≡ 0
   unfolding countAt
-  count = getD-set-same slots (1280 + k) 0 0 (omega (arith, store .slots-long))
+  count = getD-set-same slots (hopsPosition k) 0 0 (omega (arith, store .slots-long))
 
-  others : (i r : ℕ) → i < 256 → (i ≡ k → ⊥) → getD (set slots (1280 + k) 0) (256 * r + i) 0 ≡ getD slots (256 * r + i) 0
-  others i r h other = getD-set-other slots (1280 + k) (256 * r + i) 0 0 (λ e. other (omega arith))
+  others : (i r : ℕ) → i < slotCount → (i ≡ k → ⊥) → getD (set slots (hopsPosition k) 0) (slotCount * r + i) 0 ≡ getD slots (slotCount * r + i) 0
+  others i r h other = getD-set-other slots (hopsPosition k) (slotCount * r + i) 0 0 (λ e. other (omega arith))
 
-  empty : (entries : List ℕ) → slotOf (countAt (set slots (1280 + k) 0) k) (flowAt (set slots (1280 + k) 0) k entries) ≡ none
+  empty : (entries : List ℕ) → slotOf (countAt (set slots (hopsPosition k) 0) k) (flowAt (set slots (hopsPosition k) 0) k entries) ≡ none
   unfolding slotOf
   empty entries = rw count
 
-  rest : take (countsFrom (255 - k) (suc k) slots) (drop (start + countAt (set slots (1280 + k) 0) k) (pathRemoved start end (countAt slots k) pool))
-      ≡ take (countsFrom (255 - k) (suc k) slots) (drop (start + countAt slots k) pool)
+  rest : take (countsFrom (slotCount - suc k) (suc k) slots) (drop (start + countAt (set slots (hopsPosition k) 0) k) (pathRemoved start end (countAt slots k) pool))
+      ≡ take (countsFrom (slotCount - suc k) (suc k) slots) (drop (start + countAt slots k) pool)
   rest =
-      let after : countsFrom (255 - k) (suc k) slots ≡ end - countAt slots k - start = omega (arith, counts-around slots k inside) in
-      let same : start + countAt (set slots (1280 + k) 0) k ≡ start = omega (arith, count) in
+      let after : countsFrom (slotCount - suc k) (suc k) slots ≡ end - countAt slots k - start = omega (arith, counts-around slots k inside) in
+      let same : start + countAt (set slots (hopsPosition k) 0) k ≡ start = omega (arith, count) in
       rw (same, after) (removed-rest start end (countAt slots k) pool order within)
 
-  pub removed : slotsOf (set slots (1280 + k) 0) (pathRemoved start end (countAt slots k) pool) ≡ set (slotsOf slots pool) k none
+  pub removed : slotsOf (set slots (hopsPosition k) 0) (pathRemoved start end (countAt slots k) pool) ≡ set (slotsOf slots pool) k none
   removed =
       let pool′ = pathRemoved start end (countAt slots k) pool in
-      slot-changed slots (set slots (1280 + k) 0) k inside others pool pool′ (removed-front start end (countAt slots k) pool order within) rest
-      ∙ ap (set (slotsOf slots pool) k) (empty (take (countAt (set slots (1280 + k) 0) k) (drop start pool′)))
+      slot-changed slots (set slots (hopsPosition k) 0) k inside others pool pool′ (removed-front start end (countAt slots k) pool order within) rest
+      ∙ ap (set (slotsOf slots pool) k) (empty (take (countAt (set slots (hopsPosition k) 0) k) (drop start pool′)))
 
-  pub removed-store : Store (set slots (1280 + k) 0) (pathRemoved start end (countAt slots k) pool)
+  pub removed-store : Store (set slots (hopsPosition k) 0) (pathRemoved start end (countAt slots k) pool)
   removed-store =
       record {
-        slots-long = length-set slots (1280 + k) 0 ∙ store .slots-long;
+        slots-long = length-set slots (hopsPosition k) 0 ∙ store .slots-long;
         pool-long = removed-long start end (countAt slots k) pool order within ∙ store .pool-long;
-        fits = omega (arith, counts-changed slots (set slots (1280 + k) 0) k inside others, count, store .fits);
+        fits = omega (arith, counts-changed slots (set slots (hopsPosition k) 0) k inside others, count, store .fits);
       }

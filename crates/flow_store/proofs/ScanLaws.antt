@@ -13,23 +13,25 @@ use borrow.Author.Tests.{eqb-true, ne-eqb}
 use lib.ListN.{getD, take, drop}
 use lib.Seq.{drop-nil}
 use lib.Dec.{eqb}
+use Rattle.model.specs.Words.{firstIndex, isNone}
+use Rattle.model.specs.Sizes.{slotCount}
 use Rattle.model.specs.Orders.{Flow}
-use Rattle.model.specs.Reference.{Slot, isNone, holds, firstIndex}
+use Rattle.model.specs.Reference.{Slot, holds}
 use Rattle.model.specs.Laws.Slot.{index-found}
-use Rattle.flow_store.specs.View.{OthersFrom, numberAt, countAt, flowAt, slotOf, slotsFrom, slotsOf, countsFrom}
+use Rattle.flow_store.specs.View.{hopsPosition, OthersFrom, numberAt, countAt, flowAt, slotOf, slotsFrom, slotsOf, countsFrom}
 use Rattle.flow_store.proofs.ViewLaws.{length-slots, slot-at}
 
 -- What the two tests say of slot i, whatever its entries.
 abbrev pub named : (number : ℕ) (slots : List ℕ) (i : ℕ) → Bool
-named number slots i = eqb (numberAt slots i) number && not (eqb (getD slots (1280 + i) 0) 0)
+named number slots i = eqb (numberAt slots i) number && not (eqb (getD slots (hopsPosition i) 0) 0)
 
 abbrev pub free : (slots : List ℕ) (i : ℕ) → Bool
-free slots i = eqb (getD slots (1280 + i) 0) 0
+free slots i = eqb (getD slots (hopsPosition i) 0) 0
 
 pub holds-named : (number : ℕ) (slots : List ℕ) (i : ℕ) (entries : List ℕ)
     → holds number (slotOf (countAt slots i) (flowAt slots i entries)) ≡ named number slots i
 unfolding slotOf countAt flowAt holds
-holds-named number slots i entries = go (eqb (getD slots (1280 + i) 0) 0) (flowAt slots i entries)
+holds-named number slots i entries = go (eqb (getD slots (hopsPosition i) 0) 0) (flowAt slots i entries)
   where
     go : (b : Bool) (f : Flow) → holds number (cond b none (some f)) ≡ (eqb (f .number) number && not b)
     go true f = sym (and-false (eqb (f .number) number))
@@ -50,7 +52,7 @@ none-free slots i entries = none-slot (countAt slots i) (flowAt slots i entries)
 module _ (test : Slot → Bool) (slots : List ℕ) where
   -- The first index from slot i on that the test finds.
   abbrev pub found : ℕ → ℕ
-  found i = i + firstIndex test (slotsFrom (256 - i) i slots [])
+  found i = i + firstIndex test (slotsFrom (slotCount - i) i slots [])
 
   module _ (seen : ℕ → Bool) (blind : (i : ℕ) (entries : List ℕ) → test (slotOf (countAt slots i) (flowAt slots i entries)) ≡ seen i) where
     any-pool : (n i : ℕ) (p q : List ℕ) → firstIndex test (slotsFrom n i slots p) ≡ firstIndex test (slotsFrom n i slots q)
@@ -64,28 +66,28 @@ module _ (test : Slot → Bool) (slots : List ℕ) where
     unfolding firstIndex slotsFrom
     turn n i = rw (blind i (take (countAt slots i) []), drop-nil (countAt slots i))
 
-    pub scan-found : (i : ℕ) → i < 256 → seen i ≡ true → found i ≡ i
+    pub scan-found : (i : ℕ) → i < slotCount → seen i ≡ true → found i ≡ i
     scan-found i h e =
-        let m : 256 - i ≡ suc (255 - i) = omega arith in
-        rw (m, turn (255 - i) i, e) (add-zero i)
+        let m : slotCount - i ≡ suc (slotCount - suc i) = omega arith in
+        rw (m, turn (slotCount - suc i) i, e) (add-zero i)
 
-    pub scan-on : (i : ℕ) → i < 256 → seen i ≡ false → found i ≡ found (i + 1)
+    pub scan-on : (i : ℕ) → i < slotCount → seen i ≡ false → found i ≡ found (i + 1)
     scan-on i h e =
-        let m : 256 - i ≡ suc (255 - i) = omega arith in
-        let k : 256 - (i + 1) ≡ 255 - i = omega arith in
+        let m : slotCount - i ≡ suc (slotCount - suc i) = omega arith in
+        let k : slotCount - (i + 1) ≡ slotCount - suc i = omega arith in
         let j : i + 1 ≡ suc i = omega arith in
-        rw (m, turn (255 - i) i, e, k, j) (omega arith)
+        rw (m, turn (slotCount - suc i) i, e, k, j) (omega arith)
 
-    pub scan-end : (i : ℕ) → i ≡ 256 → found i ≡ i
+    pub scan-end : (i : ℕ) → i ≡ slotCount → found i ≡ i
     unfolding firstIndex slotsFrom
     scan-end i e = rw e
 
     pub scan-whole : (pool : List ℕ) → found 0 ≡ firstIndex test (slotsOf slots pool)
     unfolding slotsOf
-    scan-whole pool = zero-add (firstIndex test (slotsFrom 256 0 slots [])) ∙ any-pool 256 0 [] pool
+    scan-whole pool = zero-add (firstIndex test (slotsFrom slotCount 0 slots [])) ∙ any-pool slotCount 0 [] pool
 
 -- The lowest free slot has hop count 0.
-pub free-count : (slots pool : List ℕ) → firstIndex isNone (slotsOf slots pool) < 256 → countAt slots (firstIndex isNone (slotsOf slots pool)) ≡ 0
+pub free-count : (slots pool : List ℕ) → firstIndex isNone (slotsOf slots pool) < slotCount → countAt slots (firstIndex isNone (slotsOf slots pool)) ≡ 0
 free-count slots pool h =
     let k = firstIndex isNone (slotsOf slots pool) in
     let count = countAt slots k in
@@ -96,7 +98,7 @@ free-count slots pool h =
     ∙ index-found isNone none (slotsOf slots pool) (omega (arith, length-slots slots pool)))
 
 -- Slots that have another flow number are passed.
-pub scan-skip : (number : ℕ) (slots : List ℕ) (i : ℕ) → i ≤ 256 → OthersFrom number slots 0 i → found (holds number) slots i ≡ found (holds number) slots 0
+pub scan-skip : (number : ℕ) (slots : List ℕ) (i : ℕ) → i ≤ slotCount → OthersFrom number slots 0 i → found (holds number) slots i ≡ found (holds number) slots 0
 scan-skip number slots zero h others = refl
 scan-skip number slots (suc i) h others =
     let not-here : named number slots i ≡ false = simp (ne-eqb (getD slots i 0) number (others i (omega arith) (omega arith))) in

@@ -1,51 +1,95 @@
 // The flows that are held, and their paths (document 01, "The book": places and hop entries).
 //
-// The store is two columns of numbers. Slot i, counted from 0, has its flow number at position i of `slots`, its rate at 256 + i,
-// burst at 512 + i, largest frame at 768 + i, deadline at 1024 + i and hop count at 1280 + i: numbers of one kind stand one
-// after the other, so that a scan or a sum over the slots reads consecutive numbers. Hop count 0 means that the slot is free,
-// and what else stands there doesn't count. `pool` has the hop entries of the held flows one after the other in slot order,
-// so that a flow's entries start at the sum of the hop counts before it; what stands past the last held one doesn't count.
+// The store is two arrays of numbers. `slots` has the flow numbers, rates, bursts, largest frames, deadlines and hop counts of
+// the slots, SLOTS of each kind, kind after kind: a scan or a sum over the slots reads consecutive numbers. Hop count 0 means
+// that the slot is free, and what else stands there doesn't count. `pool` has the hop entries of the held flows one after the
+// other in slot order, so that a flow's entries start at the sum of the hop counts before it; what stands past the last held
+// one doesn't count.
 ghost use mathlib.Core.Path.{_≡_};
 ghost use mathlib.Core.Bool.{false};
 ghost use mathlib.Core.List.{List, map};
 ghost use mathlib.Core.Option.{none, some};
-ghost use Prim.Native.Nat.{ℕ, _+_, _-_, _≤_, _<_};
+ghost use Prim.Native.Nat.{ℕ, _+_, _-_, _^_, _≤_, _<_};
 ghost use lib.ListN.{length, set, take, drop};
 ghost use lib.Seq.{paste};
+ghost use Rattle.model.specs.Words.{firstIndex, isNone};
+ghost use Rattle.model.specs.Sizes.{hopsMost, slotCount, hopEntries};
 ghost use Rattle.model.specs.Orders.{flowOf};
-ghost use Rattle.model.specs.Reference.{firstIndex, holds, isNone};
+ghost use Rattle.model.specs.Reference.{holds};
+ghost use Rattle.units.specs.View.{aggregateOf};
 ghost use Rattle.queue_table.specs.View.{hopAt};
-ghost use Rattle.orders.specs.Reading.{fieldsOf};
-ghost use Rattle.flow_store.specs.View.{countAt, slotsOf, countsFrom, entriesIn, Store, flowStored, pathInserted, pathRemoved, Narrow, Insertable, OthersFrom};
+ghost use Rattle.orders.specs.View.{fieldsOf};
+ghost use Rattle.flow_store.specs.View.{slotNumbers, blockSlots, countAt, headAt, shareAt, slotsOf, countsFrom, entriesIn, Store, flowStored, pathInserted, pathRemoved, Narrow, Insertable, OthersFrom};
 use orders::Flow;
+use units::Aggregate;
+use units::Bytes;
+use units::Micros;
+use units::Rate;
 
-// How many slots there are, and how many hop entries for all of them together.
+// How many slots there are, a multiple of BLOCK, and how many hop entries for all of them together.
 pub const SLOTS: usize = 256;
 
 pub const POOL: usize = 1024;
 
-// How many numbers the column of the slots has, and where slot 0's stand, its flow number at position 0.
-pub const SLOT_NUMBERS: usize = 1536;
+// How many numbers the array of the slots has, and where those of each kind start. The flow numbers stand first.
+pub const SLOT_NUMBERS: usize = 6 * SLOTS;
 
-pub const RATES: usize = 256;
+const RATES: usize = SLOTS;
 
-pub const BURSTS: usize = 512;
+const BURSTS: usize = 2 * SLOTS;
 
-pub const FRAMES: usize = 768;
+const FRAMES: usize = 3 * SLOTS;
 
-pub const DEADLINES: usize = 1024;
+const DEADLINES: usize = 4 * SLOTS;
 
-pub const HOPS: usize = 1280;
+const HOPS: usize = 5 * SLOTS;
 
-// Whether a flow number may stand in one of 16 slots, held or free: false only where it doesn't. It goes on past the
-// first, so that the slots are compared together.
+// How many slots are compared together.
+const BLOCK: usize = 16;
+
+// The numbers that stand at a slot, held or free.
+pub fn flow_at(slot: usize, slots: &[u32]) -> Flow
+    requires { ⌜ (length (now slots) ≡ slotNumbers) × (slot < slotCount) ⌝ }
+    ensures { λ r. ⌜ fieldsOf r ≡ headAt (now (slots .entry)) slot ⌝ }
+    ensures { λ r. ⌜ aggregateOf (r .share) ≡ shareAt (now (slots .entry)) slot ⌝ }
+{
+    Flow {
+        number: slots[slot],
+        share: Aggregate {
+            rate: Rate(slots[RATES + slot] as u64),
+            burst: Bytes(slots[BURSTS + slot] as u64),
+            frame: Bytes(slots[FRAMES + slot] as u64),
+        },
+        deadline: Micros(slots[DEADLINES + slot] as u64),
+        hops: slots[HOPS + slot],
+    }
+}
+
+// The hop count of a slot, 0 where it is free.
+pub fn hops_at(slot: usize, slots: &[u32]) -> usize
+    requires { ⌜ (length (now slots) ≡ slotNumbers) × (slot < slotCount) ⌝ }
+    ensures { λ r. ⌜ (r ≡ countAt (now (slots .entry)) slot) × (r < 2 ^ 32) ⌝ }
+{
+    slots[HOPS + slot] as usize
+}
+
+// The entries of a path that starts at this position of the pool.
+pub fn path_at(start: usize, hops: usize, pool: &[u32]) -> &[u32]
+    requires { ⌜ start + hops ≤ length (now pool) ⌝ }
+    ensures { λ r. ⌜ now r ≡ take hops (drop start (now (pool .entry))) ⌝ }
+{
+    &pool[start..start + hops]
+}
+
+// Whether a flow number may stand in a block of slots, held or free: false only where it doesn't. It goes on past the first,
+// so that the slots are compared together.
 fn block_names(number: u32, from: usize, slots: &[u32]) -> bool
-    requires { ⌜ (length (now slots) ≡ 1536) × (from + 16 ≤ 256) ⌝ }
-    ensures { λ r. ⌜ (r ≡ false → OthersFrom number (now (slots .entry)) from (from + 16)) ⌝ }
+    requires { ⌜ (length (now slots) ≡ slotNumbers) × (from + blockSlots ≤ slotCount) ⌝ }
+    ensures { λ r. ⌜ (r ≡ false → OthersFrom number (now (slots .entry)) from (from + blockSlots)) ⌝ }
 {
     let mut any = false;
     let mut i = from;
-    while i < from + 16 {
+    while i < from + BLOCK {
         let own = slots[i];
         i += 1;
         if own == number {
@@ -57,22 +101,22 @@ fn block_names(number: u32, from: usize, slots: &[u32]) -> bool
 
 // A slot before which no slot has this flow number.
 fn skip_others(number: u32, slots: &[u32]) -> usize
-    requires { ⌜ length (now slots) ≡ 1536 ⌝ }
-    ensures { λ r. ⌜ (r ≤ 256) × OthersFrom number (now (slots .entry)) 0 r ⌝ }
+    requires { ⌜ length (now slots) ≡ slotNumbers ⌝ }
+    ensures { λ r. ⌜ (r ≤ slotCount) × OthersFrom number (now (slots .entry)) 0 r ⌝ }
 {
     let mut i = 0;
     while i < SLOTS {
         if block_names(number, i, slots) {
             return i;
         }
-        i += 16;
+        i += BLOCK;
     }
     i
 }
 
-// The slot that holds the flow with this number, 256 where none does.
+// The slot that holds the flow with this number, SLOTS where none does.
 pub fn find(number: u32, slots: &[u32]) -> usize
-    requires { ⌜ length (now slots) ≡ 1536 ⌝ }
+    requires { ⌜ length (now slots) ≡ slotNumbers ⌝ }
     ensures { λ r. ⌜ ((pool : List ℕ) → r ≡ firstIndex (holds number) (slotsOf (now (slots .entry)) pool)) ⌝ }
 {
     let mut i = skip_others(number, slots);
@@ -85,9 +129,9 @@ pub fn find(number: u32, slots: &[u32]) -> usize
     i
 }
 
-// The lowest free slot, 256 where none is free.
+// The lowest free slot, SLOTS where none is free.
 pub fn first_free(slots: &[u32]) -> usize
-    requires { ⌜ length (now slots) ≡ 1536 ⌝ }
+    requires { ⌜ length (now slots) ≡ slotNumbers ⌝ }
     ensures { λ r. ⌜ ((pool : List ℕ) → r ≡ firstIndex isNone (slotsOf (now (slots .entry)) pool)) ⌝ }
 {
     let mut slot = 0;
@@ -102,7 +146,7 @@ pub fn first_free(slots: &[u32]) -> usize
 
 // The sum of the hop counts of the slots before `slot`, whatever they are.
 pub fn hop_sum(slots: &[u32], slot: usize) -> u64
-    requires { ⌜ (length (now slots) ≡ 1536) × (slot ≤ 256) ⌝ }
+    requires { ⌜ (length (now slots) ≡ slotNumbers) × (slot ≤ slotCount) ⌝ }
     ensures { λ r. ⌜ r ≡ countsFrom slot 0 (now (slots .entry)) ⌝ }
 {
     let mut sum: u64 = 0;
@@ -114,10 +158,10 @@ pub fn hop_sum(slots: &[u32], slot: usize) -> u64
     sum
 }
 
-// The position in the pool where a slot's entries start, and for slot 256 where the held ones end. The counts of a store sum to
-// 1,024 at most, so that they are summed in their own width.
+// The position in the pool where a slot's entries start, and for slot SLOTS where the held ones end. The counts of a store fit
+// the pool, so that they are summed in their own width.
 fn start_of(slot: usize, slots: &[u32]) -> usize
-    requires { ⌜ (length (now slots) ≡ 1536) × ((slot ≤ 256) × (countsFrom 256 0 (now slots) ≤ 1024)) ⌝ }
+    requires { ⌜ (length (now slots) ≡ slotNumbers) × ((slot ≤ slotCount) × (countsFrom slotCount 0 (now slots) ≤ hopEntries)) ⌝ }
     ensures { λ r. ⌜ r ≡ countsFrom slot 0 (now (slots .entry)) ⌝ }
 {
     let mut sum: u32 = 0;
@@ -129,14 +173,14 @@ fn start_of(slot: usize, slots: &[u32]) -> usize
     sum as usize
 }
 
-// Copies n numbers from position `from` of one column to position `at` of another.
-fn copy(source: &[u32], from: usize, n: usize, target: &mut [u32], at: usize)
-    requires { ⌜ (from + n ≤ length (now source)) × (at + n ≤ length (now target)) ⌝ }
-    ensures { λ _. ⌜ now (target .exit) ≡ paste (now (target .entry)) at (drop from (now (source .entry))) n ⌝ }
+// Copies all of one array to position `at` of another.
+fn copy(source: &[u32], target: &mut [u32], at: usize)
+    requires { ⌜ at + length (now source) ≤ length (now target) ⌝ }
+    ensures { λ _. ⌜ now (target .exit) ≡ paste (now (target .entry)) at (now (source .entry)) (length (now (source .entry))) ⌝ }
 {
     let mut i = 0;
-    while i < n {
-        target[at + i] = source[from + i];
+    while i < source.len() {
+        target[at + i] = source[i];
         i += 1;
     }
 }
@@ -158,20 +202,20 @@ fn insert_path(start: usize, end: usize, entries: &[u32], pool: &mut [u32])
     requires { ⌜ (start ≤ end) × (end + length (now entries) ≤ length (now pool)) ⌝ }
     ensures { λ _. ⌜ now (pool .exit) ≡ pathInserted start end (now (entries .entry)) (now (pool .entry)) ⌝ }
 {
-    let n = entries.len();
-    move_up(start, end, n, pool);
-    copy(entries, 0, n, pool, start);
+    move_up(start, end, entries.len(), pool);
+    copy(entries, pool, start);
 }
 
-// Stores a flow's numbers. They fit the column: an order line's ranges are below 2^32.
+// Stores a flow's numbers. They fit the array: an order line's ranges are below 2^32.
 fn store_flow(slot: usize, flow: Flow, slots: &mut [u32])
-    requires { ⌜ (slot < 256) × (length (now slots) ≡ 1536) × Narrow flow ⌝ }
+    requires { ⌜ (slot < slotCount) × (length (now slots) ≡ slotNumbers) × Narrow flow ⌝ }
     ensures { λ _. ⌜ now (slots .exit) ≡ flowStored slot flow (now (slots .entry)) ⌝ }
 {
     let number = flow.number;
-    let rate = flow.rate.0 as u32;
-    let burst = flow.burst.0 as u32;
-    let frame = flow.frame.0 as u32;
+    let share = flow.share;
+    let rate = share.rate.0 as u32;
+    let burst = share.burst.0 as u32;
+    let frame = share.frame.0 as u32;
     let deadline = flow.deadline.0 as u32;
     let hops = flow.hops;
     slots[slot] = number;
@@ -196,13 +240,13 @@ pub fn insert(slot: usize, flow: Flow, entries: &[u32], slots: &mut [u32], pool:
 
 // Copies the path of a slot to the front of `entries` and answers its hop count. What stands behind it then is free.
 pub fn path_into(slot: usize, slots: &[u32], pool: &[u32], entries: &mut [u32]) -> usize
-    requires { ⌜ Store (now slots) (now pool) × (slot < 256) × (countAt (now slots) slot ≤ 12) × (length (now entries) ≡ 12) ⌝ }
+    requires { ⌜ Store (now slots) (now pool) × (slot < slotCount) × (countAt (now slots) slot ≤ hopsMost) × (length (now entries) ≡ hopsMost) ⌝ }
     ensures { λ r. ⌜ r ≡ countAt (now (slots .entry)) slot ⌝ }
     ensures { λ r. ⌜ take r (now (entries .exit)) ≡ entriesIn (now (slots .entry)) (now (pool .entry)) slot ⌝ }
 {
     let start = start_of(slot, slots);
-    let n = slots[HOPS + slot] as usize;
-    copy(pool, start, n, entries, 0);
+    let n = hops_at(slot, slots);
+    copy(path_at(start, n, pool), entries, 0);
     n
 }
 
@@ -220,11 +264,11 @@ fn move_down(start: usize, end: usize, by: usize, pool: &mut [u32])
 
 // Empties a slot.
 pub fn remove(slot: usize, slots: &mut [u32], pool: &mut [u32])
-    requires { ⌜ Store (now slots) (now pool) × (slot < 256) ⌝ }
+    requires { ⌜ Store (now slots) (now pool) × (slot < slotCount) ⌝ }
     ensures { λ _. ⌜ slotsOf (now (slots .exit)) (now (pool .exit)) ≡ set (slotsOf (now (slots .entry)) (now (pool .entry))) slot none ⌝ }
     ensures { λ _. ⌜ Store (now (slots .exit)) (now (pool .exit)) ⌝ }
 {
-    let n = slots[HOPS + slot] as usize;
+    let n = hops_at(slot, &slots[..]);
     let start = start_of(slot, &slots[..]);
     let held = start_of(SLOTS, &slots[..]);
     move_down(start, held, n, pool);

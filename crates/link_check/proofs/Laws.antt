@@ -1,20 +1,20 @@
 -- The lists that the arrays stand for, one element at a time: what is left at `i` is the element there and what is left at `i + 1`.
 -- Assumes nothing.
-use Prim.Native.Nat.{ℕ, zero, suc, _+_, _-_, max, _≤_, _<_}
-use mathlib.Core.Path.{_≡_, refl, sym, ap, ap₂, _∙_}
+use Prim.Native.Nat.{ℕ, suc, _+_, _-_, max, _≤_, _<_}
+use mathlib.Core.Path.{_≡_, sym, ap, ap₂, _∙_}
 use mathlib.Core.List.{List, [], _∷_, map}
 use native.Mathlib.Omega.{arith}
 use native.Mathlib.Numerals.{add-one}
 use lib.ListN.{length, getD, set, drop, length-map, List·getD-map, drop-of-length-le}
 use lib.Seq.{drop-cons}
 use Rattle.units.specs.declared.Bytes.{Bytes}
-use Rattle.units.specs.declared.Micros.{Micros}
 use Rattle.model.specs.Total.{largest}
 use Rattle.model.specs.Laws.List.{drop-set}
 use Rattle.model.specs.Laws.Total.{largest-next}
 use Rattle.model.specs.Laws.LinkSteps.{framesBelow}
-use Rattle.link_check.specs.declared.Aggregate.{Aggregate}
-use Rattle.link_check.specs.Levels.{aggregateOf, aggregatesOf, bytesOf, queuesOf}
+use Rattle.units.specs.declared.Aggregate.{Aggregate}
+use Rattle.units.specs.View.{aggregateOf}
+use Rattle.link_check.specs.View.{aggregatesOf, bytesOf}
 
 module _ {A : Type 0} {B : Type 0} (f : A → B) where
   pub length-mapped : (l : List A) {n : ℕ} → length (map f l) ≡ n → length l ≡ n
@@ -32,15 +32,6 @@ blank = record { rate = record { 0 = 0 }; burst = record { 0 = 0 }; frame = reco
 
 pub level-next : (l : List Aggregate) (i : ℕ) → i < length l → drop i (aggregatesOf l) ≡ aggregateOf (getD l i blank) ∷ drop (i + 1) (aggregatesOf l)
 level-next l i h = mapped-next aggregateOf l i blank h
-
-pub queue-next : (ts : List Micros) (bs : List Bytes) (i : ℕ) → i < length ts → i < length bs
-    → drop i (queuesOf ts bs)
-    ≡ record { threshold = getD ts i (record { 0 = 0 }) .0; buffer = getD bs i (record { 0 = 0 }) .0 } ∷ drop (i + 1) (queuesOf ts bs)
-unfolding queuesOf
-queue-next [] bs i h h′ = absurd (omega arith)
-queue-next (t ∷ ts) [] i h h′ = absurd (omega arith)
-queue-next (t ∷ ts) (b ∷ bs) zero h h′ = refl
-queue-next (t ∷ ts) (b ∷ bs) (suc i) h h′ = rw (add-one (suc i)) (rw (add-one i) at (queue-next ts bs i (omega arith) (omega arith)))
 
 -- The step of the loop that goes from the last level up: `top` is the largest frame of the levels from `i` on.
 module _ (levels : List Aggregate) (top : Bytes) (i : ℕ) (pos : 0 < i) (within : i ≤ length levels)

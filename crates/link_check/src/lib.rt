@@ -2,70 +2,38 @@
 // level by level. Why nothing overflows is said in `units`.
 ghost use mathlib.Core.Path.{_≡_};
 ghost use mathlib.Core.List.{[]};
-ghost use Prim.Native.Nat.{_+_, _*_, _^_, max, _≤_, _<_};
+ghost use Prim.Native.Nat.{_+_, _*_, _^_, _≤_, _<_};
 ghost use Rattle.model.specs.Total.{total, largest};
-ghost use Rattle.model.specs.WithFlow.{withFlow};
 ghost use Rattle.model.specs.LinkCheck.{levelsFinding, linkFinding};
+ghost use Rattle.model.specs.Reference.{linkCause};
 ghost use Rattle.model.specs.Laws.LinkSteps.{levelFinding, framesBelow};
-ghost use Rattle.link_check.specs.Levels.{aggregateOf, aggregatesOf, queuesOf, bytesOf, findingOf};
+ghost use Rattle.units.specs.View.{aggregateOf};
+ghost use Rattle.causes.specs.View.{findingOf};
+ghost use Rattle.link_check.specs.View.{aggregatesOf, queueOf, queuesOf, bytesOf, levelFindingOf};
+use causes::Cause;
+use causes::Finding;
+use queue_table::LEVELS;
+use queue_table::Queue;
+use units::Aggregate;
 use units::Bytes;
-use units::Micros;
 use units::Rate;
 use units::backlog_bound;
 use units::delay_bound;
+use units::larger;
 use units::residual_rate;
 use units::within_rate;
 
-// The levels of a link, at most.
-pub const LEVELS: usize = 8;
-
-// The aggregate of a queue (document 01: its figures): rate sum, burst sum and largest frame, 0 where none.
-pub struct Aggregate {
-    pub rate: Rate,
-    pub burst: Bytes,
-    pub frame: Bytes,
-}
-
-// What the check of a link finds first; delay and backlog with their level, 1 to 8.
-pub enum Finding {
+// What the check of levels finds first, with the level, counted from 1.
+enum LevelFinding {
     Fits,
-    OverRate,
-    OverDelay(u8),
-    OverBacklog(u8),
+    OverDelay(u32),
+    OverBacklog(u32),
 }
 
-// A link's levels as they were, with what the check found.
+// What the check found, and the link's levels as they were: they are taken and given back by value (document 01).
 pub struct Checked {
     pub finding: Finding,
     pub levels: [Aggregate; LEVELS],
-}
-
-fn larger(a: Bytes, b: Bytes) -> Bytes
-    ensures { λ r. ⌜ r .0 ≡ max (a .0) (b .0) ⌝ }
-{
-    let x = a.0;
-    let y = b.0;
-    if x < y {
-        return b;
-    }
-    a
-}
-
-impl Aggregate {
-    // The aggregate with a flow counted in.
-    pub fn with_flow(self, rate: Rate, burst: Bytes, frame: Bytes) -> Aggregate
-        requires { ⌜ (self .rate .0 + rate .0 ≤ 2 ^ 40) × (self .burst .0 + burst .0 ≤ 2 ^ 40) ⌝ }
-        ensures { λ r. ⌜ aggregateOf r ≡ withFlow (aggregateOf self) (rate .0) (burst .0) (frame .0) ⌝ }
-    {
-        let r = self.rate;
-        let b = self.burst;
-        let f = self.frame;
-        Aggregate {
-            rate: Rate(r.0 + rate.0),
-            burst: Bytes(b.0 + burst.0),
-            frame: larger(f, frame),
-        }
-    }
 }
 
 // The rate sum of all levels.
@@ -104,47 +72,43 @@ fn frames_below(levels: [Aggregate; LEVELS]) -> [Bytes; LEVELS]
 // One level: eq. 15, if it carries a flow. `above` has the sums of the levels above, `below` the largest frame of those below.
 fn check_level(
     speed: u64,
-    level: u8,
-    threshold: Micros,
-    buffer: Bytes,
+    level: u32,
+    queue: Queue,
     above: Aggregate,
     own: Aggregate,
     below: Bytes,
-) -> Finding
+) -> LevelFinding
     requires { ⌜ speed ≤ 10000 ⌝ }
     requires { ⌜ above .rate .0 + own .rate .0 < 1000 * speed ⌝ }
     requires { ⌜ above .burst .0 + below .0 + own .frame .0 + own .burst .0 ≤ 2 ^ 40 ⌝ }
-    ensures { λ r. ⌜ findingOf r ≡ levelFinding speed level (record { threshold = threshold .0; buffer = buffer .0 }) (aggregateOf above) (aggregateOf own) (below .0) ⌝ }
+    ensures { λ r. ⌜ levelFindingOf r ≡ levelFinding speed level (queueOf queue) (aggregateOf above) (aggregateOf own) (below .0) ⌝ }
 {
+    let threshold = queue.threshold;
+    let buffer = queue.buffer;
     let frame = own.frame;
     if frame.0 == 0 {
-        return Finding::Fits;
+        return LevelFinding::Fits;
     }
     let res = residual_rate(speed, above.rate);
     let burst = above.burst;
     let y = Bytes(burst.0 + below.0 + frame.0);
     let delay = delay_bound(y, own.burst, res);
     if threshold.0 < delay.0 {
-        return Finding::OverDelay(level);
+        return LevelFinding::OverDelay(level);
     }
     let backlog = backlog_bound(own.rate, own.burst, y, res);
     if buffer.0 < backlog.0 {
-        return Finding::OverBacklog(level);
+        return LevelFinding::OverBacklog(level);
     }
-    Finding::Fits
+    LevelFinding::Fits
 }
 
 // All levels, from 1 on.
-fn check_levels(
-    speed: u64,
-    thresholds: [Micros; LEVELS],
-    buffers: [Bytes; LEVELS],
-    levels: [Aggregate; LEVELS],
-) -> Finding
+fn check_levels(speed: u64, queues: [Queue; LEVELS], levels: [Aggregate; LEVELS]) -> LevelFinding
     requires { ⌜ speed ≤ 10000 ⌝ }
     requires { ⌜ total (λ a. a .rate) (aggregatesOf levels) < 1000 * speed ⌝ }
     requires { ⌜ total (λ a. a .burst) (aggregatesOf levels) + 2 * largest (λ a. a .frame) (aggregatesOf levels) ≤ 2 ^ 40 ⌝ }
-    ensures { λ r. ⌜ findingOf r ≡ levelsFinding speed 1 [] (queuesOf thresholds buffers) (aggregatesOf levels) ⌝ }
+    ensures { λ r. ⌜ levelFindingOf r ≡ levelsFinding speed 1 [] (queuesOf queues) (aggregatesOf levels) ⌝ }
 {
     let below = frames_below(levels);
     let mut above = Aggregate {
@@ -155,45 +119,48 @@ fn check_levels(
     let mut i: usize = 0;
     while i < LEVELS {
         let own = levels[i];
-        let found = check_level(
-            speed,
-            i as u8 + 1,
-            thresholds[i],
-            buffers[i],
-            above,
-            own,
-            below[i],
-        );
-        let Finding::Fits = found else {
+        let found = check_level(speed, i as u32 + 1, queues[i], above, own, below[i]);
+        let LevelFinding::Fits = found else {
             return found;
         };
-        above = above.with_flow(own.rate, own.burst, own.frame);
+        above = above.with_flow(own);
         i += 1;
     }
-    Finding::Fits
+    LevelFinding::Fits
 }
 
-// 21 for the link, then level by level from 1, 22 before 23. A link with fewer levels has empty ones behind.
+// What is found at the levels of a link, as a cause that names it.
+fn on_link(link: u32, found: LevelFinding) -> Finding
+    ensures { λ r. ⌜ findingOf r ≡ linkCause link (levelFindingOf found) ⌝ }
+{
+    match found {
+        LevelFinding::Fits => Finding::Nothing,
+        LevelFinding::OverDelay(level) => Finding::Against(Cause::OverDelay(link, level)),
+        LevelFinding::OverBacklog(level) => Finding::Against(Cause::OverBacklog(link, level)),
+    }
+}
+
+// 21 for the link, counted from 1, then level by level from 1, 22 before 23. A link with fewer levels has empty ones behind.
 pub fn check_link(
+    link: u32,
     speed: u64,
-    thresholds: [Micros; LEVELS],
-    buffers: [Bytes; LEVELS],
+    queues: [Queue; LEVELS],
     levels: [Aggregate; LEVELS],
 ) -> Checked
     requires { ⌜ speed ≤ 10000 ⌝ }
     requires { ⌜ total (λ a. a .rate) (aggregatesOf levels) < 2 ^ 40 ⌝ }
     requires { ⌜ total (λ a. a .burst) (aggregatesOf levels) + 2 * largest (λ a. a .frame) (aggregatesOf levels) ≤ 2 ^ 40 ⌝ }
     ensures { λ r. ⌜ r .levels ≡ levels ⌝ }
-    ensures { λ r. ⌜ findingOf (r .finding) ≡ linkFinding speed (queuesOf thresholds buffers) (aggregatesOf levels) ⌝ }
+    ensures { λ r. ⌜ findingOf (r .finding) ≡ linkCause link (linkFinding speed (queuesOf queues) (aggregatesOf levels)) ⌝ }
 {
     if within_rate(speed, rate_sum(levels)) {
         return Checked {
-            finding: check_levels(speed, thresholds, buffers, levels),
+            finding: on_link(link, check_levels(speed, queues, levels)),
             levels,
         };
     }
     Checked {
-        finding: Finding::OverRate,
+        finding: Finding::Against(Cause::OverRate(link)),
         levels,
     }
 }

@@ -4,11 +4,12 @@ use mathlib.Core.Path.{_≡_}
 use mathlib.Core.List.{List, _∷_, List·Memᴰ}
 use mathlib.Core.Option.{some}
 use lib.ListN.{take, drop}
+use Rattle.model.specs.Words.{nth}
 use Rattle.model.specs.Total.{total}
 use Rattle.model.specs.Formula.{Aggregate, delay, backlog}
 use Rattle.model.specs.QueueTable.{Queue, Link, Table}
 use Rattle.model.specs.Orders.{Hop, Flow}
-use Rattle.model.specs.Aggregates.{linkAt, nth, aggregateAt, levelAggregates}
+use Rattle.model.specs.Aggregates.{linkAt, aggregateAt, levelAggregates}
 use Rattle.model.specs.Reference.{thresholdSum}
 
 -- One of the flows has a hop at the queue.

@@ -1,20 +1,14 @@
 -- Document 01, "The book": the aggregate of each queue (document 01: its figures), worked out anew from the flows with a hop there.
-use Prim.Native.Nat.{ℕ, zero, suc, _+_}
+use Prim.Native.Nat.{ℕ, suc, _+_}
 use mathlib.Core.Bool.{Bool, cond, _&&_}
 use mathlib.Core.List.{List, [], _∷_, _++_}
 use mathlib.Core.Option.{Option, none, some}
-use lib.ListN.{getElem?}
 use lib.Dec.{eqb}
+use Rattle.model.specs.Words.{andThen, nth}
 use Rattle.model.specs.Total.{total, largest}
 use Rattle.model.specs.Formula.{Aggregate, burstAtHop}
-use Rattle.model.specs.Columns.{andThen}
 use Rattle.model.specs.QueueTable.{Queue, Link, Table}
 use Rattle.model.specs.Orders.{Hop, Flow}
-
--- The element with this number, counted from 1; none where there is none.
-unfoldable pub nth : {A : Type 0} → List A → ℕ → Option A
-nth l zero = none
-nth l (suc i) = getElem? l i
 
 unfoldable pub linkAt : Table → ℕ → Option Link
 linkAt t n = nth t n
@@ -27,17 +21,28 @@ unfoldable pub thresholdOf : Option Queue → ℕ
 thresholdOf none = 0
 thresholdOf (some q) = q .threshold
 
--- A flow's share at one of its hops is what it adds there: its rate, its burst at that hop and its largest frame.
+-- What a flow adds at its source: its rate, its burst and its largest frame.
+abbrev pub source : Flow → Aggregate
+source f = record { rate = f .rate; burst = f .burst; frame = f .frame }
+
+-- The same at a hop, where S of the earlier ones is `sum`: the burst has grown.
+abbrev pub grown : Aggregate → (sum : ℕ) → Aggregate
+grown a sum = record { rate = a .rate; burst = burstAtHop (a .rate) (a .burst) sum; frame = a .frame }
+
+-- What a hop adds to S for the hops after it: its threshold.
+abbrev pub growth : Table → Hop → ℕ
+growth t h = thresholdOf (queueAt t h)
+
+-- A flow's share at one of its hops is what it adds there.
 pub record Share : Type 0 where
   pub hop : Hop
   pub adds : Aggregate
 
--- The shares at the hops `path`, before which the thresholds sum to `sum`.
+-- The shares at the hops `path`, before which S is `sum`.
 unfoldable pub shares : Table → Flow → (sum : ℕ) → (path : List Hop) → List Share
 shares t f sum [] = []
 shares t f sum (h ∷ path) =
-    record { hop = h; adds = record { rate = f .rate; burst = burstAtHop (f .rate) (f .burst) sum; frame = f .frame } }
-    ∷ shares t f (sum + thresholdOf (queueAt t h)) path
+    record { hop = h; adds = grown (source f) sum } ∷ shares t f (sum + growth t h) path
 
 unfoldable pub allShares : Table → List Flow → List Share
 allShares t [] = []

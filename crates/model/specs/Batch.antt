@@ -5,6 +5,7 @@ use mathlib.Core.Bool.{Bool, cond, _||_}
 use mathlib.Core.List.{List, [], _∷_, _++_}
 use lib.ListN.{length, drop}
 use lib.Dec.{ltb}
+use Rattle.model.specs.Sizes.{orderBytes, orderLines, answerBytes}
 use Rattle.model.specs.Columns.{Line, lines}
 use Rattle.model.specs.QueueTable.{TableText, accepted, refused, readTable}
 use Rattle.model.specs.Orders.{orderLine}
@@ -33,15 +34,15 @@ refusedBatch code line area = record { code = code; line = line; area = area }
 
 -- Done: 0 and the count of order lines. 20 bytes for each are written; those past the last line are as they were.
 unfoldable pub doneBatch : State → List Line → (area : List ℕ) → Batch
-doneBatch s ls area = record { code = 0; line = length ls; area = answerText 1 (lineAnswers s ls) ++ drop (20 * length ls) area }
+doneBatch s ls area = record { code = 0; line = length ls; area = answerText 1 (lineAnswers s ls) ++ drop (answerBytes * length ls) area }
 
 -- 41: order text above 60,000 bytes or 2,000 lines.
 unfoldable pub tooLong : (orders : List ℕ) → Bool
-tooLong orders = ltb 60000 (length orders) || ltb 2000 (length (lines orders))
+tooLong orders = ltb orderBytes (length orders) || ltb orderLines (length (lines orders))
 
 -- 40: answer area shorter than 20 bytes per order line.
 unfoldable pub tooShort : (orders area : List ℕ) → Bool
-tooShort orders area = ltb (length area) (20 * length (lines orders))
+tooShort orders area = ltb (length area) (answerBytes * length (lines orders))
 
 -- 1 to 5 come with the line that the table's text has for them, 41 and 40 with line 0.
 unfoldable pub afterTable : TableText → State → (orders area : List ℕ) → Batch

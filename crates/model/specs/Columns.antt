@@ -43,11 +43,6 @@ justified (suc w) n = padded w (n / 10) ++ ((48 + n % 10) ∷ [])
 unfoldable pub writtenAt : (first last n : ℕ) → List ℕ → List ℕ
 writtenAt first last n line = take (first - 1) line ++ (justified (last - (first - 1)) n ++ drop last line)
 
--- Go on with a number that was read.
-abbrev pub andThen : {A B : Type 0} → Option A → (A → Option B) → Option B
-andThen none f = none
-andThen (some a) f = f a
-
 -- The range from `low` to `high`, both in it.
 unfoldable pub between : (low high n : ℕ) → Bool
 between low high n = leb low n && leb n high

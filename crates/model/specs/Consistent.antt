@@ -3,10 +3,12 @@ use mathlib.Core.Bool.{Bool, not, _&&_}
 use mathlib.Core.List.{List, _∷_, _++_}
 use lib.ListN.{length}
 use lib.Dec.{leb, eqb}
+use Rattle.model.specs.Words.{every, isNone}
+use Rattle.model.specs.Sizes.{linksMost, levelsMost, slotCount, hopEntries}
 use Rattle.model.specs.Columns.{between}
 use Rattle.model.specs.QueueTable.{Queue, Link, Table, Row, rowInRange}
 use Rattle.model.specs.Orders.{Flow, Head, headInRange, hopsInRange}
-use Rattle.model.specs.Reference.{State, heldFlows, heldHops, withNumber, slotCount, hopEntries, isNone, every, firstCause, lineFindings, deadlineFinding, linkFindings}
+use Rattle.model.specs.Reference.{State, heldFlows, heldHops, withNumber, firstCause, lineFindings, deadlineFinding, linkFindings}
 
 -- A queue of a link as a table line gives it. Its turn is its place in the table.
 unfoldable pub rowOf : Link → Queue → Row
@@ -15,10 +17,10 @@ rowOf l q =
 
 -- A link passes 2, 3 and 4: its ranges, 1 to 8 levels, two nodes.
 unfoldable pub linkConsistent : Link → Bool
-linkConsistent l = every (λ q. rowInRange (rowOf l q)) (l .levels) && between 1 8 (length (l .levels)) && not (eqb (l .from) (l .to))
+linkConsistent l = every (λ q. rowInRange (rowOf l q)) (l .levels) && between 1 levelsMost (length (l .levels)) && not (eqb (l .from) (l .to))
 
 unfoldable pub tableConsistent : Table → Bool
-tableConsistent t = every linkConsistent t && leb (length t) 64
+tableConsistent t = every linkConsistent t && leb (length t) linksMost
 
 -- The columns of a flow's line before its hops.
 unfoldable pub headOf : Flow → Head

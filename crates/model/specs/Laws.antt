@@ -4,6 +4,7 @@ pub mod All
 pub mod Total
 pub mod Test
 pub mod Formula
+pub mod HandSums
 pub mod Columns
 pub mod Answers
 pub mod LinkCheck
@@ -26,3 +27,4 @@ pub mod Path
 pub mod Figures
 pub mod Bounds
 pub mod Uncrossed
+pub mod Run

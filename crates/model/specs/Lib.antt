@@ -1,3 +1,5 @@
+pub mod Words
+pub mod Sizes
 pub mod Total
 pub mod Formula
 pub mod Columns
@@ -5,8 +7,8 @@ pub mod QueueTable
 pub mod Orders
 pub mod LinkCheck
 pub mod WithFlow
-pub mod HandSums
 pub mod Aggregates
+pub mod HandSums
 pub mod Schedulable
 pub mod Reference
 pub mod Answers

@@ -5,7 +5,9 @@ use mathlib.Core.List.{List, [], _∷_}
 use mathlib.Core.Option.{Option, none, some}
 use lib.ListN.{length, drop}
 use lib.Dec.{eqb}
-use Rattle.model.specs.Columns.{Line, ended, unended, fieldAt, andThen, between}
+use Rattle.model.specs.Words.{andThen}
+use Rattle.model.specs.Sizes.{hopsMost, headColumns, hopColumns}
+use Rattle.model.specs.Columns.{Line, ended, unended, fieldAt, between}
 
 pub record Hop : Type 0 where
   pub link : ℕ
@@ -52,17 +54,17 @@ hopField bytes =
 -- So many hops, one after the other.
 unfoldable pub hopFields : ℕ → List ℕ → Option (List Hop)
 hopFields zero bytes = some []
-hopFields (suc n) bytes = andThen (hopField bytes) λ hop. andThen (hopFields n (drop 6 bytes)) λ hops. some (hop ∷ hops)
+hopFields (suc n) bytes = andThen (hopField bytes) λ hop. andThen (hopFields n (drop hopColumns bytes)) λ hops. some (hop ∷ hops)
 
 -- With a hop count in range the line has exactly 41 + 6 × hops columns.
 unfoldable pub pathFields : ℕ → List ℕ → Option (List Hop)
-pathFields hops line = cond (eqb (length line) (41 + 6 * hops)) (hopFields hops (drop 41 line)) none
+pathFields hops line = cond (eqb (length line) (headColumns + hopColumns * hops)) (hopFields hops (drop headColumns line)) none
 
 unfoldable pub numberInRange : ℕ → Bool
 numberInRange = between 1 65535
 
 unfoldable pub hopsInRange : ℕ → Bool
-hopsInRange = between 1 12
+hopsInRange = between 1 hopsMost
 
 -- The ranges of a registration, its hop count aside. A hop's link and level have none.
 unfoldable pub headInRange : Head → Bool
@@ -97,10 +99,27 @@ releaseOf (some n) = cond (numberInRange n) (release n) (rejected 11)
 unfoldable pub releaseLine : List ℕ → Order
 releaseLine line = cond (eqb (length line) 8) (releaseOf (fieldAt 3 8 line)) (rejected 10)
 
--- Kind 1 registers, kind 2 releases; another kind is out of range and the rest isn't read.
+-- Kind 1 registers, kind 2 releases.
+pub data Kind : Type 0 where
+  registering : Kind
+  releasing : Kind
+
+unfoldable pub kindNumber : Kind → ℕ
+kindNumber registering = 1
+kindNumber releasing = 2
+
+unfoldable pub kindOfNumber : ℕ → Option Kind
+kindOfNumber n = cond (eqb n (kindNumber registering)) (some registering) (cond (eqb n (kindNumber releasing)) (some releasing) none)
+
+-- Another kind is out of range and the rest isn't read.
+unfoldable pub kindOrder : List ℕ → Option Kind → Order
+kindOrder line none = rejected 11
+kindOrder line (some registering) = registration line
+kindOrder line (some releasing) = releaseLine line
+
 unfoldable pub orderOfKind : List ℕ → Option ℕ → Order
 orderOfKind line none = rejected 10
-orderOfKind line (some kind) = cond (eqb kind 1) (registration line) (cond (eqb kind 2) (releaseLine line) (rejected 11))
+orderOfKind line (some n) = kindOrder line (kindOfNumber n)
 
 unfoldable pub readOrder : List ℕ → Order
 readOrder line = orderOfKind line (fieldAt 1 2 line)

@@ -5,9 +5,10 @@ use mathlib.Core.Logic.{_⊎_}
 use mathlib.Core.List.{List, [], _∷_, _++_}
 use mathlib.Core.Option.{Option, none, some}
 use lib.ListN.{length, getD}
+use Rattle.model.specs.Words.{All}
+use Rattle.model.specs.Sizes.{slotCount, hopEntries}
 use Rattle.model.specs.Orders.{Flow, Order}
-use Rattle.model.specs.Schedulable.{All}
-use Rattle.model.specs.Reference.{Slot, State, Cause, Outcome, heldFlows, heldHops, slotCount, hopEntries, numberFinding, lineFindings, deadlineFinding, roomFindings, findings, refuse, apply}
+use Rattle.model.specs.Reference.{Slot, State, Cause, Outcome, heldFlows, heldHops, numberFinding, lineFindings, deadlineFinding, roomFindings, findings, refuse, apply}
 
 -- None of the findings applies.
 abbrev pub NoneApplies : List (Option Cause) → Type 0

@@ -5,7 +5,9 @@ use mathlib.Core.List.{List, [], _∷_, _++_, reverse}
 use mathlib.Core.Option.{Option, none, some}
 use lib.ListN.{length}
 use lib.Dec.{leb, eqb}
-use Rattle.model.specs.Columns.{Line, ended, unended, lines, fieldAt, andThen, between}
+use Rattle.model.specs.Words.{andThen}
+use Rattle.model.specs.Sizes.{linksMost, levelsMost, rowColumns, tableBytes}
+use Rattle.model.specs.Columns.{Line, ended, unended, lines, fieldAt, between}
 
 -- A queue of a link: threshold in µs, buffer in bytes.
 pub record Queue : Type 0 where
@@ -47,7 +49,7 @@ rowFields line =
 
 -- 1: a table line has exactly 36 columns, each field well formed.
 unfoldable pub row : List ℕ → Option Row
-row line = cond (eqb (length line) 36) (rowFields line) none
+row line = cond (eqb (length line) rowColumns) (rowFields line) none
 
 -- 2: each number is in its range. (Link and level are judged by 3.)
 unfoldable pub rowInRange : Row → Bool
@@ -66,7 +68,7 @@ begins ls r = eqb (r .link) (suc (length ls)) && eqb (r .level) 1
 
 -- 3: in turn, and not past 64 links or 8 levels.
 unfoldable pub rowInTurn : List Link → Row → Bool
-rowInTurn ls r = (continues ls r || begins ls r) && leb (r .link) 64 && leb (r .level) 8
+rowInTurn ls r = (continues ls r || begins ls r) && leb (r .link) linksMost && leb (r .level) levelsMost
 
 -- The line has the nodes and the speed of the newest link.
 unfoldable pub sameLink : List Link → Row → Bool
@@ -124,4 +126,4 @@ readLines n ls (l ∷ more) = afterStep (lineStep ls l) (λ ls′. readLines (su
 
 -- 5 comes first, with line 0: a text above 18,944 bytes isn't read.
 unfoldable pub readTable : List ℕ → TableText
-readTable text = cond (leb (length text) 18944) (readLines 1 [] (lines text)) (refused 5 0)
+readTable text = cond (leb (length text) tableBytes) (readLines 1 [] (lines text)) (refused 5 0)

@@ -1,24 +1,19 @@
 -- Document 01, "The book": the plain book, here the reference model, with the causes of "Who can cause which refusal" in their order.
 -- It is fed the table text and the calls, and nothing of the program.
 use Prim.Native.Nat.{ℕ, suc, _+_}
-use mathlib.Core.Bool.{Bool, true, false, cond, not, _&&_, _||_}
+use mathlib.Core.Bool.{Bool, true, false, cond, not, _||_}
 use mathlib.Core.List.{List, [], _∷_, _++_, map}
 use mathlib.Core.Option.{Option, none, some}
 use lib.ListN.{length, set, replicate}
 use lib.Dec.{leb, ltb, eqb}
+use Rattle.model.specs.Words.{every, isNone, firstIndex}
+use Rattle.model.specs.Sizes.{slotCount, hopEntries}
 use Rattle.model.specs.Total.{total}
 use Rattle.model.specs.Columns.{Line, ended, unended, lines, fieldAt}
 use Rattle.model.specs.QueueTable.{Link, Table, TableText, accepted, refused, readTable}
-use Rattle.model.specs.Orders.{Hop, Flow, Order, register, release, rejected, readOrder}
+use Rattle.model.specs.Orders.{Hop, Flow, Order, register, release, rejected, Kind, kindNumber, readOrder}
 use Rattle.model.specs.LinkCheck.{Finding, linkFinding}
 use Rattle.model.specs.Aggregates.{linkAt, queueAt, thresholdOf, levelAggregates}
-
--- Slots (document 01: places), and hop entries for all flows together.
-unfoldable pub slotCount : ℕ
-slotCount = 256
-
-unfoldable pub hopEntries : ℕ
-hopEntries = 1024
 
 -- A slot: a flow as its line gave it, or none.
 abbrev pub Slot : Type 0
@@ -74,10 +69,6 @@ atHop code test earlier [] = none
 atHop code test earlier (h ∷ path) =
     cond (test earlier h) (some (record { code = code; link = h .link; level = h .level })) (atHop code test (h ∷ earlier) path)
 
-unfoldable pub isNone : {A : Type 0} → Option A → Bool
-isNone none = true
-isNone (some a) = false
-
 -- The nodes where a link starts and ends; 0 is no node.
 unfoldable pub start : Option Link → ℕ
 start none = 0
@@ -117,10 +108,6 @@ lineFindings t f =
 unfoldable pub deadlineFinding : Table → Flow → Option Cause
 deadlineFinding t f = whole 20 (ltb (f .deadline) (thresholdSum t (f .path)))
 
-unfoldable pub every : {A : Type 0} → (A → Bool) → List A → Bool
-every test [] = true
-every test (x ∷ xs) = test x && every test xs
-
 unfoldable pub isHeld : Slot → Bool
 isHeld s = not (isNone s)
 
@@ -129,10 +116,9 @@ unfoldable pub roomFindings : List Slot → Flow → List (Option Cause)
 roomFindings slots f =
     whole 30 (every isHeld slots) ∷ whole 31 (ltb hopEntries (heldHops (heldFlows slots) + length (f .path))) ∷ []
 
--- 21, 22 or 23 as an answer line has it: link and level 0 for 21, the failing queue for 22 and 23.
+-- 21, 22 or 23 as an answer line has it: the link, and the failing queue's level, 0 for 21.
 unfoldable pub linkCause : (link : ℕ) → Finding → Option Cause
-linkCause link w =
-    cond (eqb (w .code) 0) none (some (record { code = w .code; link = cond (eqb (w .code) 21) 0 link; level = w .level }))
+linkCause link w = cond (eqb (w .code) 0) none (some (record { code = w .code; link = link; level = w .level }))
 
 unfoldable pub causeAt : Table → List Flow → (link : ℕ) → Option Link → Option Cause
 causeAt t fs link none = none
@@ -168,11 +154,6 @@ pub record Outcome : Type 0 where
   pub answer : Answer
   pub next : State
 
--- The index of the first element that the test finds, the length where it finds none.
-unfoldable pub firstIndex : {A : Type 0} → (A → Bool) → List A → ℕ
-firstIndex test [] = 0
-firstIndex test (x ∷ xs) = cond (test x) 0 (suc (firstIndex test xs))
-
 unfoldable pub holds : ℕ → Slot → Bool
 holds n none = false
 holds n (some f) = eqb (f .number) n
@@ -204,17 +185,9 @@ unfoldable pub apply : State → Order → Outcome
 apply s o = decide s o (firstCause (findings s o))
 
 -- A call: which call it is, and the bytes it is given.
-pub data Kind : Type 0 where
-  registering : Kind
-  releasing : Kind
-
 pub record Call : Type 0 where
   pub kind : Kind
   pub bytes : List ℕ
-
-unfoldable pub kindNumber : Kind → ℕ
-kindNumber registering = 1
-kindNumber releasing = 2
 
 -- A line of another kind gives 11, its rest unread.
 unfoldable pub lineOfKind : (kind : ℕ) (line : List ℕ) → Option ℕ → Order

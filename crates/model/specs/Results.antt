@@ -7,11 +7,12 @@ use mathlib.Core.Logic.{_↔_}
 use mathlib.Core.List.{List}
 use mathlib.Core.Option.{some}
 use Rattle.model.specs.QueueTable.{Queue, Table}
-use Rattle.model.specs.Orders.{Hop, Flow, register, release}
+use Rattle.model.specs.Orders.{Hop, Flow, register, release, Kind, registering, releasing, kindNumber}
 use Rattle.model.specs.Aggregates.{queueAt}
 use Rattle.model.specs.Run.{Run, Conforming}
-use Rattle.model.specs.Punctual.{Punctual, punctual}
-use Rattle.model.specs.Reference.{State, Call, Kind, registering, releasing, kindNumber, heldFlows, refuse, callOrder, step, opened, final}
+use Rattle.model.specs.Punctual.{Punctual}
+use Rattle.model.specs.Laws.Run.Punctual.{punctual}
+use Rattle.model.specs.Reference.{State, Call, heldFlows, refuse, callOrder, step, opened, final}
 use Rattle.model.specs.Consistent.{flowsConsistent, consistent}
 use Rattle.model.specs.Admissible.{Admissible}
 use Rattle.model.specs.Part.{Part}
@@ -36,13 +37,13 @@ refusal-changes-nothing s c h = ap (λ o. o .next) (refusal s c h .outcome)
 -- A register call that answers 0 adds its flow just as its line gives it, at the lowest free slot; no other slot and nothing of the table changes.
 pub admission : (s : State) (c : Call) → c .kind ≡ registering → step s c .answer .code ≡ 0
     → (f : Flow) × (callOrder c ≡ register f) × Admitted s f (step s c)
-unfolding step kindNumber
+unfolding step
 admission s c e z = order-admitted s (callOrder c) (subst (λ (k : Kind). Readable (kindNumber k) (callOrder c)) e (call-readable c)) z
 
 -- A release call that answers 0 empties the slot of the flow that its line names, and changes nothing else.
 pub release-call : (s : State) (c : Call) → c .kind ≡ releasing → step s c .answer .code ≡ 0
     → (n : ℕ) × (callOrder c ≡ release n) × Released s n (step s c)
-unfolding step kindNumber
+unfolding step
 release-call s c e z = order-released s (callOrder c) (subst (λ (k : Kind). Readable (kindNumber k) (callOrder c)) e (call-readable c)) z
 
 -- Every part of a consistent set of flows is consistent, in any order.

@@ -1,22 +1,5 @@
 -- Document 01, "The run that the mission's third line speaks of": frames, links, a bit slot, an interval, an instant, runs and conforming sources.
 -- Instants are whole µs. A flow is named by its index in the list of flows, a hop by its index in the path, both from 0.
-pub mod Windows
-pub mod OneLink
-pub mod EachFrame
-pub mod Workload
-pub mod LevelArrivals
-pub mod BusyPeriod
-pub mod InQueue
-pub mod ArrivalCurve
-pub mod BoundSums
-pub mod LevelBounds
-pub mod Jitter
-pub mod Conservation
-pub mod HopCurve
-pub mod QueueCurve
-pub mod Checked
-pub mod NotLate
-pub mod Exists
 use Prim.Native.Nat.{ℕ, zero, suc, _+_, _-_, _*_, _≤_}
 use mathlib.Core.Path.{_≡_}
 use mathlib.Core.Bool.{Bool, false, cond}
@@ -24,12 +7,11 @@ use mathlib.Core.List.{List, [], _∷_, _++_, map, List·Permᴰ}
 use mathlib.Core.Option.{Option, none, some}
 use lib.ListN.{getElem?}
 use lib.Dec.{eqb}
+use Rattle.model.specs.Words.{All, andThen, nth}
 use Rattle.model.specs.Total.{total}
-use Rattle.model.specs.Columns.{andThen}
 use Rattle.model.specs.QueueTable.{Queue, Link, Table}
 use Rattle.model.specs.Orders.{Hop, Flow}
-use Rattle.model.specs.Aggregates.{nth, linkAt, sameHop}
-use Rattle.model.specs.Schedulable.{All}
+use Rattle.model.specs.Aggregates.{linkAt, sameHop}
 
 -- A frame: its flow, the hop it is at, its bytes, the instant it reached this queue, and the instant its source sent it (which nothing here reads).
 pub record Frame : Type 0 where

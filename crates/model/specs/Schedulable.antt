@@ -1,17 +1,13 @@
 -- What the rules 2, 14 and 21 to 23 say of a table and the flows held on it, as far as the run asks.
 use Prim.Native.Nat.{ℕ, _≤_}
 use mathlib.Core.Path.{_≡_}
-use mathlib.Core.List.{List, [], _∷_}
+use mathlib.Core.List.{List}
 use mathlib.Core.Option.{some}
+use Rattle.model.specs.Words.{All}
 use Rattle.model.specs.QueueTable.{Queue, Link, Table}
 use Rattle.model.specs.Orders.{Hop, Flow}
 use Rattle.model.specs.LinkCheck.{linkFinding}
 use Rattle.model.specs.Aggregates.{linkAt, queueAt, levelAggregates}
-
--- Each element of a list has the property.
-abbrev pub All : {A : Type 0} → (A → Type 0) → List A → Type 0
-All P [] = Unit {0}
-All P (x ∷ xs) = P x × All P xs
 
 -- The link of a hop meets the rate rule, and each of its levels that carries a flow meets eq. 15.
 pub record LinkMeets (t : Table) (fs : List Flow) (link : ℕ) : Type 0 where

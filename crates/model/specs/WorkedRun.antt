@@ -7,17 +7,19 @@ use mathlib.Core.Option.{some, Option·none-ne-some, Option·some-injective}
 use native.Mathlib.Omega.{arith}
 use native.Mathlib.Nat.{zero-add}
 use lib.ListN.{getD, getElem?}
+use Rattle.model.specs.Words.{All, nth}
 use Rattle.model.specs.Total.{total, largest}
 use Rattle.model.specs.Formula.{ceilDiv, burstAtHop, residual, withinRate, delayBound, backlogBound, interference, levelResidual, delay, backlog}
 use Rattle.model.specs.QueueTable.{Queue, Link, Table}
 use Rattle.model.specs.Orders.{Hop, Flow}
 use Rattle.model.specs.LinkCheck.{isEmpty, levelCode, orElse, levelsFinding, rateCode, linkFinding}
-use Rattle.model.specs.Aggregates.{nth, linkAt, queueAt, thresholdOf, shares, allShares, sameHop, addsAt, aggregateAt, levelAggregates}
-use Rattle.model.specs.Schedulable.{All, FlowMeets, Schedulable}
+use Rattle.model.specs.Aggregates.{linkAt, queueAt, thresholdOf, shares, allShares, sameHop, addsAt, aggregateAt, levelAggregates}
+use Rattle.model.specs.Schedulable.{FlowMeets, Schedulable}
 use Rattle.model.specs.Run.{Frame, sending, pastEmpty, pick, bits, start, take, send, bitSlot, interval, hopOf, next, departed, moving, reaching, append, enter, emptyLevels, emptyLink, speedOf, Sends, Run, window, bytesOf, Conforming}
-use Rattle.model.specs.Run.Windows.{window-join, window-within}
-use Rattle.model.specs.Run.Exists.{coming, states, runOf}
-use Rattle.model.specs.Punctual.{Punctual, punctual}
+use Rattle.model.specs.Laws.Run.Windows.{window-join, window-within}
+use Rattle.model.specs.Laws.Run.Exists.{coming, states, runOf}
+use Rattle.model.specs.Punctual.{Punctual}
+use Rattle.model.specs.Laws.Run.Punctual.{punctual}
 
 abbrev pub upper : Queue
 upper = record { threshold = 6; buffer = 169 }

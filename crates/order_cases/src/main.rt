@@ -1,5 +1,6 @@
 // Reads the order lines of the file orders.txt beside it and prints what each says: code in 3 columns, flow number in 6,
 // rate in 9, burst in 8, largest frame in 5, deadline in 9, hops in 3, and the last hop's link in 5 and level in 3.
+use causes::Cause;
 use columns::NextLine;
 use libc::STDOUT_FILENO;
 use orders::Order;
@@ -7,9 +8,10 @@ use orders::Order;
 fn show(code: u64, flow: orders::Flow, link: u32, level: u32) {
     let mut out = *b"                                                   \n";
     let number = flow.number;
-    let rate = flow.rate.0;
-    let burst = flow.burst.0;
-    let frame = flow.frame.0;
+    let share = flow.share;
+    let rate = share.rate.0;
+    let burst = share.burst.0;
+    let frame = share.frame.0;
     let deadline = flow.deadline.0;
     let hops = flow.hops;
     columns::write_at(&mut out, 1, 3, code);
@@ -28,34 +30,42 @@ fn show(code: u64, flow: orders::Flow, link: u32, level: u32) {
 fn bare(code: u64, number: u32) {
     let flow = orders::Flow {
         number,
-        rate: units::Rate(0),
-        burst: units::Bytes(0),
-        frame: units::Bytes(0),
+        share: units::Aggregate {
+            rate: units::Rate(0),
+            burst: units::Bytes(0),
+            frame: units::Bytes(0),
+        },
         deadline: units::Micros(0),
         hops: 0,
     };
     show(code, flow, 0, 0);
 }
 
+fn refused(cause: Cause) {
+    let numbers = causes::numbers_of(cause);
+    bare(columns::wide(numbers.code), 0);
+}
+
 fn judge(line: &[u8]) {
     let read = orders::read_order(line);
     let order = read.order;
-    let links = read.links;
-    let levels = read.levels;
+    let hops = read.hops;
     match order {
         Order::Register(flow) => {
-            let hops = flow.hops as usize;
-            if hops == 0 {
+            let n = flow.hops as usize;
+            if n == 0 {
                 return;
             }
-            if 12 < hops {
+            if orders::MOST_HOPS < n {
                 return;
             }
-            show(0, flow, links[hops - 1], levels[hops - 1]);
+            let link = orders::hop_link(&hops, n - 1);
+            let level = orders::hop_level(&hops, n - 1);
+            show(0, flow, link, level);
         }
         Order::Release(number) => bare(0, number),
-        Order::Malformed => bare(10, 0),
-        Order::OutOfRange => bare(11, 0),
+        Order::Malformed => refused(Cause::Malformed),
+        Order::OutOfRange => refused(Cause::OutOfRange),
     }
 }
 
@@ -74,7 +84,7 @@ fn walk(text: &[u8]) {
     let mut at = 0;
     while at < text.len() {
         let NextLine::Ended(end) = columns::next_line(text, at) else {
-            bare(10, 0);
+            refused(Cause::Malformed);
             return;
         };
         judge(&text[at..end]);

@@ -1,13 +1,15 @@
 // What an order line says (document 01, "Columns", order lines).
 ghost use mathlib.Core.Path.{_≡_};
-ghost use Prim.Native.Nat.{_≤_};
+ghost use Prim.Native.Nat.{_≤_, _<_};
 ghost use lib.ListN.{length, drop};
+ghost use Rattle.model.specs.Sizes.{hopsMost};
 ghost use Rattle.model.specs.Columns.{fieldAt, lines};
-ghost use Rattle.model.specs.Orders.{readOrder, releaseLine, registration, headFields, headInRange, hopField, pathFields};
+ghost use Rattle.model.specs.Orders.{kindNumber, kindOfNumber, readOrder, releaseLine, registration, headFields, headInRange, hopField, pathFields};
 ghost use Rattle.model.specs.Reference.{lineOfKind, onlyLine};
-ghost use Rattle.orders.specs.Reading.{orderOf, hopsFit, fieldsOf, headOf, hopOf, pathOf};
+ghost use Rattle.orders.specs.View.{hopNumbers, hopIn, kindOf, kindIn, orderOf, hopsFit, fieldsOf, headOf, hopOf, pathOf};
 use columns::Field;
 use columns::NextLine;
+use units::Aggregate;
 use units::Bytes;
 use units::Micros;
 use units::Rate;
@@ -15,22 +17,40 @@ use units::Rate;
 // How many hops a path has at the most.
 pub const MOST_HOPS: usize = 12;
 
+// A path's numbers: link and level of each hop in turn, as a line gives them.
+pub const HOP_NUMBERS: usize = 2 * MOST_HOPS;
+
+// Columns of a registration before its hops, and of each hop.
+pub const HEAD_COLUMNS: usize = 41;
+
+pub const HOP_COLUMNS: usize = 6;
+
 // A flow as its line gives it. Its hops stand beside it, in an `OrderLine`.
 pub struct Flow {
     pub number: u32,
-    pub rate: Rate,
-    pub burst: Bytes,
-    // The largest frame.
-    pub frame: Bytes,
+    // Rate, burst and largest frame at its source.
+    pub share: Aggregate,
     pub deadline: Micros,
     // How many hops the path has.
     pub hops: u32,
 }
 
+// What a line or a call asks for.
+pub enum Kind {
+    Register,
+    Release,
+}
+
+// The kind that a number stands for.
+pub enum KindRead {
+    Is(Kind),
+    Other,
+}
+
 pub enum Order {
-    // Kind 1, with a whole flow.
+    // With a whole flow.
     Register(Flow),
-    // Kind 2, with a flow number.
+    // With a flow number.
     Release(u32),
     // 10: columns wrong.
     Malformed,
@@ -38,11 +58,10 @@ pub enum Order {
     OutOfRange,
 }
 
-// An order, and the links and levels of its path where it is a registration: the first `hops` of them. The rest is free.
+// An order, and the hops of its path where it is a registration: the first `hops` of them. The rest is free.
 pub struct OrderLine {
     pub order: Order,
-    pub links: [u32; MOST_HOPS],
-    pub levels: [u32; MOST_HOPS],
+    pub hops: [u32; HOP_NUMBERS],
 }
 
 enum Head {
@@ -57,8 +76,7 @@ enum Hop {
 
 struct Path {
     whole: bool,
-    links: [u32; MOST_HOPS],
-    levels: [u32; MOST_HOPS],
+    hops: [u32; HOP_NUMBERS],
 }
 
 // An order without hops.
@@ -67,8 +85,7 @@ fn bare(order: Order) -> OrderLine
 {
     OrderLine {
         order,
-        links: [0; MOST_HOPS],
-        levels: [0; MOST_HOPS],
+        hops: [0; HOP_NUMBERS],
     }
 }
 
@@ -112,9 +129,11 @@ fn read_head(line: &[u8]) -> Head
     };
     Head::Fields(Flow {
         number,
-        rate: Rate(columns::wide(rate)),
-        burst: Bytes(columns::wide(burst)),
-        frame: Bytes(columns::wide(frame)),
+        share: Aggregate {
+            rate: Rate(columns::wide(rate)),
+            burst: Bytes(columns::wide(burst)),
+            frame: Bytes(columns::wide(frame)),
+        },
         deadline: Micros(columns::wide(deadline)),
         hops,
     })
@@ -125,9 +144,10 @@ pub fn in_range(flow: Flow) -> bool
     ensures { λ r. ⌜ r ≡ headInRange (fieldsOf flow) ⌝ }
 {
     let number = flow.number;
-    let rate = flow.rate.0;
-    let burst = flow.burst.0;
-    let frame = flow.frame.0;
+    let share = flow.share;
+    let rate = share.rate.0;
+    let burst = share.burst.0;
+    let frame = share.frame.0;
     let deadline = flow.deadline.0;
     if !columns::within(1, 65535, columns::wide(number)) {
         return false;
@@ -159,39 +179,42 @@ fn read_hop(line: &[u8], at: usize) -> Hop
     Hop::At(link, level)
 }
 
-// So many hops after column 41.
-fn read_path(line: &[u8], hops: u32) -> Path
-    requires { ⌜ hops ≤ 12 ⌝ }
-    ensures { λ r. ⌜ pathOf r hops ≡ pathFields hops (now (line .entry)) ⌝ }
+// So many hops after the head's columns.
+fn read_path(line: &[u8], count: u32) -> Path
+    requires { ⌜ count ≤ hopsMost ⌝ }
+    ensures { λ r. ⌜ pathOf r count ≡ pathFields count (now (line .entry)) ⌝ }
 {
-    let n = hops as usize;
-    let mut links = [0u32; MOST_HOPS];
-    let mut levels = [0u32; MOST_HOPS];
-    if line.len() != 41 + 6 * n {
-        return Path {
-            whole: false,
-            links,
-            levels,
-        };
+    let n = count as usize;
+    let mut hops = [0u32; HOP_NUMBERS];
+    if line.len() != HEAD_COLUMNS + HOP_COLUMNS * n {
+        return Path { whole: false, hops };
     }
     let mut i = 0;
     while i < n {
-        let Hop::At(link, level) = read_hop(line, 41 + 6 * i) else {
-            return Path {
-                whole: false,
-                links,
-                levels,
-            };
+        let Hop::At(link, level) = read_hop(line, HEAD_COLUMNS + HOP_COLUMNS * i) else {
+            return Path { whole: false, hops };
         };
-        links[i] = link;
-        levels[i] = level;
+        hops[2 * i] = link;
+        hops[2 * i + 1] = level;
         i += 1;
     }
-    Path {
-        whole: true,
-        links,
-        levels,
-    }
+    Path { whole: true, hops }
+}
+
+// The link of hop `i`, counted from 0.
+pub fn hop_link(hops: &[u32], i: usize) -> u32
+    requires { ⌜ (length (now hops) ≡ hopNumbers) × (i < hopsMost) ⌝ }
+    ensures { λ r. ⌜ r ≡ hopIn (now (hops .entry)) i .link ⌝ }
+{
+    hops[2 * i]
+}
+
+// The level of hop `i`, counted from 0.
+pub fn hop_level(hops: &[u32], i: usize) -> u32
+    requires { ⌜ (length (now hops) ≡ hopNumbers) × (i < hopsMost) ⌝ }
+    ensures { λ r. ⌜ r ≡ hopIn (now (hops .entry)) i .level ⌝ }
+{
+    hops[2 * i + 1]
 }
 
 fn read_registration(line: &[u8]) -> OrderLine
@@ -201,11 +224,11 @@ fn read_registration(line: &[u8]) -> OrderLine
     let Head::Fields(flow) = read_head(line) else {
         return bare(Order::Malformed);
     };
-    let hops = flow.hops;
-    if !columns::within(1, 12, columns::wide(hops)) {
+    let count = flow.hops;
+    if !columns::within(1, MOST_HOPS as u64, columns::wide(count)) {
         return bare(Order::OutOfRange);
     }
-    let path = read_path(line, hops);
+    let path = read_path(line, count);
     let whole = path.whole;
     if !whole {
         return bare(Order::Malformed);
@@ -213,13 +236,33 @@ fn read_registration(line: &[u8]) -> OrderLine
     if !in_range(flow) {
         return bare(Order::OutOfRange);
     }
-    let links = path.links;
-    let levels = path.levels;
+    let hops = path.hops;
     OrderLine {
         order: Order::Register(flow),
-        links,
-        levels,
+        hops,
     }
+}
+
+// Document 01's number of a kind.
+pub fn kind_number(kind: Kind) -> u32
+    ensures { λ r. ⌜ r ≡ kindNumber (kindOf kind) ⌝ }
+{
+    match kind {
+        Kind::Register => 1,
+        Kind::Release => 2,
+    }
+}
+
+pub fn kind_of_number(number: u32) -> KindRead
+    ensures { λ r. ⌜ kindIn r ≡ kindOfNumber number ⌝ }
+{
+    if number == kind_number(Kind::Register) {
+        return KindRead::Is(Kind::Register);
+    }
+    if number == kind_number(Kind::Release) {
+        return KindRead::Is(Kind::Release);
+    }
+    KindRead::Other
 }
 
 // The order of a line, without its LF.
@@ -227,35 +270,35 @@ pub fn read_order(line: &[u8]) -> OrderLine
     ensures { λ r. ⌜ orderOf r ≡ readOrder (now (line .entry)) ⌝ }
     ensures { λ r. ⌜ hopsFit (r .order) ⌝ }
 {
-    let Field::Number(kind) = columns::read_at(line, 1, 2) else {
+    let Field::Number(number) = columns::read_at(line, 1, 2) else {
         return bare(Order::Malformed);
     };
-    if kind == 1 {
-        return read_registration(line);
+    let KindRead::Is(kind) = kind_of_number(number) else {
+        return bare(Order::OutOfRange);
+    };
+    match kind {
+        Kind::Register => read_registration(line),
+        Kind::Release => read_release(line),
     }
-    if kind == 2 {
-        return read_release(line);
-    }
-    bare(Order::OutOfRange)
 }
 
 // The order of a line that has to be of this kind.
-fn read_own_kind(kind: u32, line: &[u8]) -> OrderLine
-    ensures { λ r. ⌜ orderOf r ≡ lineOfKind kind (now (line .entry)) (fieldAt 1 2 (now (line .entry))) ⌝ }
+fn read_own_kind(kind: Kind, line: &[u8]) -> OrderLine
+    ensures { λ r. ⌜ orderOf r ≡ lineOfKind (kindNumber (kindOf kind)) (now (line .entry)) (fieldAt 1 2 (now (line .entry))) ⌝ }
     ensures { λ r. ⌜ hopsFit (r .order) ⌝ }
 {
     let Field::Number(found) = columns::read_at(line, 1, 2) else {
         return bare(Order::Malformed);
     };
-    if found != kind {
+    if found != kind_number(kind) {
         return bare(Order::OutOfRange);
     }
     read_order(line)
 }
 
 // The order of a direct call: exactly one line with its LF, of the call's own kind; another kind is 11, its rest unread.
-pub fn read_call(kind: u32, bytes: &[u8]) -> OrderLine
-    ensures { λ r. ⌜ orderOf r ≡ onlyLine kind (lines (now (bytes .entry))) ⌝ }
+pub fn read_call(kind: Kind, bytes: &[u8]) -> OrderLine
+    ensures { λ r. ⌜ orderOf r ≡ onlyLine (kindNumber (kindOf kind)) (lines (now (bytes .entry))) ⌝ }
     ensures { λ r. ⌜ hopsFit (r .order) ⌝ }
 {
     if bytes.len() == 0 {

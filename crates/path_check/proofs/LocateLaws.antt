@@ -9,77 +9,78 @@ use native.Mathlib.Omega.{arith}
 use native.Mathlib.Numerals.{add-one}
 use lib.ListN.{length, take, set, length-set}
 use lib.Seq.{take-suc, take-suc-set}
+use Rattle.model.specs.Words.{isNone}
+use Rattle.model.specs.Sizes.{hopsMost}
 use Rattle.model.specs.Orders.{Hop}
 use Rattle.model.specs.Laws.All.{all-append}
 use Rattle.model.specs.Aggregates as model
-use Rattle.model.specs.Reference.{atHop, isNone, noQueue}
+use Rattle.model.specs.Reference.{atHop, noQueue}
 use Rattle.model.specs.Laws.Path.{searchFrom, search-on}
-use Rattle.orders.specs.Reading.{zipHops, linePath}
-use Rattle.orders.proofs.PathLaws.{zip-length}
+use Rattle.orders.specs.View.{hopNumbers, hopsIn, hopIn, linePath}
+use Rattle.orders.proofs.PathLaws.{hops-long, hops-at}
 use Rattle.queue_table.specs.View.{tableOf, hopAt, isQueue, AllQueues}
-use Rattle.path_check.specs.Causes.{PathLocated}
+use Rattle.path_check.specs.View.{PathLocated}
 use Rattle.path_check.proofs.EntryLaws.{no-queue}
-use Rattle.path_check.proofs.SearchLaws.{found-at, ended-at, lineHop, zip-at, path-long, path-hop}
+use Rattle.path_check.proofs.SearchLaws.{found-at, ended-at, path-long, path-hop}
 
 -- What holds before hop i.
-pub record Locating (n : ℕ) (links hopLinks hopLevels : List ℕ) (hops : ℕ) (entries : List ℕ) (i : ℕ) : Type 0 where
-  pub size : length entries ≡ 12
-  pub count : i ≤ hops
-  pub named : map hopAt (take i entries) ≡ take i (zipHops hopLinks hopLevels)
-  pub queues : AllQueues n links (take i entries)
-  pub left : (queues : List ℕ)
-      → atHop 14 (noQueue (tableOf n links queues)) [] (linePath hopLinks hopLevels hops)
-      ≡ searchFrom 14 (noQueue (tableOf n links queues)) (linePath hopLinks hopLevels hops) i
+pub record Locating (table hops : List ℕ) (count : ℕ) (entries : List ℕ) (i : ℕ) : Type 0 where
+  pub size : length entries ≡ hopsMost
+  pub within : i ≤ count
+  pub named : map hopAt (take i entries) ≡ take i (hopsIn hops)
+  pub queues : AllQueues table (take i entries)
+  pub left : atHop 14 (noQueue (tableOf table)) [] (linePath hops count)
+      ≡ searchFrom 14 (noQueue (tableOf table)) (linePath hops count) i
 
-module _ (n : ℕ) (links hopLinks hopLevels : List ℕ) (hops : ℕ) (l : length hopLinks ≡ 12) (p : length hopLevels ≡ 12) (few : hops ≤ 12) where
-  module _ (entries : List ℕ) (i : ℕ) (at : Locating n links hopLinks hopLevels hops entries i) where
-    named-next : (e : ℕ) → i < hops → hopAt e ≡ lineHop hopLinks hopLevels i → map hopAt (take (i + 1) (set entries i e)) ≡ take (i + 1) (zipHops hopLinks hopLevels)
+module _ (table hops : List ℕ) (count : ℕ) (long : length hops ≡ hopNumbers) (few : count ≤ hopsMost) where
+  module _ (entries : List ℕ) (i : ℕ) (at : Locating table hops count entries i) where
+    named-next : (e : ℕ) → i < count → hopAt e ≡ hopIn hops i → map hopAt (take (i + 1) (set entries i e)) ≡ take (i + 1) (hopsIn hops)
     named-next e h names =
         rw (add-one i)
         (ap (λ (m : List ℕ). map hopAt m) (take-suc-set entries i e (omega (arith, at .size)))
         ∙ map-append hopAt (take i entries) (e ∷ [])
-        ∙ ap₂ (λ (m : List Hop) (x : Hop). m ++ (x ∷ [])) (at .named) (names ∙ sym (zip-at hopLinks hopLevels i (lineHop hopLinks hopLevels i) (omega arith) (omega arith)))
-        ∙ sym (take-suc (zipHops hopLinks hopLevels) i (lineHop hopLinks hopLevels i) (omega (arith, zip-length hopLinks hopLevels (l ∙ sym p)))))
+        ∙ ap₂ (λ (m : List Hop) (x : Hop). m ++ (x ∷ [])) (at .named) (names ∙ sym (hops-at hops i hopsMost (hopIn hops i) long (omega arith)))
+        ∙ sym (take-suc (hopsIn hops) i (hopIn hops i) (omega (arith, hops-long hops hopsMost long))))
 
     -- One hop more.
-    pub locating-next : (e : ℕ) → i < hops → hopAt e ≡ lineHop hopLinks hopLevels i → isQueue n links e ≡ true
-        → Locating n links hopLinks hopLevels hops (set entries i e) (i + 1)
+    pub locating-next : (e : ℕ) → i < count → hopAt e ≡ hopIn hops i → isQueue table e ≡ true
+        → Locating table hops count (set entries i e) (i + 1)
     locating-next e h names queue =
         record {
           size = length-set entries i e ∙ at .size;
-          count = omega arith;
+          within = omega arith;
           named = named-next e h names;
           queues =
               rw (add-one i)
-              (subst (AllQueues n links) (sym (take-suc-set entries i e (omega (arith, at .size))))
-              (all-append (λ x. isQueue n links x ≡ true) (take i entries) (e ∷ []) (at .queues) (queue, tt)));
-          left = λ queues.
-              at .left queues
-              ∙ search-on 14 (noQueue (tableOf n links queues)) (linePath hopLinks hopLevels hops) i (lineHop hopLinks hopLevels i) (omega (arith, path-long hopLinks hopLevels hops l p few))
-              (ap (noQueue (tableOf n links queues) _) (path-hop hopLinks hopLevels hops l p few i (lineHop hopLinks hopLevels i) h ∙ sym names) ∙ no-queue n links queues _ e ∙ ap not queue);
+              (subst (AllQueues table) (sym (take-suc-set entries i e (omega (arith, at .size))))
+              (all-append (λ x. isQueue table x ≡ true) (take i entries) (e ∷ []) (at .queues) (queue, tt)));
+          left =
+              at .left
+              ∙ search-on 14 (noQueue (tableOf table)) (linePath hops count) i (hopIn hops i) (omega (arith, path-long hops count long few))
+              (ap (noQueue (tableOf table) _) (path-hop hops count long few i (hopIn hops i) h ∙ sym names) ∙ no-queue table _ e ∙ ap not queue);
         }
 
     -- A hop without a queue.
-    pub located-missing : i < hops → ((queues : List ℕ) → model.queueAt (tableOf n links queues) (lineHop hopLinks hopLevels i) ≡ none)
-        → PathLocated n links hopLinks hopLevels hops (record { missing = i; entries = entries })
+    pub located-missing : i < count → model.queueAt (tableOf table) (hopIn hops i) ≡ none
+        → PathLocated table hops count (record { missing = i; entries = entries })
     unfolding noQueue isNone
     located-missing h none-there =
         record {
-          first = λ queues.
-              at .left queues
-              ∙ found-at 14 (noQueue (tableOf n links queues)) (linePath hopLinks hopLevels hops) i (lineHop hopLinks hopLevels i) (omega (arith, path-long hopLinks hopLevels hops l p few))
-              (ap (λ (x : Hop). isNone (model.queueAt (tableOf n links queues) x)) (path-hop hopLinks hopLevels hops l p few i (lineHop hopLinks hopLevels i) h) ∙ ap isNone (none-there queues));
+          first =
+              at .left
+              ∙ found-at 14 (noQueue (tableOf table)) (linePath hops count) i (hopIn hops i) (omega (arith, path-long hops count long few))
+              (ap (λ (x : Hop). isNone (model.queueAt (tableOf table) x)) (path-hop hops count long few i (hopIn hops i) h) ∙ ap isNone (none-there));
           within = omega arith;
           named = λ e. absurd (omega arith);
           queues = λ e. absurd (omega arith);
         }
 
-    pub located-all : i ≡ hops → PathLocated n links hopLinks hopLevels hops (record { missing = hops; entries = entries })
+    pub located-all : i ≡ count → PathLocated table hops count (record { missing = count; entries = entries })
     located-all e =
         record {
-          first = λ queues.
-              at .left queues
-              ∙ rw e (ended-at 14 (noQueue (tableOf n links queues)) (linePath hopLinks hopLevels hops) hops (omega (arith, path-long hopLinks hopLevels hops l p few)));
+          first =
+              at .left
+              ∙ rw e (ended-at 14 (noQueue (tableOf table)) (linePath hops count) count (omega (arith, path-long hops count long few)));
           within = omega arith;
           named = λ _. rw e at (at .named);
           queues = λ _. rw e at (at .queues);

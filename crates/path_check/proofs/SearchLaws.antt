@@ -1,6 +1,6 @@
 -- The searches over a path and over its entries: one hop on, the cause at a hop that is found, and none past the end.
 -- By the model's laws of a search. Assumes nothing.
-use Prim.Native.Nat.{ℕ, zero, suc, _+_, _-_, _*_, _/_, _%_, _≤_, _<_}
+use Prim.Native.Nat.{ℕ, zero, suc, _+_, _-_, _≤_, _<_}
 use mathlib.Core.Path.{_≡_, refl, sym, ap, _∙_}
 use mathlib.Core.Bool.{Bool, true, false, not, _||_}
 use mathlib.Core.List.{List, [], _∷_, map, reverse}
@@ -9,14 +9,15 @@ use native.Mathlib.Omega.{arith}
 use lib.ListN.{length, getD, take, length-map, List·getD-map}
 use lib.Seq.{getD-take, length-take-le}
 use lib.Dec.{eqb}
+use Rattle.model.specs.Sizes.{hopsMost}
 use Rattle.model.specs.Laws.All.{all-getD}
 use Rattle.model.specs.Orders.{Hop}
 use Rattle.model.specs.Reference.{crosses, startsElsewhere}
 use Rattle.model.specs.Laws.Path.{reverse-take, searchFrom, search-on, search-found, search-ended}
-use Rattle.orders.specs.Reading.{zipHops, linePath}
-use Rattle.orders.proofs.PathLaws.{zip-length}
-use Rattle.queue_table.specs.View.{tableOf, hopAt, isQueue, AllQueues}
-use Rattle.path_check.specs.Causes.{hopCause, earlierThan}
+use Rattle.orders.specs.View.{hopNumbers, hopsIn, hopIn, linePath}
+use Rattle.orders.proofs.PathLaws.{hops-long, hops-at}
+use Rattle.queue_table.specs.View.{tableOf, fromAt, toAt, linkIn, levelIn, hopAt, isQueue, AllQueues}
+use Rattle.path_check.specs.View.{hopCause, earlierThan}
 use Rattle.path_check.proofs.EntryLaws.{crosses-entry, starts-elsewhere}
 
 module _ (code : ℕ) where
@@ -44,81 +45,70 @@ module _ (code : ℕ) (test : List Hop → Hop → Bool) (path : List Hop) where
 
 -- A path of entries.
 module _ (entries : List ℕ) where
-  pub hops-long : length (map hopAt entries) ≡ length entries
-  hops-long = length-map entries hopAt
+  pub map-long : length (map hopAt entries) ≡ length entries
+  map-long = length-map entries hopAt
 
   pub hop-of : (i : ℕ) → getD (map hopAt entries) i (hopAt 0) ≡ hopAt (getD entries i 0)
   hop-of i = List·getD-map hopAt entries i 0
 
   pub entry-cause : (code i : ℕ) → i < length entries
-      → hopCause code (map hopAt entries) i ≡ some (record { code = code; link = getD entries i 0 / 8 + 1; level = getD entries i 0 % 8 + 1 })
+      → hopCause code (map hopAt entries) i ≡ some (record { code = code; link = linkIn (getD entries i 0) + 1; level = levelIn (getD entries i 0) + 1 })
   unfolding hopAt
   entry-cause code i h =
-      cause-at code (map hopAt entries) i (hopAt 0) (omega (arith, hops-long))
+      cause-at code (map hopAt entries) i (hopAt 0) (omega (arith, map-long))
       ∙ ap (λ (x : Hop). some (record { code = code; link = x .link; level = x .level })) (hop-of i)
 
   pub entry-none : (code i : ℕ) → length entries ≤ i → hopCause code (map hopAt entries) i ≡ none
-  entry-none code i h = cause-past code (map hopAt entries) i (omega (arith, hops-long))
+  entry-none code i h = cause-past code (map hopAt entries) i (omega (arith, map-long))
 
   module _ (code : ℕ) (test : List Hop → Hop → Bool) (i : ℕ) where
     pub entry-passed : i < length entries → test (earlierThan entries i) (hopAt (getD entries i 0)) ≡ false
         → searchFrom code test (map hopAt entries) i ≡ searchFrom code test (map hopAt entries) (i + 1)
     entry-passed h e =
-        search-on code test (map hopAt entries) i (hopAt 0) (omega (arith, hops-long)) (ap (test (earlierThan entries i)) (hop-of i) ∙ e)
+        search-on code test (map hopAt entries) i (hopAt 0) (omega (arith, map-long)) (ap (test (earlierThan entries i)) (hop-of i) ∙ e)
 
     pub entry-found : i < length entries → test (earlierThan entries i) (hopAt (getD entries i 0)) ≡ true
         → searchFrom code test (map hopAt entries) i ≡ hopCause code (map hopAt entries) i
     entry-found h e =
-        found-at code test (map hopAt entries) i (hopAt 0) (omega (arith, hops-long)) (ap (test (earlierThan entries i)) (hop-of i) ∙ e)
+        found-at code test (map hopAt entries) i (hopAt 0) (omega (arith, map-long)) (ap (test (earlierThan entries i)) (hop-of i) ∙ e)
 
     pub none-found : length entries ≤ i → searchFrom code test (map hopAt entries) i ≡ hopCause code (map hopAt entries) i
-    none-found h = ended-at code test (map hopAt entries) i (omega (arith, hops-long))
+    none-found h = ended-at code test (map hopAt entries) i (omega (arith, map-long))
 
   -- The hops before hop j, the nearest first.
   nearest : (j : ℕ) → 0 < j → j ≤ length entries
       → earlierThan entries j ≡ hopAt (getD entries (j - 1) 0) ∷ earlierThan entries (j - 1)
   nearest j pos h =
       let e : j - 1 + 1 ≡ j = omega arith in
-      rw e at (reverse-take (map hopAt entries) (j - 1) (hopAt 0) (omega (arith, hops-long)))
+      rw e at (reverse-take (map hopAt entries) (j - 1) (hopAt 0) (omega (arith, map-long)))
       ∙ ap (λ (x : Hop). x ∷ earlierThan entries (j - 1)) (hop-of (j - 1))
 
   pub crosses-nearest : (link j : ℕ) → 0 < j → j ≤ length entries
       → crosses (link + 1) (earlierThan entries j)
-      ≡ (eqb (getD entries (j - 1) 0 / 8) link || crosses (link + 1) (earlierThan entries (j - 1)))
+      ≡ (eqb (linkIn (getD entries (j - 1) 0)) link || crosses (link + 1) (earlierThan entries (j - 1)))
   crosses-nearest link j pos h =
       ap (crosses (link + 1)) (nearest j pos h) ∙ crosses-entry link (getD entries (j - 1) 0) (earlierThan entries (j - 1))
 
-  pub starts-nearest : (n : ℕ) (links queues : List ℕ) (i : ℕ) → AllQueues n links entries → 0 < i → i < length entries
-      → startsElsewhere (tableOf n links queues) (earlierThan entries i) (hopAt (getD entries i 0))
-      ≡ not (eqb (getD links (4 * (getD entries i 0 / 8)) 0) (getD links (4 * (getD entries (i - 1) 0 / 8) + 1) 0))
-  starts-nearest n links queues i a pos h =
-      ap (λ (before : List Hop). startsElsewhere (tableOf n links queues) before (hopAt (getD entries i 0))) (nearest i pos (omega arith))
-      ∙ starts-elsewhere n links queues _ (getD entries (i - 1) 0) (getD entries i 0) (all-getD (λ e. isQueue n links e ≡ true) entries (i - 1) 0 a (omega arith)) (all-getD (λ e. isQueue n links e ≡ true) entries i 0 a h)
-
--- Hop i of an order line's arrays.
-abbrev pub lineHop : (hopLinks hopLevels : List ℕ) (i : ℕ) → Hop
-lineHop hopLinks hopLevels i = record { link = getD hopLinks i 0; level = getD hopLevels i 0 }
-
-pub zip-at : (hopLinks hopLevels : List ℕ) (i : ℕ) (d : Hop) → i < length hopLinks → i < length hopLevels
-    → getD (zipHops hopLinks hopLevels) i d ≡ lineHop hopLinks hopLevels i
-zip-at [] hopLevels i d h k = absurd (omega arith)
-zip-at (l ∷ hopLinks) [] i d h k = absurd (omega arith)
-zip-at (l ∷ hopLinks) (p ∷ hopLevels) zero d h k = refl
-zip-at (l ∷ hopLinks) (p ∷ hopLevels) (suc i) d h k = zip-at hopLinks hopLevels i d (omega arith) (omega arith)
+  pub starts-nearest : (table : List ℕ) (i : ℕ) → AllQueues table entries → 0 < i → i < length entries
+      → startsElsewhere (tableOf table) (earlierThan entries i) (hopAt (getD entries i 0))
+      ≡ not (eqb (fromAt table (linkIn (getD entries i 0))) (toAt table (linkIn (getD entries (i - 1) 0))))
+  starts-nearest table i a pos h =
+      ap (λ (before : List Hop). startsElsewhere (tableOf table) before (hopAt (getD entries i 0))) (nearest i pos (omega arith))
+      ∙ starts-elsewhere table _ (getD entries (i - 1) 0) (getD entries i 0) (all-getD (λ e. isQueue table e ≡ true) entries (i - 1) 0 a (omega arith)) (all-getD (λ e. isQueue table e ≡ true) entries i 0 a h)
 
 -- The path of an order line.
-module _ (hopLinks hopLevels : List ℕ) (hops : ℕ) (l : length hopLinks ≡ 12) (p : length hopLevels ≡ 12) (few : hops ≤ 12) where
-  pub path-long : length (linePath hopLinks hopLevels hops) ≡ hops
-  path-long = length-take-le hops (zipHops hopLinks hopLevels) (omega (arith, zip-length hopLinks hopLevels (l ∙ sym p)))
+module _ (hops : List ℕ) (count : ℕ) (long : length hops ≡ hopNumbers) (few : count ≤ hopsMost) where
+  pub path-long : length (linePath hops count) ≡ count
+  path-long = length-take-le count (hopsIn hops) (omega (arith, hops-long hops hopsMost long))
 
-  pub path-hop : (i : ℕ) (d : Hop) → i < hops → getD (linePath hopLinks hopLevels hops) i d ≡ lineHop hopLinks hopLevels i
-  path-hop i d h = getD-take hops (zipHops hopLinks hopLevels) i d h ∙ zip-at hopLinks hopLevels i d (omega arith) (omega arith)
+  pub path-hop : (i : ℕ) (d : Hop) → i < count → getD (linePath hops count) i d ≡ hopIn hops i
+  path-hop i d h = getD-take count (hopsIn hops) i d h ∙ hops-at hops i hopsMost d long (omega arith)
 
-  pub line-cause : (code i : ℕ) → i < hops
-      → hopCause code (linePath hopLinks hopLevels hops) i ≡ some (record { code = code; link = getD hopLinks i 0; level = getD hopLevels i 0 })
+  pub line-cause : (code i : ℕ) → i < count
+      → hopCause code (linePath hops count) i ≡ some (record { code = code; link = hopIn hops i .link; level = hopIn hops i .level })
   line-cause code i h =
-      cause-at code (linePath hopLinks hopLevels hops) i (lineHop hopLinks hopLevels i) (omega (arith, path-long))
-      ∙ ap (λ (x : Hop). some (record { code = code; link = x .link; level = x .level })) (path-hop i (lineHop hopLinks hopLevels i) h)
+      cause-at code (linePath hops count) i (hopIn hops i) (omega (arith, path-long))
+      ∙ ap (λ (x : Hop). some (record { code = code; link = x .link; level = x .level })) (path-hop i (hopIn hops i) h)
 
-  pub line-none : (code i : ℕ) → hops ≤ i → hopCause code (linePath hopLinks hopLevels hops) i ≡ none
-  line-none code i h = cause-past code (linePath hopLinks hopLevels hops) i (omega (arith, path-long))
+  pub line-none : (code i : ℕ) → count ≤ i → hopCause code (linePath hops count) i ≡ none
+  line-none code i h = cause-past code (linePath hops count) i (omega (arith, path-long))

@@ -1,1 +1,1 @@
-pub mod Causes
+pub mod View

@@ -1,20 +1,20 @@
--- A test of the values at 0 to n - 1, one value at a time; a link and a table judged by their columns.
+-- A test of the values at 0 to n - 1, one value at a time; a link and a table judged by their numbers.
 -- By induction on n. Assumes nothing.
-use Prim.Native.Nat.{ℕ, zero, suc, _+_, _*_, _<_}
+use Prim.Native.Nat.{ℕ, zero, suc, _+_, _<_}
 use mathlib.Core.Path.{_≡_, refl, ap, _∙_}
 use mathlib.Core.Bool.{Bool, true, false, not, _&&_, and-true, and-false}
 use mathlib.Core.List.{List, [], _∷_}
 use native.Mathlib.Omega.{arith}
 use native.Mathlib.Numerals.{add-one}
 use native.Mathlib.Decide.{decLt}
-use lib.ListN.{getD}
 use lib.Dec.{leb, eqb}
+use Rattle.model.specs.Words.{every}
+use Rattle.model.specs.Sizes.{linksMost, levelsMost}
 use Rattle.model.specs.Columns.{between}
 use Rattle.model.specs.QueueTable.{rowInRange}
-use Rattle.model.specs.Reference.{every}
 use Rattle.model.specs.Consistent.{rowOf, linkConsistent, tableConsistent}
 use Rattle.model.specs.Laws.Test.{every-append}
-use Rattle.queue_table.specs.View.{upTo, queueAt, levelsAt, linkAt, tableOf}
+use Rattle.queue_table.specs.View.{upTo, queueAt, linkCount, fromAt, toAt, levelsAt, linkAt, tableOf}
 use Rattle.queue_table.proofs.ViewLaws.{length-up}
 
 module _ {A : Type 0} (test : A → Bool) (f : ℕ → A) where
@@ -41,15 +41,15 @@ module _ {A : Type 0} (test : A → Bool) (f : ℕ → A) where
           let same : i ≡ n = omega arith in
           simp (rw same at e, and-false)
 
-module _ (links queues : List ℕ) where
+module _ (table : List ℕ) where
   pub link-at : (i : ℕ)
-      → linkConsistent (linkAt links queues i)
-      ≡ (every (λ q. rowInRange (rowOf (linkAt links queues i) q)) (upTo (levelsAt links i) (queueAt queues i))
-      && between 1 8 (levelsAt links i)
-      && not (eqb (getD links (4 * i) 0) (getD links (4 * i + 1) 0)))
+      → linkConsistent (linkAt table i)
+      ≡ (every (λ q. rowInRange (rowOf (linkAt table i) q)) (upTo (levelsAt table i) (queueAt table i))
+      && between 1 levelsMost (levelsAt table i)
+      && not (eqb (fromAt table i) (toAt table i)))
   unfolding linkConsistent linkAt
-  link-at i = rw (length-up (levelsAt links i) (queueAt queues i))
+  link-at i = rw (length-up (levelsAt table i) (queueAt table i))
 
-  pub table-at : (n : ℕ) → tableConsistent (tableOf n links queues) ≡ (every linkConsistent (upTo n (linkAt links queues)) && leb n 64)
+  pub table-at : tableConsistent (tableOf table) ≡ (every linkConsistent (upTo (linkCount table) (linkAt table)) && leb (linkCount table) linksMost)
   unfolding tableConsistent tableOf
-  table-at n = rw (length-up n (linkAt links queues))
+  table-at = rw (length-up (linkCount table) (linkAt table))

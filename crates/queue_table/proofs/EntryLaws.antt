@@ -1,36 +1,38 @@
 -- The queue that a hop entry names, in the model's table. By dividing the entry by 8.
 -- Assumes nothing.
-use Prim.Native.Nat.{ℕ, _+_, _*_, _/_, _%_, _≤_, _<_}
+use Prim.Native.Nat.{ℕ, _≤_, _<_}
 use mathlib.Core.Path.{_≡_, ap, _∙_}
 use mathlib.Core.Bool.{true}
 use mathlib.Core.List.{List}
 use mathlib.Core.Option.{some}
 use native.Mathlib.Nat.{div-add-mod, mod-lt}
 use native.Mathlib.Omega.{arith}
-use lib.ListN.{getD}
 use lib.Dec.{ltb}
 use borrow.Author.Tests.{ltb-true}
+use Rattle.model.specs.Sizes.{linksMost, levelsMost, queuesMost}
 use Rattle.model.specs.Aggregates as model
 use Rattle.model.specs.Laws.Test.{and-both}
-use Rattle.queue_table.specs.View.{queueAt, levelsAt, tableOf, hopAt, isQueue}
+use Rattle.queue_table.specs.View.{entryAt, linkIn, levelIn, queueAt, linkCount, levelsAt, thresholdAt, tableOf, hopAt, isQueue}
 use Rattle.queue_table.proofs.LookupLaws.{queue-found}
 
-module _ (n : ℕ) (links : List ℕ) (e : ℕ) (named : isQueue n links e ≡ true) where
-  pub queue-within : (e / 8 < n) × (e % 8 < levelsAt links (e / 8))
+-- An entry is that of its link and level.
+pub entry-same : (e : ℕ) → entryAt (linkIn e) (levelIn e) ≡ e
+entry-same e = omega (arith, div-add-mod e levelsMost)
+
+module _ (table : List ℕ) (e : ℕ) (named : isQueue table e ≡ true) where
+  pub queue-within : (linkIn e < linkCount table) × (levelIn e < levelsAt table (linkIn e))
   unfolding isQueue
   queue-within =
-      let (link, level) = and-both (ltb (e / 8) n) (ltb (e % 8) (levelsAt links (e / 8))) named in
-      (ltb-true (e / 8) n link, ltb-true (e % 8) (levelsAt links (e / 8)) level)
+      let (link, level) = and-both (ltb (linkIn e) (linkCount table)) (ltb (levelIn e) (levelsAt table (linkIn e))) named in
+      (ltb-true (linkIn e) (linkCount table) link, ltb-true (levelIn e) (levelsAt table (linkIn e)) level)
 
-  pub queue-low : n ≤ 64 → e < 512
-  queue-low few = omega (arith, queue-within .0, div-add-mod e 8, mod-lt e {m = 8} (omega arith))
+  pub queue-low : linkCount table ≤ linksMost → e < queuesMost
+  queue-low few = omega (arith, queue-within .0, div-add-mod e levelsMost, mod-lt e {m = levelsMost} (omega arith))
 
-  pub queue-named : (queues : List ℕ) → model.queueAt (tableOf n links queues) (hopAt e) ≡ some (queueAt queues (e / 8) (e % 8))
+  pub queue-named : model.queueAt (tableOf table) (hopAt e) ≡ some (queueAt table (linkIn e) (levelIn e))
   unfolding hopAt
-  queue-named queues = queue-found n links queues (e / 8) (e % 8) (queue-within .0) (queue-within .1)
+  queue-named = queue-found table (linkIn e) (levelIn e) (queue-within .0) (queue-within .1)
 
-  pub threshold-named : (queues : List ℕ) → model.thresholdOf (model.queueAt (tableOf n links queues) (hopAt e)) ≡ getD queues (2 * e) 0
+  pub threshold-named : model.thresholdOf (model.queueAt (tableOf table) (hopAt e)) ≡ thresholdAt table e
   unfolding model.thresholdOf queueAt
-  threshold-named queues =
-      let place : 16 * (e / 8) + 2 * (e % 8) ≡ 2 * e = omega (arith, div-add-mod e 8) in
-      ap model.thresholdOf (queue-named queues) ∙ ap (λ (k : ℕ). getD queues k 0) place
+  threshold-named = ap model.thresholdOf queue-named ∙ ap (thresholdAt table) (entry-same e)

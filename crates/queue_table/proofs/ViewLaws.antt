@@ -1,16 +1,16 @@
--- The view of the columns: its links one by one, and what the model's tests say of the newest.
+-- The view of the array: its links one by one, and what the model's tests say of the newest.
 -- Assumes nothing.
-use Prim.Native.Nat.{ℕ, zero, suc, _+_, _-_, _*_, _<_}
+use Prim.Native.Nat.{ℕ, zero, suc, _+_, _-_, _<_}
 use mathlib.Core.Path.{_≡_, refl, sym, ap, ap₂, _∙_}
 use mathlib.Core.Bool.{Bool, true, false, _&&_}
 use mathlib.Core.List.{List, [], _∷_, _++_, reverse, reverseAux-eq}
 use native.Mathlib.Omega.{arith}
 use native.Mathlib.Numerals.{add-one}
 use borrow.Author.Tests.{eq-eqb, ne-eqb, eqb-true, eqb-false}
-use lib.ListN.{length, getD, length-append}
+use lib.ListN.{length, length-append}
 use lib.Dec.{eqb}
 use Rattle.model.specs.QueueTable as model
-use Rattle.queue_table.specs.View.{upTo, downFrom, queueAt, levelsAt, linkAt, linksOf, tableOf}
+use Rattle.queue_table.specs.View.{upTo, downFrom, queueAt, fromAt, toAt, speedAt, levelsAt, linkAt, linksOf}
 
 -- Two tests of equality that hold together are one.
 pub same-test : (a b c d : ℕ) → (a ≡ b → c ≡ d) → (c ≡ d → a ≡ b) → eqb a b ≡ eqb c d
@@ -46,51 +46,51 @@ module _ {A : Type 0} where
   reverse-down zero f = refl
   reverse-down (suc n) f = reverseAux-eq (downFrom n f) (f n ∷ []) ∙ ap (λ (l : List A). l ++ (f n ∷ [])) (reverse-down n f)
 
-module _ (links queues : List ℕ) where
+module _ (table : List ℕ) where
   -- Once read, the newest link is the last.
-  pub links-reversed : (n : ℕ) → reverse (linksOf n links queues) ≡ tableOf n links queues
-  unfolding linksOf tableOf
-  links-reversed n = reverse-down n (linkAt links queues)
-
-  links-length : (n : ℕ) → length (linksOf n links queues) ≡ n
+  pub links-reversed : (n : ℕ) → reverse (linksOf n table) ≡ upTo n (linkAt table)
   unfolding linksOf
-  links-length n = length-down n (linkAt links queues)
+  links-reversed n = reverse-down n (linkAt table)
 
-  pub links-none : (n : ℕ) → n ≡ 0 → linksOf n links queues ≡ []
+  links-length : (n : ℕ) → length (linksOf n table) ≡ n
+  unfolding linksOf
+  links-length n = length-down n (linkAt table)
+
+  pub links-none : (n : ℕ) → n ≡ 0 → linksOf n table ≡ []
   unfolding linksOf downFrom
   links-none n e = rw e
 
   -- Of n links the newest is link n - 1, counted from 0.
-  pub links-newest : (n : ℕ) → 0 < n → linksOf n links queues ≡ linkAt links queues (n - 1) ∷ linksOf (n - 1) links queues
+  pub links-newest : (n : ℕ) → 0 < n → linksOf n table ≡ linkAt table (n - 1) ∷ linksOf (n - 1) table
   unfolding linksOf downFrom
   links-newest zero pos = absurd (omega arith)
   links-newest (suc m) pos = let e : suc m - 1 ≡ m = omega arith in rw e
 
-  levels-length : (i : ℕ) → length (linkAt links queues i .levels) ≡ levelsAt links i
+  levels-length : (i : ℕ) → length (linkAt table i .levels) ≡ levelsAt table i
   unfolding linkAt
-  levels-length i = length-up (levelsAt links i) (queueAt queues i)
+  levels-length i = length-up (levelsAt table i) (queueAt table i)
 
-module _ (links queues : List ℕ) (n : ℕ) (r : model.Row) where
-  pub begins-at : model.begins (linksOf n links queues) r ≡ (eqb (r .link) (n + 1) && eqb (r .level) 1)
+module _ (table : List ℕ) (n : ℕ) (r : model.Row) where
+  pub begins-at : model.begins (linksOf n table) r ≡ (eqb (r .link) (n + 1) && eqb (r .level) 1)
   unfolding model.begins
-  begins-at = rw (links-length links queues n, add-one n)
+  begins-at = rw (links-length table n, add-one n)
 
-  pub continues-none : n ≡ 0 → model.continues (linksOf n links queues) r ≡ false
+  pub continues-none : n ≡ 0 → model.continues (linksOf n table) r ≡ false
   unfolding model.continues
-  continues-none e = rw (links-none links queues n e)
+  continues-none e = rw (links-none table n e)
 
-  pub continues-at : 0 < n → model.continues (linksOf n links queues) r ≡ (eqb (r .link) n && eqb (r .level) (levelsAt links (n - 1) + 1))
+  pub continues-at : 0 < n → model.continues (linksOf n table) r ≡ (eqb (r .link) n && eqb (r .level) (levelsAt table (n - 1) + 1))
   unfolding model.continues
   continues-at pos =
       let e : suc (n - 1) ≡ n = omega arith in
-      rw (links-newest links queues n pos, links-length links queues (n - 1), levels-length links queues (n - 1), e, add-one (levelsAt links (n - 1)))
+      rw (links-newest table n pos, links-length table (n - 1), levels-length table (n - 1), e, add-one (levelsAt table (n - 1)))
 
-  pub same-none : n ≡ 0 → model.sameLink (linksOf n links queues) r ≡ false
+  pub same-none : n ≡ 0 → model.sameLink (linksOf n table) r ≡ false
   unfolding model.sameLink
-  same-none e = rw (links-none links queues n e)
+  same-none e = rw (links-none table n e)
 
   pub same-at : 0 < n
-      → model.sameLink (linksOf n links queues) r
-      ≡ (eqb (r .from) (getD links (4 * (n - 1)) 0) && eqb (r .to) (getD links (4 * (n - 1) + 1) 0) && eqb (r .speed) (getD links (4 * (n - 1) + 2) 0))
+      → model.sameLink (linksOf n table) r
+      ≡ (eqb (r .from) (fromAt table (n - 1)) && eqb (r .to) (toAt table (n - 1)) && eqb (r .speed) (speedAt table (n - 1)))
   unfolding model.sameLink linkAt
-  same-at pos = rw (links-newest links queues n pos)
+  same-at pos = rw (links-newest table n pos)

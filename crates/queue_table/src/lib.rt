@@ -1,63 +1,128 @@
 // The queue table: links with their levels, read from a text (document 01, "Columns", table lines; codes 1 to 5).
 //
-// The table is two columns of numbers. Link i, counted from 0, has its from node, to node, speed and number of levels at
-// 4 × i on in `links`; level p of it, counted from 0, has its threshold and buffer at 16 × i + 2 × p on in `queues`.
+// The table is one array of numbers. Link i, counted from 0, has its from node, to node, speed and number of levels from
+// `link_position(i)` on; queue e, which `entry_at` counts, has its threshold and buffer from
+// `queue_position(e)` on; the last number is how many links there are. What stands past them and their levels is free.
+mod access;
 mod consistency;
 mod row;
 
 ghost use mathlib.Core.Path.{_≡_};
-ghost use Prim.Native.Nat.{_*_, _<_};
-ghost use lib.ListN.{length, getD};
-ghost use Rattle.queue_table.specs.View.{Columns, Placed, numbersOf, linkStored, queueStored, LineAdded, LineTaken, TableFilled};
+ghost use Prim.Native.Nat.{_<_};
+ghost use lib.ListN.{length};
+ghost use Rattle.queue_table.specs.View.{tableNumbers, faultCode, Linked, Placed, numbersOf, rowStored, LineAdded, LineTaken, LinesRead, TableFilled};
+pub use access::Hop;
+pub use access::Link;
+pub use access::Queue;
+pub use access::entry_at;
+pub use access::hop_at;
+pub use access::is_queue;
+pub use access::level_of;
+pub use access::link_at;
+pub use access::link_count;
+pub use access::link_of;
+use access::link_position;
+pub use access::queue_at;
+use access::queue_position;
 use columns::NextLine;
 pub use consistency::consistent;
 use row::Row;
 use row::RowRead;
 use row::read_row;
 use row::row_cause;
-use units::Micros;
 
-// How many numbers the two columns have, and how many bytes a table text has at the most.
-pub const LINK_NUMBERS: usize = 256;
+// How many links a table has at the most, how many levels a link, and so queues.
+pub const LINKS: usize = 64;
 
-pub const QUEUE_NUMBERS: usize = 1024;
+pub const LEVELS: usize = 8;
 
-const MOST_BYTES: usize = 18_944;
+pub const QUEUES: usize = LINKS * LEVELS;
 
-// What a line does: a code, 0 where there is none, and the number of links from then on.
+// How many numbers a link has in the array, and a queue; where the number of links stands.
+const LINK_NUMBERS: usize = 4;
+
+const QUEUE_NUMBERS: usize = 2;
+
+const COUNT: usize = LINK_NUMBERS * LINKS + QUEUE_NUMBERS * QUEUES;
+
+// How many numbers the array has.
+pub const TABLE_NUMBERS: usize = COUNT + 1;
+
+// How many columns a table line has, and how many bytes a table text at the most.
+const ROW_COLUMNS: usize = 36;
+
+pub const TABLE_BYTES: usize = QUEUES * (ROW_COLUMNS + 1);
+
+// What a table text can be refused for.
+pub enum Fault {
+    // 1: columns wrong.
+    Malformed,
+    // 2: out of range.
+    OutOfRange,
+    // 3: out of turn, or past the most links or levels.
+    OutOfTurn,
+    // 4: from equals to, or nodes or speed differ within a link.
+    Disagrees,
+    // 5: text too long.
+    TooLong,
+}
+
+// What a line is found to be.
+enum Judgement {
+    Fine,
+    Faulty(Fault),
+}
+
+// What a line does: what it was found to be, and the number of links from then on.
 struct Step {
-    code: u32,
+    judgement: Judgement,
     links: usize,
 }
 
 // The same of the line at a position of the text, and the position after it.
 struct Advance {
-    code: u32,
+    judgement: Judgement,
     links: usize,
     next: usize,
 }
 
 // What a table text says.
 pub enum Verdict {
-    // So many links.
-    Accepted(usize),
-    // A code, 1 to 5, and a line.
-    Refused(u32, u32),
+    Accepted,
+    // The first fault, and its line.
+    Refused(Fault, u32),
 }
 
-// A table by value. A refused text has no links; what stands past the links and their levels is free.
+// What the lines of a text say, and how many links they give: none where the text is refused.
+struct Lines {
+    verdict: Verdict,
+    links: usize,
+}
+
+// A table by value. A refused text has no links.
 pub struct QueueTable {
     pub verdict: Verdict,
-    pub links: [u32; LINK_NUMBERS],
-    pub queues: [u32; QUEUE_NUMBERS],
+    pub numbers: [u32; TABLE_NUMBERS],
+}
+
+// Document 01's code of a fault.
+pub fn fault_code(fault: Fault) -> u32
+    ensures { λ r. ⌜ r ≡ faultCode fault ⌝ }
+{
+    match fault {
+        Fault::Malformed => 1,
+        Fault::OutOfRange => 2,
+        Fault::OutOfTurn => 3,
+        Fault::Disagrees => 4,
+        Fault::TooLong => 5,
+    }
 }
 
 // Stores a line's numbers. Within a link the nodes and the speed are stored again as they were.
-fn store_row(r: Row, links: &mut [u32], queues: &mut [u32]) -> usize
-    requires { ⌜ Placed (numbersOf r) (now links) (now queues) ⌝ }
+fn store_row(r: Row, table: &mut [u32]) -> usize
+    requires { ⌜ Placed (numbersOf r) (now table) ⌝ }
     ensures { λ n. ⌜ n ≡ r .link ⌝ }
-    ensures { λ _. ⌜ now (links .exit) ≡ linkStored (numbersOf r) (now (links .entry)) ⌝ }
-    ensures { λ _. ⌜ now (queues .exit) ≡ queueStored (numbersOf r) (now (queues .entry)) ⌝ }
+    ensures { λ _. ⌜ now (table .exit) ≡ rowStored (numbersOf r) (now (table .entry)) ⌝ }
 {
     let link = r.link as usize;
     let level = r.level as usize;
@@ -67,97 +132,113 @@ fn store_row(r: Row, links: &mut [u32], queues: &mut [u32]) -> usize
     let levels = r.level;
     let threshold = r.threshold;
     let buffer = r.buffer;
-    let at = 4 * (link - 1);
-    links[at] = from;
-    links[at + 1] = to;
-    links[at + 2] = speed;
-    links[at + 3] = levels;
-    let q = 16 * (link - 1) + 2 * (level - 1);
-    queues[q] = threshold;
-    queues[q + 1] = buffer;
+    let at = link_position(link - 1);
+    table[at] = from;
+    table[at + 1] = to;
+    table[at + 2] = speed;
+    table[at + 3] = levels;
+    let q = queue_position(entry_at(link - 1, level - 1));
+    table[q] = threshold;
+    table[q + 1] = buffer;
     link
 }
 
 // Judges a line after n links and adds it where nothing is against it.
-fn add_line(line: &[u8], n: usize, links: &mut [u32], queues: &mut [u32]) -> Step
-    requires { ⌜ Columns n (now links) (now queues) ⌝ }
-    ensures { λ s. ⌜ LineAdded n (now (links .entry)) (now (queues .entry)) (now (links .exit)) (now (queues .exit)) (now (line .entry)) s ⌝ }
+fn add_line(line: &[u8], n: usize, table: &mut [u32]) -> Step
+    requires { ⌜ Linked n (now table) ⌝ }
+    ensures { λ s. ⌜ LineAdded n (now (table .entry)) (now (table .exit)) (now (line .entry)) s ⌝ }
 {
     let RowRead::Numbers(r) = read_row(line) else {
-        return Step { code: 1, links: n };
+        return Step {
+            judgement: Judgement::Faulty(Fault::Malformed),
+            links: n,
+        };
     };
-    let code = row_cause(r, n, &links[..]);
-    if code != 0 {
-        return Step { code, links: n };
+    let judgement = row_cause(r, n, &table[..]);
+    let Judgement::Fine = judgement else {
+        return Step {
+            judgement,
+            links: n,
+        };
+    };
+    let m = store_row(r, table);
+    Step {
+        judgement: Judgement::Fine,
+        links: m,
     }
-    let m = store_row(r, links, queues);
-    Step { code: 0, links: m }
 }
 
 // Judges and adds the line that starts at `at`, after n links.
-fn take_line(text: &[u8], at: usize, n: usize, links: &mut [u32], queues: &mut [u32]) -> Advance
-    requires { ⌜ (at < length (now text)) × Columns n (now links) (now queues) ⌝ }
-    ensures { λ a. ⌜ LineTaken (now (text .entry)) at n (now (links .entry)) (now (queues .entry)) (now (links .exit)) (now (queues .exit)) a ⌝ }
+fn take_line(text: &[u8], at: usize, n: usize, table: &mut [u32]) -> Advance
+    requires { ⌜ (at < length (now text)) × Linked n (now table) ⌝ }
+    ensures { λ a. ⌜ LineTaken (now (text .entry)) at n (now (table .entry)) (now (table .exit)) a ⌝ }
 {
     let NextLine::Ended(end) = columns::next_line(text, at) else {
         return Advance {
-            code: 1,
+            judgement: Judgement::Faulty(Fault::Malformed),
             links: n,
             next: at,
         };
     };
-    let step = add_line(&text[at..end], n, links, queues);
-    let code = step.code;
+    let step = add_line(&text[at..end], n, table);
+    let judgement = step.judgement;
     let m = step.links;
     Advance {
-        code,
+        judgement,
         links: m,
         next: end + 1,
     }
 }
 
-// Fills the two columns from a table text. No link counts where it is refused.
-pub fn read_into(text: &[u8], links: &mut [u32], queues: &mut [u32]) -> Verdict
-    requires { ⌜ (length (now links) ≡ 256) × (length (now queues) ≡ 1024) ⌝ }
-    ensures { λ v. ⌜ TableFilled (now (text .entry)) v (now (links .exit)) (now (queues .exit)) ⌝ }
+// Reads the lines of a text into the array.
+fn read_lines(text: &[u8], table: &mut [u32]) -> Lines
+    requires { ⌜ length (now table) ≡ tableNumbers ⌝ }
+    ensures { λ r. ⌜ LinesRead (now (text .entry)) (now (table .exit)) r ⌝ }
 {
-    if MOST_BYTES < text.len() {
-        return Verdict::Refused(5, 0);
+    if TABLE_BYTES < text.len() {
+        return Lines {
+            verdict: Verdict::Refused(Fault::TooLong, 0),
+            links: 0,
+        };
     }
     let mut at = 0;
     let mut line: u32 = 1;
     let mut n = 0;
     while at < text.len() {
-        let advance = take_line(text, at, n, links, queues);
-        let code = advance.code;
-        if code != 0 {
-            return Verdict::Refused(code, line);
+        let advance = take_line(text, at, n, table);
+        let judgement = advance.judgement;
+        if let Judgement::Faulty(fault) = judgement {
+            return Lines {
+                verdict: Verdict::Refused(fault, line),
+                links: 0,
+            };
         }
         n = advance.links;
         at = advance.next;
         line += 1;
     }
-    Verdict::Accepted(n)
+    Lines {
+        verdict: Verdict::Accepted,
+        links: n,
+    }
+}
+
+// Fills the array from a table text, whatever stood there. No link counts where it is refused.
+pub fn read_into(text: &[u8], table: &mut [u32]) -> Verdict
+    requires { ⌜ length (now table) ≡ tableNumbers ⌝ }
+    ensures { λ v. ⌜ TableFilled (now (text .entry)) v (now (table .exit)) ⌝ }
+{
+    let read = read_lines(text, table);
+    let links = read.links;
+    table[COUNT] = links as u32;
+    read.verdict
 }
 
 // The table of a text, by value.
 pub fn read_table(text: &[u8]) -> QueueTable
-    ensures { λ t. ⌜ TableFilled (now (text .entry)) (t .verdict) (t .links) (t .queues) ⌝ }
+    ensures { λ t. ⌜ TableFilled (now (text .entry)) (t .verdict) (t .numbers) ⌝ }
 {
-    let mut links = [0u32; LINK_NUMBERS];
-    let mut queues = [0u32; QUEUE_NUMBERS];
-    let verdict = read_into(text, &mut links, &mut queues);
-    QueueTable {
-        verdict,
-        links,
-        queues,
-    }
-}
-
-// The threshold of the queue of level e % 8 on link e / 8, both counted from 0.
-pub fn threshold_of(e: usize, queues: &[u32]) -> Micros
-    requires { ⌜ (e < 512) × (length (now queues) ≡ 1024) ⌝ }
-    ensures { λ r. ⌜ (r .0 ≡ getD (now (queues .entry)) (2 * e) 0) × (r .0 < 4294967296) ⌝ }
-{
-    Micros(queues[2 * e] as u64)
+    let mut numbers = [0u32; TABLE_NUMBERS];
+    let verdict = read_into(text, &mut numbers);
+    QueueTable { verdict, numbers }
 }

@@ -1,12 +1,18 @@
 // One table line: its numbers, and what is against it after the links before (document 01, codes 1 to 4).
 ghost use mathlib.Core.Path.{_≡_};
 ghost use mathlib.Core.Bool.{_&&_};
-ghost use mathlib.Core.List.{List};
-ghost use Prim.Native.Nat.{ℕ, _+_, _≤_};
+ghost use Prim.Native.Nat.{_+_, _≤_};
 ghost use lib.ListN.{length};
 ghost use lib.Dec.{eqb};
+ghost use Rattle.model.specs.Sizes.{linksMost};
 ghost use Rattle.model.specs.QueueTable.{row, rowInRange, continues, rowInTurn, sameLink, rowAgrees, rowCause};
-ghost use Rattle.queue_table.specs.View.{rowOf, numbersOf, linksOf};
+ghost use Rattle.queue_table.specs.View.{tableNumbers, rowOf, numbersOf, linksOf, codeOf};
+use crate::Fault;
+use crate::Judgement;
+use crate::LEVELS;
+use crate::LINKS;
+use crate::ROW_COLUMNS;
+use crate::access::link_at;
 use columns::Field;
 
 // The numbers of one table line.
@@ -28,7 +34,7 @@ pub(crate) enum RowRead {
 pub(crate) fn read_row(line: &[u8]) -> RowRead
     ensures { λ r. ⌜ rowOf r ≡ row (now (line .entry)) ⌝ }
 {
-    if line.len() != 36 {
+    if line.len() != ROW_COLUMNS {
         return RowRead::Malformed;
     }
     let Field::Number(link) = columns::read_at(line, 1, 4) else {
@@ -89,7 +95,7 @@ pub(crate) fn in_range(r: Row) -> bool
 
 // The line is level 1 of the next link, after n of them.
 fn begins(r: Row, n: usize) -> bool
-    requires { ⌜ n ≤ 64 ⌝ }
+    requires { ⌜ n ≤ linksMost ⌝ }
     ensures { λ b. ⌜ b ≡ (eqb (r .link) (n + 1) && eqb (r .level) 1) ⌝ }
 {
     let link = r.link as usize;
@@ -101,9 +107,9 @@ fn begins(r: Row, n: usize) -> bool
 }
 
 // The line is the next level of the newest of n links.
-fn continues(r: Row, n: usize, links: &[u32]) -> bool
-    requires { ⌜ (n ≤ 64) × (length (now links) ≡ 256) ⌝ }
-    ensures { λ b. ⌜ ((queues : List ℕ) → b ≡ continues (linksOf n (now (links .entry)) queues) (numbersOf r)) ⌝ }
+fn continues(r: Row, n: usize, table: &[u32]) -> bool
+    requires { ⌜ (n ≤ linksMost) × (length (now table) ≡ tableNumbers) ⌝ }
+    ensures { λ b. ⌜ b ≡ continues (linksOf n (now (table .entry))) (numbersOf r) ⌝ }
 {
     let link = r.link as usize;
     let level = r.level;
@@ -116,32 +122,33 @@ fn continues(r: Row, n: usize, links: &[u32]) -> bool
     if level == 0 {
         return false;
     }
-    links[4 * (n - 1) + 3] == level - 1
+    let newest = link_at(n - 1, table);
+    newest.levels == level - 1
 }
 
-// 3: link and level are in turn, and not past 64 or 8.
-fn in_turn(r: Row, n: usize, links: &[u32]) -> bool
-    requires { ⌜ (n ≤ 64) × (length (now links) ≡ 256) ⌝ }
-    ensures { λ b. ⌜ ((queues : List ℕ) → b ≡ rowInTurn (linksOf n (now (links .entry)) queues) (numbersOf r)) ⌝ }
+// 3: link and level are in turn, and not past the most of either.
+fn in_turn(r: Row, n: usize, table: &[u32]) -> bool
+    requires { ⌜ (n ≤ linksMost) × (length (now table) ≡ tableNumbers) ⌝ }
+    ensures { λ b. ⌜ b ≡ rowInTurn (linksOf n (now (table .entry))) (numbersOf r) ⌝ }
 {
     let link = r.link;
     let level = r.level;
-    if 64 < link {
+    if LINKS < link as usize {
         return false;
     }
-    if 8 < level {
+    if LEVELS < level as usize {
         return false;
     }
     if begins(r, n) {
         return true;
     }
-    continues(r, n, links)
+    continues(r, n, table)
 }
 
 // The line has the nodes and the speed of the newest of n links.
-fn same_link(r: Row, n: usize, links: &[u32]) -> bool
-    requires { ⌜ (n ≤ 64) × (length (now links) ≡ 256) ⌝ }
-    ensures { λ b. ⌜ ((queues : List ℕ) → b ≡ sameLink (linksOf n (now (links .entry)) queues) (numbersOf r)) ⌝ }
+fn same_link(r: Row, n: usize, table: &[u32]) -> bool
+    requires { ⌜ (n ≤ linksMost) × (length (now table) ≡ tableNumbers) ⌝ }
+    ensures { λ b. ⌜ b ≡ sameLink (linksOf n (now (table .entry))) (numbersOf r) ⌝ }
 {
     let from = r.from;
     let to = r.to;
@@ -149,20 +156,20 @@ fn same_link(r: Row, n: usize, links: &[u32]) -> bool
     if n == 0 {
         return false;
     }
-    let at = 4 * (n - 1);
-    if from != links[at] {
+    let newest = link_at(n - 1, table);
+    if from != newest.from {
         return false;
     }
-    if to != links[at + 1] {
+    if to != newest.to {
         return false;
     }
-    speed == links[at + 2]
+    speed == newest.speed
 }
 
 // 4: from and to are two nodes, and from, to and speed are the same within a link.
-fn agrees(r: Row, n: usize, links: &[u32]) -> bool
-    requires { ⌜ (n ≤ 64) × (length (now links) ≡ 256) ⌝ }
-    ensures { λ b. ⌜ ((queues : List ℕ) → b ≡ rowAgrees (linksOf n (now (links .entry)) queues) (numbersOf r)) ⌝ }
+fn agrees(r: Row, n: usize, table: &[u32]) -> bool
+    requires { ⌜ (n ≤ linksMost) × (length (now table) ≡ tableNumbers) ⌝ }
+    ensures { λ b. ⌜ b ≡ rowAgrees (linksOf n (now (table .entry))) (numbersOf r) ⌝ }
 {
     let from = r.from;
     let to = r.to;
@@ -172,22 +179,22 @@ fn agrees(r: Row, n: usize, links: &[u32]) -> bool
     if begins(r, n) {
         return true;
     }
-    same_link(r, n, links)
+    same_link(r, n, table)
 }
 
-// The first cause, 2 to 4, against a line after n links; 0 where there is none.
-pub(crate) fn row_cause(r: Row, n: usize, links: &[u32]) -> u32
-    requires { ⌜ (n ≤ 64) × (length (now links) ≡ 256) ⌝ }
-    ensures { λ c. ⌜ ((queues : List ℕ) → c ≡ rowCause (linksOf n (now (links .entry)) queues) (numbersOf r)) ⌝ }
+// The first cause, 2 to 4, against a line after n links.
+pub(crate) fn row_cause(r: Row, n: usize, table: &[u32]) -> Judgement
+    requires { ⌜ (n ≤ linksMost) × (length (now table) ≡ tableNumbers) ⌝ }
+    ensures { λ j. ⌜ codeOf j ≡ rowCause (linksOf n (now (table .entry))) (numbersOf r) ⌝ }
 {
     if !in_range(r) {
-        return 2;
+        return Judgement::Faulty(Fault::OutOfRange);
     }
-    if !in_turn(r, n, links) {
-        return 3;
+    if !in_turn(r, n, table) {
+        return Judgement::Faulty(Fault::OutOfTurn);
     }
-    if !agrees(r, n, links) {
-        return 4;
+    if !agrees(r, n, table) {
+        return Judgement::Faulty(Fault::Disagrees);
     }
-    0
+    Judgement::Fine
 }

@@ -5,18 +5,17 @@ use mathlib.Core.List.{List, [], _∷_}
 use mathlib.Core.Option.{Option, none, some}
 use native.Mathlib.Omega.{arith}
 use lib.ListN.{length, drop}
-use Rattle.model.specs.QueueTable.{readTable, accepted}
+use Rattle.model.specs.QueueTable.{Table, readTable, accepted}
 use Rattle.model.specs.Orders.{Order, register, release, rejected}
 use Rattle.model.specs.Reference as model
 use Rattle.model.specs.Reference.{State, Cause, Call, apply, decide, perform, refuse, fill, firstCause, findings, callOrder, step, opened, final}
 use Rattle.queue_table.specs.declared.Verdict.{Verdict}
 use Rattle.queue_table.specs.declared.Verdict.the-variants.{Accepted, Refused}
-use Rattle.queue_table.specs.View.{linkAt, tableOf, textOf}
-use Rattle.queue_table.proofs.ViewLaws.{length-up}
+use Rattle.queue_table.specs.View.{tableOf, textOf}
 use Rattle.registry.specs.declared.Registry.{Registry}
 use Rattle.registry.specs.View.{stateIn}
-use Rattle.recording.specs.Calls.{firstCall, listed, callsIn}
-use Rattle.recording.specs.Replay.{madeCalls, Replays}
+use Rattle.recording.specs.Calls.{headerBytes, firstCall, listed, callsIn}
+use Rattle.recording.specs.Replay.{callAnswerBytes, madeCalls, Replays}
 use Rattle.recording.specs.declared.Replayed.{Replayed}
 
 decided-table : (s : State) (o : Order) (c : Option Cause) → decide s o c .next .table ≡ s .table
@@ -33,26 +32,14 @@ unfolding final step apply
 final-table s [] = refl
 final-table s (c ∷ calls) = final-table (step s c .next) calls ∙ decided-table s (callOrder c) (firstCause (findings s (callOrder c)))
 
-table-long : (n : ℕ) (links queues : List ℕ) → length (tableOf n links queues) ≡ n
-unfolding tableOf
-table-long n links queues = length-up n (linkAt links queues)
-
--- What a verdict says of the columns goes by the table that they hold.
-pub same-verdict : (text : List ℕ) (calls : List Call) (v : Verdict) (links queues : List ℕ) (last : Registry)
-    → textOf v links queues ≡ readTable text → stateIn last ≡ final (opened text) calls
-    → textOf v (last .links) (last .queues) ≡ readTable text
+-- No call changes the table, so the verdict says of the registry left behind what it said of the one opened.
+pub same-verdict : (text : List ℕ) (calls : List Call) (v : Verdict) (t : Table) (last : Registry)
+    → textOf v t ≡ readTable text → stateIn last ≡ final (opened text) calls
+    → textOf v (tableOf (last .table)) ≡ readTable text
 unfolding opened model.tableOf
-same-verdict text calls (Refused code line) links queues last read held = read
-same-verdict text calls (Accepted n) links queues last read held = ap accepted same ∙ read
-  where
-    table : tableOf (last .count) (last .links) (last .queues) ≡ tableOf n links queues
-    table = ap (λ (s : State). s .table) held ∙ final-table (opened text) calls ∙ ap model.tableOf (sym read)
-
-    count : last .count ≡ n
-    count = sym (table-long (last .count) (last .links) (last .queues)) ∙ ap length table ∙ table-long n links queues
-
-    same : tableOf n (last .links) (last .queues) ≡ tableOf n links queues
-    same = ap (λ (k : ℕ). tableOf k (last .links) (last .queues)) (sym count) ∙ table
+same-verdict text calls (Refused code line) t last read held = read
+same-verdict text calls Accepted t last read held =
+    ap accepted (ap (λ (s : State). s .table) held ∙ final-table (opened text) calls ∙ ap model.tableOf (sym read)) ∙ read
 
 -- No more calls are made than the area has room to answer.
 few-listed : (n : ℕ) (o : Option Call) (more : Call → List Call) → ((c : Call) → length (more c) ≤ n) → length (listed o more) ≤ suc n
@@ -62,8 +49,8 @@ few-listed n (some c) more h = omega (arith, h c)
 few-made : (most : ℕ) (bytes : List ℕ) → length (callsIn most bytes) ≤ most
 unfolding callsIn
 few-made zero bytes = omega arith
-few-made (suc n) bytes = few-listed n (firstCall bytes) _ (λ c. few-made n (drop (9 + length (c .bytes)) bytes))
+few-made (suc n) bytes = few-listed n (firstCall bytes) _ (λ c. few-made n (drop (headerBytes + length (c .bytes)) bytes))
 
-pub count-fits : {table calls area area′ : List ℕ} {r : Replayed} → Replays table calls area area′ r → 14 * r .count ≤ length area
+pub count-fits : {table calls area area′ : List ℕ} {r : Replayed} → Replays table calls area area′ r → callAnswerBytes * r .count ≤ length area
 unfolding madeCalls
-count-fits {calls = calls} {area = area} p = omega (arith, p .count, few-made (length area / 14) calls)
+count-fits {calls = calls} {area = area} p = omega (arith, p .count, few-made (length area / callAnswerBytes) calls)

@@ -1,3 +1,3 @@
 pub mod Calls
-pub mod Reading
+pub mod View
 pub mod Replay

@@ -7,7 +7,7 @@ use Rattle.model.specs.Answers.{answerColumns}
 use Rattle.model.specs.QueueTable.{readTable}
 use Rattle.model.specs.Reference as model
 use Rattle.model.specs.Reference.{Call}
-use Rattle.queue_table.specs.View.{textOf}
+use Rattle.queue_table.specs.View.{tableOf, textOf}
 use Rattle.admission.specs.declared.Answer.{Answer}
 use Rattle.admission.specs.View.{answerOf}
 use Rattle.registry.specs.declared.Registry.{Registry}
@@ -16,6 +16,10 @@ use Rattle.recording.specs.Calls.{callsIn, bytesOf}
 use Rattle.recording.specs.declared.Ran.{Ran}
 use Rattle.recording.specs.declared.Replayed.{Replayed}
 
+-- Bytes of an answer line of a call, with its LF.
+abbrev pub callAnswerBytes : ℕ
+callAnswerBytes = 14
+
 -- The text of the answers, a line each: code 3 columns, place 4, link 4, level 2.
 unfoldable pub answerLines : List model.Answer → List ℕ
 answerLines [] = []
@@ -23,11 +27,11 @@ answerLines (a ∷ more) = answerColumns a ++ (10 ∷ answerLines more)
 
 -- The calls that are made: those of the list, as many as the area has room to answer.
 unfoldable pub madeCalls : (calls area : List ℕ) → List Call
-madeCalls calls area = callsIn (length area / 14) calls
+madeCalls calls area = callsIn (length area / callAnswerBytes) calls
 
 -- The area with the answers to so many calls in its first bytes.
 abbrev pub answered : (area : List ℕ) (calls : ℕ) → List Answer → List ℕ
-answered area calls given = answerLines (map answerOf given) ++ drop (14 * calls) area
+answered area calls given = answerLines (map answerOf given) ++ drop (callAnswerBytes * calls) area
 
 -- From any registry: the calls of the list were made one after the other, each on the registry that the one before left.
 pub record Runs (first : Registry) (calls area area′ : List ℕ) (r : Ran) : Type 0 where
@@ -39,7 +43,7 @@ pub record Runs (first : Registry) (calls area area′ : List ℕ) (r : Ran) : T
 
 -- On any table text: the table's verdict, how many calls were made and where the last one ends, and all that is claimed of them.
 pub record Replays (table calls area area′ : List ℕ) (r : Replayed) : Type 0 where
-  pub verdict : textOf (r .verdict) (r .registry .links) (r .registry .queues) ≡ readTable table
+  pub verdict : textOf (r .verdict) (tableOf (r .registry .table)) ≡ readTable table
   pub count : r .count ≡ length (madeCalls calls area)
   pub end : r .end ≡ bytesOf (madeCalls calls area)
   pub given : List Answer

@@ -3,20 +3,23 @@ ghost use mathlib.Core.Path.{_≡_};
 ghost use mathlib.Core.List.{_∷_, _++_};
 ghost use Prim.Native.Nat.{_≤_};
 ghost use lib.ListN.{length, drop};
-ghost use Rattle.model.specs.Columns.{fieldAt, andThen};
+ghost use Rattle.model.specs.Words.{andThen};
+ghost use Rattle.model.specs.Columns.{fieldAt};
+ghost use Rattle.model.specs.Orders.{kindOfNumber};
 ghost use Rattle.model.specs.Answers.{answerColumns};
+ghost use Rattle.orders.specs.View.{kindOf, kindIn};
 ghost use Rattle.admission.specs.View.{answerOf};
-ghost use Rattle.registry.specs.View.{kindOf, callOf, Performs};
-ghost use Rattle.recording.specs.Replay.{Runs, Replays};
-ghost use Rattle.recording.specs.Calls.{kindOfNumber, header};
-ghost use Rattle.recording.specs.Reading.{kindIn, headerOf, FirstCall};
+ghost use Rattle.registry.specs.View.{callOf, Performs};
+ghost use Rattle.recording.specs.Calls.{header};
+ghost use Rattle.recording.specs.View.{headerOf, FirstCall};
+ghost use Rattle.recording.specs.Replay.{callAnswerBytes, Runs, Replays};
 use columns::Field;
+use columns::LF;
+use orders::Kind;
+use orders::KindRead;
 use queue_table::Verdict;
 use registry::Called;
-use registry::Kind;
 use registry::Registry;
-
-const LF: u8 = 10;
 
 // The bytes of a header line with its LF.
 const HEADER: usize = 9;
@@ -45,31 +48,20 @@ pub struct Replayed {
     pub end: usize,
 }
 
-enum KindRead {
-    Is(Kind),
-    // Malformed, or another call.
-    Other,
-}
-
 // A header line: which call it is, and the number of bytes that it is given.
 enum Recorded {
     Call(Kind, usize),
     Broken,
 }
 
+// Which call a header line names; malformed is as another call.
 fn read_kind(bytes: &[u8]) -> KindRead
     ensures { λ r. ⌜ kindIn r ≡ andThen (fieldAt 1 2 (now (bytes .entry))) kindOfNumber ⌝ }
 {
     let Field::Number(number) = columns::read_at(bytes, 1, 2) else {
         return KindRead::Other;
     };
-    if number == 1 {
-        return KindRead::Is(Kind::Register);
-    }
-    if number == 2 {
-        return KindRead::Is(Kind::Release);
-    }
-    KindRead::Other
+    orders::kind_of_number(number)
 }
 
 // The header line that the bytes start with.
@@ -119,9 +111,9 @@ fn make_call(registry: Registry, form: Form, kind: Kind, bytes: &[u8]) -> Called
 
 // One call, and its answer line at the start of `part`.
 fn answer_call(registry: Registry, form: Form, kind: Kind, bytes: &[u8], part: &mut [u8]) -> Called
-    requires { ⌜ 14 ≤ length (now part) ⌝ }
+    requires { ⌜ callAnswerBytes ≤ length (now part) ⌝ }
     ensures { λ r. ⌜ Performs registry (callOf (kindOf kind) (now (bytes .entry))) r ⌝ }
-    ensures { λ r. ⌜ now (part .exit) ≡ answerColumns (answerOf (r .answer)) ++ (10 ∷ drop 14 (now (part .entry))) ⌝ }
+    ensures { λ r. ⌜ now (part .exit) ≡ answerColumns (answerOf (r .answer)) ++ (10 ∷ drop callAnswerBytes (now (part .entry))) ⌝ }
 {
     let called = make_call(registry, form, kind, bytes);
     let answer = called.answer;

@@ -9,10 +9,12 @@ use native.Mathlib.Omega.{arith}
 use lib.ListN.{length}
 use lib.Dec.{leb}
 use borrow.Author.Tests.{leb-true}
+use Rattle.model.specs.Words.{All, every}
+use Rattle.model.specs.Sizes.{linksMost, levelsMost}
 use Rattle.model.specs.QueueTable.{Table}
 use Rattle.model.specs.Orders.{Hop, Flow}
-use Rattle.model.specs.Schedulable.{All, Named, LinkMeets}
-use Rattle.model.specs.Reference.{heldFlows, slotCount, hopEntries, withNumber, every, lineFindings, deadlineFinding}
+use Rattle.model.specs.Schedulable.{Named, LinkMeets}
+use Rattle.model.specs.Reference.{heldFlows, withNumber, lineFindings, deadlineFinding}
 use Rattle.model.specs.Consistent.{flowInRange, tableConsistent, linkConsistent}
 use Rattle.model.specs.Laws.Test.{and-both, every-all}
 use Rattle.model.specs.Laws.All.{append-all, all-imp, member-all}
@@ -23,12 +25,12 @@ use Rattle.model.specs.Laws.Consistent.{FlowRules}
 use Rattle.model.specs.Laws.Reached.{StateRules, rules-state}
 use Rattle.model.specs.Laws.Schedulable.{link-bounds, named}
 use Rattle.model.specs.Laws.Bounds.{speed-below}
-use Rattle.queue_table.specs.View.{Columns, tableOf, linkAt, levelsAt, queueAt}
+use Rattle.queue_table.specs.View.{tableNumbers, linkCount, WellFormed, tableOf, linkAt, levelsAt, queueAt}
 use Rattle.queue_table.proofs.ViewLaws.{length-up}
 use Rattle.queue_table.proofs.LookupLaws.{link-found}
 use Rattle.flow_store.specs.View.{Store, slotsOf}
 use Rattle.flow_store.proofs.ViewLaws.{length-slots, held-hops}
-use Rattle.flow_check.specs.Findings.{flowAlone}
+use Rattle.flow_check.specs.View.{flowAlone}
 use Rattle.figures.specs.View.{Figures, LinkSpeeds}
 use Rattle.admission.specs.View.{stateOf, Kept}
 
@@ -47,54 +49,53 @@ module _ (t : Table) (fs : List Flow) where
         links = member-all (λ (h : Hop). LinkMeets t fs (h .link)) (f .path) (λ h on. meets (h .link));
       }
 
-module _ (n : ℕ) (links queues slots pool : List ℕ) where
+module _ (table : List ℕ) where
   abbrev t : Table
-  t = tableOf n links queues
+  t = tableOf table
 
-  abbrev held : List Flow
-  held = heldFlows (slotsOf slots pool)
-
-  pub columns-of : length links ≡ 256 → length queues ≡ 1024 → tableConsistent t ≡ true → Columns n links queues
+  pub formed-of : length table ≡ tableNumbers → tableConsistent t ≡ true → WellFormed table
   unfolding tableConsistent tableOf linkAt
-  columns-of links-long queues-long ok =
+  formed-of long ok =
       record {
-        links-long = links-long;
-        queues-long = queues-long;
-        few = omega (arith, length-up n (linkAt links queues), leb-true (length t) 64 (and-both (every linkConsistent t) _ ok .1));
+        long = long;
+        few = omega (arith, length-up (linkCount table) (linkAt table), leb-true (length t) linksMost (and-both (every linkConsistent t) _ ok .1));
         shallow = λ i lt.
-            omega (arith, length-up (levelsAt links i) (queueAt queues i), between-true 1 8 _ (link-bounds t ok (i + 1) _ (link-found n links queues i lt) .0) .1);
+            omega (arith, length-up (levelsAt table i) (queueAt table i), between-true 1 levelsMost _ (link-bounds t ok (i + 1) _ (link-found table i lt) .0) .1);
       }
 
-  pub speeds-of : tableConsistent t ≡ true → LinkSpeeds n links
+  pub speeds-of : tableConsistent t ≡ true → LinkSpeeds table
   unfolding linkAt
-  speeds-of ok = record { each = λ i lt. speed-below t ok (i + 1) _ (link-found n links queues i lt) }
+  speeds-of ok = record { each = λ i lt. speed-below t ok (i + 1) _ (link-found table i lt) }
 
-  -- 14: the held flows are on queues of the table.
-  pub alone-named : every (flowAlone t held) held ≡ true → All (λ g. All (Named t) (g .path)) held
-  unfolding flowAlone lineFindings
-  alone-named alone = all-imp held each (every-all (flowAlone t held) held alone)
-    where
-      each : (g : Flow) → flowAlone t held g ≡ true → All (Named t) (g .path)
-      each g e =
-          let causes = and-both (flowInRange g && leb (withNumber (g .number) held) 1) _ e .1 in
-          named t [] (g .path) (none-applies (lineFindings t g ++ deadlineFinding t g ∷ []) (is-none _ causes) .1 .0)
+  module _ (slots pool : List ℕ) where
+    abbrev held : List Flow
+    held = heldFlows (slotsOf slots pool)
 
-  pub kept : {sums : List ℕ} → Columns n links queues → Store slots pool → tableConsistent t ≡ true → every (flowAlone t held) held ≡ true
-      → Figures t held sums
-      → ((link : ℕ) → LinkMeets t held link)
-      → Kept n links queues slots pool sums
-  unfolding slotCount hopEntries
-  kept columns store table alone figures meets =
-      record { columns = columns; store = store; is-consistent = rules-state (stateOf n links queues slots pool) rules; figures = figures }
-    where
-      rules : StateRules (stateOf n links queues slots pool)
-      rules =
-          record {
-            table = table;
-            size = length-slots slots pool;
-            flows = record {
-              flows = all-imp held (alone-rules t held meets) (every-all (flowAlone t held) held alone);
-              slots = omega (arith, held-length (slotsOf slots pool), length-slots slots pool);
-              hops = omega (arith, held-hops slots pool store, store .fits);
-            };
-          }
+    -- 14: the held flows are on queues of the table.
+    pub alone-named : every (flowAlone t held) held ≡ true → All (λ g. All (Named t) (g .path)) held
+    unfolding flowAlone lineFindings
+    alone-named alone = all-imp held each (every-all (flowAlone t held) held alone)
+      where
+        each : (g : Flow) → flowAlone t held g ≡ true → All (Named t) (g .path)
+        each g e =
+            let causes = and-both (flowInRange g && leb (withNumber (g .number) held) 1) _ e .1 in
+            named t [] (g .path) (none-applies (lineFindings t g ++ deadlineFinding t g ∷ []) (is-none _ causes) .1 .0)
+
+    pub kept : {sums : List ℕ} → WellFormed table → Store slots pool → tableConsistent t ≡ true → every (flowAlone t held) held ≡ true
+        → Figures t held sums
+        → ((link : ℕ) → LinkMeets t held link)
+        → Kept table slots pool sums
+    kept formed store right alone figures meets =
+        record { formed = formed; store = store; is-consistent = rules-state (stateOf table slots pool) rules; figures = figures }
+      where
+        rules : StateRules (stateOf table slots pool)
+        rules =
+            record {
+              table = right;
+              size = length-slots slots pool;
+              flows = record {
+                flows = all-imp held (alone-rules t held meets) (every-all (flowAlone t held) held alone);
+                slots = omega (arith, held-length (slotsOf slots pool), length-slots slots pool);
+                hops = omega (arith, held-hops slots pool store, store .fits);
+              };
+            }

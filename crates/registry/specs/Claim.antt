@@ -1,29 +1,27 @@
 -- The mission's third line over what the contracts promise: any table text, and any list of calls on the registry opened on it.
--- A chain of calls follows the reference model step by step; the rest is said of every state that the model reaches. Assumes nothing.
+-- That it holds is `claim` in `ClaimLaws`.
 use Prim.Native.Nat.{ℕ, _<_}
-use mathlib.Core.Path.{_≡_, refl, ap, sym, _∙_, subst}
+use mathlib.Core.Path.{_≡_}
 use mathlib.Core.Logic.{_↔_}
 use mathlib.Core.List.{List, [], _∷_, map}
 use mathlib.Core.Option.{some}
+use Rattle.model.specs.Words.{All}
+use Rattle.model.specs.Sizes.{queuesMost}
 use Rattle.model.specs.QueueTable.{Queue}
-use Rattle.model.specs.Orders.{Hop, Flow, register}
+use Rattle.model.specs.Orders.{Hop, Flow, register, registering}
 use Rattle.model.specs.Aggregates.{queueAt, aggregateAt}
-use Rattle.model.specs.Schedulable.{All}
 use Rattle.model.specs.Reference as model
-use Rattle.model.specs.Reference.{State, Call, registering, heldFlows, callOrder, opened, final}
+use Rattle.model.specs.Reference.{State, Call, heldFlows, callOrder, opened, final}
 use Rattle.model.specs.Outcomes.{NoneApplies, earlyFindings, NoRoom, Full}
 use Rattle.model.specs.Run.{Run, Conforming}
 use Rattle.model.specs.Punctual.{Punctual}
-use Rattle.model.specs.Laws.Reference.{never-spoilt}
-use Rattle.model.specs.Results.{reached-consistent, reached-punctual, room-exactly}
 use Rattle.queue_table.specs.View.{hopAt}
 use Rattle.figures.specs.View.{figureAt}
 use Rattle.admission.specs.declared.Answer.{Answer}
 use Rattle.registry.specs.declared.Registry.{Registry}
-use Rattle.registry.specs.declared.Opened.{Opened}
 use Rattle.registry.specs.declared.Called.{Called}
 use Rattle.admission.specs.View.{answerOf}
-use Rattle.registry.specs.View.{stateIn, Consistent, OpensOn, callOf, Performs}
+use Rattle.registry.specs.View.{stateIn, Consistent, callOf, Performs}
 
 -- Call after call, each on the registry that the one before left, nobody else writing it.
 pub data Chain : (first : Registry) (calls : List Call) (answers : List Answer) (last : Registry) → Type 0 where
@@ -49,7 +47,7 @@ pub record Claimed (text : List ℕ) (calls : List Call) (answers : List Answer)
   -- All answers, the table and the flow at each slot, and every queue's figures are the reference model's.
   pub answered : map answerOf answers ≡ model.answers (opened text) calls
   pub state : stateIn last ≡ after text calls
-  pub figures : (e : ℕ) → e < 512 → figureAt (last .sums) e ≡ aggregateAt (after text calls .table) (flowsAfter text calls) (hopAt e)
+  pub figures : (e : ℕ) → e < queuesMost → figureAt (last .sums) e ≡ aggregateAt (after text calls .table) (flowsAfter text calls) (hopAt e)
   -- No frame is late and no queue holds more than its buffer, in any run of conforming sources and at any instant.
   pub punctual : (r : Run (after text calls .table) (flowsAfter text calls)) → Conforming (flowsAfter text calls) (r .sent)
       → (n : ℕ) (h : Hop) (q : Queue) → queueAt (after text calls .table) h ≡ some q
@@ -62,43 +60,3 @@ pub record Claimed (text : List ℕ) (calls : List Call) (answers : List Answer)
   pub is-consistent : Consistent last
   pub never-spoilt : All NotSpoilt answers
   pub next-not-spoilt : (c : Call) (called : Called) → Performs last c called → NotSpoilt (called .answer)
-
-pub claim : (text : List ℕ) (o : Opened) → OpensOn text o → (calls : List Call) (answers : List Answer) (last : Registry)
-    → Chain (o .registry) calls answers last
-    → Claimed text calls answers last
-unfolding model.answers final
-claim text o opens calls answers last chain =
-    let (kept, answered, followed, never) = follows chain (opens .is-consistent) in
-    let state : stateIn last ≡ after text calls = followed ∙ ap (λ s. final s calls) (opens .state) in
-    record {
-      answered = answered ∙ ap (λ s. model.answers s calls) (opens .state);
-      state = state;
-      figures = λ e h.
-          subst (λ (s : State). figureAt (last .sums) e ≡ aggregateAt (s .table) (heldFlows (s .slots)) (hopAt e)) state (kept .figures .same e h);
-      punctual = reached-punctual text calls;
-      room = λ bytes f called p e early.
-          subst (λ a. NoRoom (a .code) ↔ Full (after text calls) f)
-          (sym (p .answer kept ∙ ap (λ s. model.step s (callOf registering bytes) .answer) state))
-          (room-exactly (after text calls) (reached-consistent text calls) (callOf registering bytes) f e early);
-      is-consistent = kept;
-      never-spoilt = never;
-      next-not-spoilt = λ c called p. not-spoilt p kept;
-    }
-  where
-    not-spoilt : {before : Registry} {c : Call} {called : Called} → Performs before c called → Consistent before → NotSpoilt (called .answer)
-    not-spoilt {before} {c} p k e = never-spoilt (stateIn before) c (sym (ap (λ a. a .code) (p .answer k)) ∙ e)
-
-    -- From any consistent registry: it stays so, and answers and state are the reference model's from the state it holds.
-    follows : {first last : Registry} {calls : List Call} {answers : List Answer} → Chain first calls answers last → Consistent first
-        → Consistent last
-        × (map answerOf answers ≡ model.answers (stateIn first) calls)
-        × (stateIn last ≡ final (stateIn first) calls)
-        × All NotSpoilt answers
-    follows none k = (k, refl, refl, tt)
-    follows (call {calls = calls} p more) k =
-        let (kept, answered, state, never) = follows more (p .is-consistent k) in (
-          kept,
-          λ i. p .answer k i ∷ (answered ∙ ap (λ s. model.answers s calls) (p .next k)) i,
-          state ∙ ap (λ s. final s calls) (p .next k),
-          (not-spoilt p k, never),
-        )

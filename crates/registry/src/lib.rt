@@ -1,30 +1,31 @@
 // The registry (document 01, "The book"): opened on a table text, and direct calls on it, which take any registry and
-// answer 42 first. On columns that are known to be consistent `admission` carries out an order without that check.
+// answer 42 first. On arrays that are known to be consistent `admission` carries out an order without that check.
 //
-// The columns are those of `queue_table` (links, queues), `flow_store` (slots, pool) and `figures` (sums).
+// The arrays are those of `queue_table` (table), `flow_store` (slots, pool) and `figures` (sums).
 ghost use mathlib.Core.Path.{_≡_};
 ghost use mathlib.Core.Bool.{true, false};
 ghost use lib.ListN.{length};
 ghost use Rattle.model.specs.Columns.{lines};
-ghost use Rattle.model.specs.Reference as model;
-ghost use Rattle.queue_table.specs.View.{linksIn};
+ghost use Rattle.model.specs.Orders.{registering, releasing, kindNumber};
+ghost use Rattle.model.specs.Reference.{onlyLine};
+ghost use Rattle.orders.specs.View.{kindOf};
+ghost use Rattle.figures.specs.View.{sumNumbers};
 ghost use Rattle.recount.specs.View.{Countable, Recounted};
 ghost use Rattle.admission.specs.View.{Kept};
-ghost use Rattle.registry.specs.View.{OpensOn, OtherFigures, Sized, Checked, kindOf, callOf, Performs};
+ghost use Rattle.registry.specs.View.{OpensOn, OtherFigures, Sized, Guarded, callOf, Performs};
 use admission::Answer;
+use causes::Cause;
 use figures::SUMS;
 use flow_store::POOL;
 use flow_store::SLOT_NUMBERS;
 use flow_store::SLOTS;
-use queue_table::LINK_NUMBERS;
-use queue_table::QUEUE_NUMBERS;
+use orders::Kind;
+use queue_table::TABLE_NUMBERS;
 use queue_table::Verdict;
 
-// The registry: a queue table of `count` links, 256 slots, 1,024 hop entries and the figures of 512 queues.
+// The registry: the queue table, the slots with their pool of hop entries, and the figures of all queues.
 pub struct Registry {
-    pub count: usize,
-    pub links: [u32; LINK_NUMBERS],
-    pub queues: [u32; QUEUE_NUMBERS],
+    pub table: [u32; TABLE_NUMBERS],
     pub slots: [u32; SLOT_NUMBERS],
     pub pool: [u32; POOL],
     pub sums: [u64; SUMS],
@@ -42,122 +43,73 @@ pub struct Called {
     pub registry: Registry,
 }
 
-// Which call it is.
-pub enum Kind {
-    Register,
-    Release,
-}
-
 // Whether the figures are those of the held flows.
-fn figures_right(queues: &[u32], slots: &[u32], pool: &[u32], sums: &[u64]) -> bool
-    requires { ⌜ Countable (now queues) (now slots) (now pool) × (length (now sums) ≡ 1536) ⌝ }
-    ensures { λ r. ⌜ (r ≡ true → Recounted (now (queues .entry)) (now (slots .entry)) (now (pool .entry)) (now (sums .entry))) ⌝ }
-    ensures { λ r. ⌜ (r ≡ false → OtherFigures (now (queues .entry)) (now (slots .entry)) (now (pool .entry)) (now (sums .entry))) ⌝ }
+fn figures_right(table: &[u32], slots: &[u32], pool: &[u32], sums: &[u64]) -> bool
+    requires { ⌜ Countable (now table) (now slots) (now pool) × (length (now sums) ≡ sumNumbers) ⌝ }
+    ensures { λ r. ⌜ (r ≡ true → Recounted (now (table .entry)) (now (slots .entry)) (now (pool .entry)) (now (sums .entry))) ⌝ }
+    ensures { λ r. ⌜ (r ≡ false → OtherFigures (now (table .entry)) (now (slots .entry)) (now (pool .entry)) (now (sums .entry))) ⌝ }
 {
     let mut fresh = [0u64; SUMS];
-    recount::recount(queues, slots, pool, &mut fresh);
-    recount::same(&fresh, sums)
+    recount::recount(table, slots, pool, &mut fresh);
+    figures::same(&fresh, sums)
 }
 
-// Whether columns of any content are a consistent registry (42).
-fn is_consistent(
-    n: usize,
-    links: &[u32],
-    queues: &[u32],
-    slots: &[u32],
-    pool: &[u32],
-    sums: &[u64],
-) -> bool
-    requires { ⌜ Sized (now links) (now queues) (now slots) (now pool) (now sums) ⌝ }
-    ensures { λ r. ⌜ (r ≡ true → Kept n (now (links .entry)) (now (queues .entry)) (now (slots .entry)) (now (pool .entry)) (now (sums .entry))) ⌝ }
-    ensures { λ r. ⌜ (r ≡ false → Kept n (now (links .entry)) (now (queues .entry)) (now (slots .entry)) (now (pool .entry)) (now (sums .entry)) → ⊥) ⌝ }
+// Whether arrays of any content are a consistent registry (42).
+fn is_consistent(table: &[u32], slots: &[u32], pool: &[u32], sums: &[u64]) -> bool
+    requires { ⌜ Sized (now table) (now slots) (now pool) (now sums) ⌝ }
+    ensures { λ r. ⌜ (r ≡ true → Kept (now (table .entry)) (now (slots .entry)) (now (pool .entry)) (now (sums .entry))) ⌝ }
+    ensures { λ r. ⌜ (r ≡ false → Kept (now (table .entry)) (now (slots .entry)) (now (pool .entry)) (now (sums .entry)) → ⊥) ⌝ }
 {
     if (POOL as u64) < flow_store::hop_sum(slots, SLOTS) {
         return false;
     }
-    if !queue_table::consistent(n, links, queues) {
+    if !queue_table::consistent(table) {
         return false;
     }
-    if !flow_check::held_flows(n, links, queues, slots, pool) {
+    if !flow_check::held_flows(table, slots, pool) {
         return false;
     }
-    if !figures_right(queues, slots, pool, sums) {
+    if !figures_right(table, slots, pool, sums) {
         return false;
     }
     if !figures::bounded(sums) {
         return false;
     }
-    figures::links_meet(n, links, queues, sums)
+    figures::links_meet(table, sums)
 }
 
-// The order of a direct call's bytes, on columns of any content: 42 first.
-fn call_columns(
-    kind: u32,
+// The order of a direct call's bytes, on arrays of any content: 42 first.
+fn call_arrays(
+    kind: Kind,
     bytes: &[u8],
-    n: usize,
-    links: &[u32],
-    queues: &[u32],
+    table: &[u32],
     slots: &mut [u32],
     pool: &mut [u32],
     sums: &mut [u64],
 ) -> Answer
-    requires { ⌜ Sized (now links) (now queues) (now slots) (now pool) (now sums) ⌝ }
-    ensures { λ r. ⌜ Checked (model.onlyLine kind (lines (now (bytes .entry)))) n (now (links .entry)) (now (queues .entry)) (now (slots .entry)) (now (pool .entry)) (now (sums .entry)) (now (slots .exit)) (now (pool .exit)) (now (sums .exit)) r ⌝ }
+    requires { ⌜ Sized (now table) (now slots) (now pool) (now sums) ⌝ }
+    ensures { λ r. ⌜ Guarded (onlyLine (kindNumber (kindOf kind)) (lines (now (bytes .entry)))) (now (table .entry)) (now (slots .entry)) (now (pool .entry)) (now (sums .entry)) (now (slots .exit)) (now (pool .exit)) (now (sums .exit)) r ⌝ }
 {
-    if !is_consistent(n, links, queues, &slots[..], &pool[..], &sums[..]) {
-        return Answer::Refused(42, 0, 0);
+    if !is_consistent(table, &slots[..], &pool[..], &sums[..]) {
+        return Answer::Refused(Cause::Inconsistent);
     }
     let line = orders::read_call(kind, bytes);
     let order = line.order;
-    let hop_links = line.links;
-    let hop_levels = line.levels;
-    admission::perform(
-        order,
-        &hop_links,
-        &hop_levels,
-        n,
-        links,
-        queues,
-        slots,
-        pool,
-        sums,
-    )
-}
-
-// Document 01's number of a kind.
-fn number_of(kind: Kind) -> u32
-    ensures { λ r. ⌜ r ≡ model.kindNumber (kindOf kind) ⌝ }
-{
-    match kind {
-        Kind::Register => 1,
-        Kind::Release => 2,
-    }
+    let hops = line.hops;
+    admission::perform(order, &hops, table, slots, pool, sums)
 }
 
 // A direct call of either kind on any registry whatever.
 fn call(registry: Registry, kind: Kind, bytes: &[u8]) -> Called
     ensures { λ r. ⌜ Performs registry (callOf (kindOf kind) (now (bytes .entry))) r ⌝ }
 {
-    let count = registry.count;
-    let links = registry.links;
-    let queues = registry.queues;
+    let table = registry.table;
     let mut slots = registry.slots;
     let mut pool = registry.pool;
     let mut sums = registry.sums;
-    let answer = call_columns(
-        number_of(kind),
-        bytes,
-        count,
-        &links,
-        &queues,
-        &mut slots,
-        &mut pool,
-        &mut sums,
-    );
+    let answer = call_arrays(kind, bytes, &table, &mut slots, &mut pool, &mut sums);
     let after = Registry {
-        count,
-        links,
-        queues,
+        table,
         slots,
         pool,
         sums,
@@ -170,14 +122,14 @@ fn call(registry: Registry, kind: Kind, bytes: &[u8]) -> Called
 
 // Registers the flow of one order line with its LF.
 pub fn register(registry: Registry, bytes: &[u8]) -> Called
-    ensures { λ r. ⌜ Performs registry (callOf model.registering (now (bytes .entry))) r ⌝ }
+    ensures { λ r. ⌜ Performs registry (callOf registering (now (bytes .entry))) r ⌝ }
 {
     call(registry, Kind::Register, bytes)
 }
 
 // Releases the flow that one order line with its LF names.
 pub fn release(registry: Registry, bytes: &[u8]) -> Called
-    ensures { λ r. ⌜ Performs registry (callOf model.releasing (now (bytes .entry))) r ⌝ }
+    ensures { λ r. ⌜ Performs registry (callOf releasing (now (bytes .entry))) r ⌝ }
 {
     call(registry, Kind::Release, bytes)
 }
@@ -192,29 +144,15 @@ pub fn apply(registry: Registry, kind: Kind, bytes: &[u8]) -> Called
     }
 }
 
-// How many links a table has; none where it is refused.
-fn links_in(verdict: Verdict) -> usize
-    ensures { λ r. ⌜ r ≡ linksIn verdict ⌝ }
-{
-    match verdict {
-        Verdict::Accepted(n) => n,
-        Verdict::Refused(_, _) => 0,
-    }
-}
-
 // An empty registry on a table text; without queues where the text is refused.
 pub fn open(text: &[u8]) -> Opened
     ensures { λ r. ⌜ OpensOn (now (text .entry)) r ⌝ }
 {
-    let table = queue_table::read_table(text);
-    let verdict = table.verdict;
-    let count = links_in(verdict);
-    let links = table.links;
-    let queues = table.queues;
+    let read = queue_table::read_table(text);
+    let verdict = read.verdict;
+    let table = read.numbers;
     let registry = Registry {
-        count,
-        links,
-        queues,
+        table,
         slots: [0; SLOT_NUMBERS],
         pool: [0; POOL],
         sums: [0; SUMS],

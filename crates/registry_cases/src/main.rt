@@ -2,21 +2,22 @@
 // o01, .. one by one and prints what each is answered: code in 3 columns, slot in 4, link in 4 and level in 2.
 //
 // What follows an r at a line's start is handed to `release`, every other line to `register`. A line that starts with x isn't
-// handed on: it sets one number of the registry. Column 2-3 (0 the number of links, 1 links, 2 queues, 3 slots, 4 hop
-// entries, 5 figures), index 4-8, the number 9-17.
+// handed on: it sets one number of the registry. Array 2-3 (0 the table, 1 slots, 2 hop entries, 3 figures), index 4-8, the
+// number 9-17.
 use admission::Answer;
 use columns::Field;
 use columns::NextLine;
 use libc::STDOUT_FILENO;
-use registry::Kind;
+use orders::Kind;
+use queue_table::TABLE_BYTES;
 use registry::Registry;
 
-fn show(code: u32, slot: u32, link: u32, level: u32) {
+// One byte above the longest table text.
+const TABLE: usize = TABLE_BYTES + 1;
+
+fn show(answer: Answer) {
     let mut out = *b"             \n";
-    columns::write_at(&mut out, 1, 3, columns::wide(code));
-    columns::write_at(&mut out, 4, 7, columns::wide(slot));
-    columns::write_at(&mut out, 8, 11, columns::wide(link));
-    columns::write_at(&mut out, 12, 13, columns::wide(level));
+    answer_line::write_answer(answer, &mut out);
     io::write_all(STDOUT_FILENO, &out);
 }
 
@@ -28,37 +29,31 @@ fn number(field: Field) -> u32 {
     }
 }
 
-fn set(column: &mut [u32], index: usize, n: u32) {
-    if index < column.len() {
-        column[index] = n;
+fn set(numbers: &mut [u32], index: usize, n: u32) {
+    if index < numbers.len() {
+        numbers[index] = n;
     }
 }
 
-fn set_figure(column: &mut [u64], index: usize, n: u32) {
-    if index < column.len() {
-        column[index] = n as u64;
+fn set_figure(sums: &mut [u64], index: usize, n: u32) {
+    if index < sums.len() {
+        sums[index] = n as u64;
     }
 }
 
-fn change(registry: Registry, column: u32, index: usize, n: u32) -> Registry {
-    let mut count = registry.count;
-    let mut links = registry.links;
-    let mut queues = registry.queues;
+fn change(registry: Registry, array: u32, index: usize, n: u32) -> Registry {
+    let mut table = registry.table;
     let mut slots = registry.slots;
     let mut pool = registry.pool;
     let mut sums = registry.sums;
-    match column {
-        0 => count = n as usize,
-        1 => set(&mut links, index, n),
-        2 => set(&mut queues, index, n),
-        3 => set(&mut slots, index, n),
-        4 => set(&mut pool, index, n),
+    match array {
+        0 => set(&mut table, index, n),
+        1 => set(&mut slots, index, n),
+        2 => set(&mut pool, index, n),
         _ => set_figure(&mut sums, index, n),
     }
     Registry {
-        count,
-        links,
-        queues,
+        table,
         slots,
         pool,
         sums,
@@ -68,10 +63,7 @@ fn change(registry: Registry, column: u32, index: usize, n: u32) -> Registry {
 fn call(registry: Registry, kind: Kind, line: &[u8]) -> Registry {
     let called = registry::apply(registry, kind, line);
     let answer = called.answer;
-    match answer {
-        Answer::Done(slot) => show(0, slot, 0, 0),
-        Answer::Refused(code, link, level) => show(code, 0, link, level),
-    }
+    show(answer);
     called.registry
 }
 
@@ -85,10 +77,10 @@ fn step(registry: Registry, line: &[u8]) -> Registry {
     if line[0] != b'x' {
         return call(registry, Kind::Register, line);
     }
-    let column = number(columns::read_at(line, 2, 3));
+    let array = number(columns::read_at(line, 2, 3));
     let index = number(columns::read_at(line, 4, 8)) as usize;
     let n = number(columns::read_at(line, 9, 17));
-    change(registry, column, index, n)
+    change(registry, array, index, n)
 }
 
 fn walk(text: &[u8], empty: Registry) {
@@ -116,7 +108,7 @@ fn judge_files(table_name: &[u8], orders_name: &[u8]) -> bool {
     if table_fd < 0 {
         return false;
     }
-    let mut table = [0u8; 20000];
+    let mut table = [0u8; TABLE];
     let n = io::read_full(table_fd, &mut table);
     libc::close(table_fd);
     let orders_fd = os::open_read(orders_name);

@@ -36,7 +36,7 @@ use denote.Triple.Entry.{onEntry}
 use denote.Triple.Spec.{Meets, tripleOf}
 use denote.Triple.Clauses.{Clauses, closing, ensured, lasts}
 use denote.Triple.Walked.{says, Stays, stay-ref, stay-none-slice, walkOf, goes-ref, goes-none-slice, Walks, ends-at, walked, walk-meets}
-use Rattle.model.specs.Reference.{Kind}
+use Rattle.model.specs.Orders.{Kind}
 use Rattle.admission.specs.declared.Answer.{Answer}
 use Rattle.admission.proofs.Answer as An
 use Rattle.admission.proofs.Answer.Laws as An′

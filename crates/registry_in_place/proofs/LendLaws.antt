@@ -30,7 +30,7 @@ use denote.Struct.Laws as LL
 use denote.Triple.Statement.{Triple}
 use denote.Triple.Call.{calls-at-last}
 use denote.Triple.Clauses.{ensured, lasts}
-use Rattle.model.specs.Reference.{Kind}
+use Rattle.model.specs.Orders.{Kind}
 use Rattle.admission.specs.declared.Answer.{Answer}
 use Rattle.admission.proofs.Answer as An
 use Rattle.registry.specs.declared.Registry.{Registry}

@@ -1,15 +1,16 @@
 // Direct calls that change the registry where it stands (document 01, "Where each form goes"): thin functions over the calls by value.
-ghost use Rattle.model.specs.Reference as model;
-ghost use Rattle.registry.specs.View.{kindOf, callOf, Performs};
+ghost use Rattle.model.specs.Orders.{registering, releasing};
+ghost use Rattle.orders.specs.View.{kindOf};
+ghost use Rattle.registry.specs.View.{callOf, Performs};
 ghost use Rattle.registry_in_place.specs.View.{InPlace};
 use admission::Answer;
+use orders::Kind;
 use registry::Called;
-use registry::Kind;
 use registry::Registry;
 
 // Registers the flow of one order line with its LF.
 pub fn register(registry: &mut Registry, bytes: &[u8]) -> Answer
-    ensures { λ r. ⌜ InPlace (now (registry .entry)) (callOf model.registering (now (bytes .entry))) r (now (registry .exit)) ⌝ }
+    ensures { λ r. ⌜ InPlace (now (registry .entry)) (callOf registering (now (bytes .entry))) r (now (registry .exit)) ⌝ }
 {
     let called = registry::register(*registry, bytes);
     *registry = called.registry;
@@ -18,7 +19,7 @@ pub fn register(registry: &mut Registry, bytes: &[u8]) -> Answer
 
 // Releases the flow that one order line with its LF names.
 pub fn release(registry: &mut Registry, bytes: &[u8]) -> Answer
-    ensures { λ r. ⌜ InPlace (now (registry .entry)) (callOf model.releasing (now (bytes .entry))) r (now (registry .exit)) ⌝ }
+    ensures { λ r. ⌜ InPlace (now (registry .entry)) (callOf releasing (now (bytes .entry))) r (now (registry .exit)) ⌝ }
 {
     let called = registry::release(*registry, bytes);
     *registry = called.registry;

@@ -5,35 +5,41 @@
 // - where the list doesn't close with a whole call, `end` and the offset of what follows the last one in 10 columns;
 // - each queue of the table: link in 4, level in 2, rate sum in 12, burst sum in 15 and largest frame in 5;
 // - each held slot: place in 4 columns, then the columns of its order line from the third on.
-ghost use Prim.Native.Nat.{_≤_, _<_};
+ghost use Prim.Native.Nat.{_+_, _≤_, _<_};
 ghost use mathlib.Core.Path.{_≡_};
 ghost use lib.ListN.{length};
+ghost use Rattle.model.specs.Sizes.{queuesMost, hopsMost, orderColumns, slotCount};
+ghost use Rattle.queue_table.specs.View.{WellFormed};
 ghost use Rattle.flow_store.specs.View.{Store};
+ghost use Rattle.figures.specs.View.{sumNumbers};
 ghost use Rattle.registry.specs.View.{Consistent};
-use figures::QUEUES;
-use flow_store::BURSTS;
-use flow_store::DEADLINES;
-use flow_store::FRAMES;
-use flow_store::HOPS;
-use flow_store::RATES;
 use flow_store::SLOTS;
 use libc::STDOUT_FILENO;
+use orders::Flow;
+use orders::HEAD_COLUMNS;
+use orders::HOP_COLUMNS;
+use orders::MOST_HOPS;
+use queue_table::QUEUES;
+use queue_table::TABLE_BYTES;
 use queue_table::Verdict;
 use recording::ANSWER;
 use recording::Form;
 use registry::Registry;
 
-// A table text above 18,944 bytes is refused for its length alone.
-const TABLE: usize = 18_945;
+// One byte above the longest table text: such a text is refused for its length alone.
+const TABLE: usize = TABLE_BYTES + 1;
 
 // Only so many bytes of calls.txt count.
 const CALLS: usize = 200_000;
 
 // An answer line to each of 22,223 calls: none takes less than 9 bytes of the file.
-const ANSWERS: usize = 14 * 22_223;
+const ANSWERS: usize = ANSWER * 22_223;
 
-// Columns of a slot's line with 12 hops, and LF.
-const SLOT: usize = 116;
+// Columns of a slot's line before its hops: 4 in the place of an order line's first 2.
+const HEAD: usize = HEAD_COLUMNS + 2;
+
+// The bytes of a slot's line with the most hops, and LF.
+const SLOT_LINE: usize = HEAD + HOP_COLUMNS * MOST_HOPS + 1;
 
 // How many bytes of the file were read; none where it can't be opened.
 fn read_file(name: &[u8], text: &mut [u8]) -> usize
@@ -56,10 +62,10 @@ fn put(line: &mut [u8], first: usize, last: usize, n: u32)
 
 fn show_verdict(verdict: Verdict) {
     match verdict {
-        Verdict::Accepted(_) => {}
-        Verdict::Refused(code, line) => {
+        Verdict::Accepted => {}
+        Verdict::Refused(fault, line) => {
             let mut out = *b"         \n";
-            put(&mut out, 1, 3, code);
+            put(&mut out, 1, 3, queue_table::fault_code(fault));
             put(&mut out, 4, 9, line);
             io::write_all(STDOUT_FILENO, &out);
         }
@@ -72,30 +78,31 @@ fn show_end(offset: usize) {
     io::write_all(STDOUT_FILENO, &out);
 }
 
-// The figures of queue e: link and level counted from 0 are e / 8 and e % 8.
+// The figures of queue e.
 fn show_queue(e: usize, sums: &[u64])
-    requires { ⌜ length (now sums) ≡ 1536 ⌝ }
+    requires { ⌜ (e < queuesMost) × (length (now sums) ≡ sumNumbers) ⌝ }
 {
-    if 511 < e {
-        return;
-    }
+    let own = figures::figure(e, sums);
+    let rate = own.rate;
+    let burst = own.burst;
+    let frame = own.frame;
     let mut out = *b"                                      \n";
-    columns::write_at(&mut out, 1, 4, (e / 8 + 1) as u64);
-    columns::write_at(&mut out, 5, 6, (e % 8 + 1) as u64);
-    columns::write_at(&mut out, 7, 18, sums[3 * e]);
-    columns::write_at(&mut out, 19, 33, sums[3 * e + 1]);
-    columns::write_at(&mut out, 34, 38, sums[3 * e + 2]);
+    let hop = queue_table::hop_at(e as u32);
+    put(&mut out, 1, 4, hop.link);
+    put(&mut out, 5, 6, hop.level);
+    columns::write_at(&mut out, 7, 18, rate.0);
+    columns::write_at(&mut out, 19, 33, burst.0);
+    columns::write_at(&mut out, 34, 38, frame.0);
     io::write_all(STDOUT_FILENO, &out);
 }
 
-// The queues of the first n links, link by link and level by level.
-fn show_queues(n: usize, links: &[u32], sums: &[u64])
-    requires { ⌜ (length (now links) ≡ 256) × (length (now sums) ≡ 1536) ⌝ }
+// The queues of the table, link by link and level by level.
+fn show_queues(table: &[u32], sums: &[u64])
+    requires { ⌜ WellFormed (now table) × (length (now sums) ≡ sumNumbers) ⌝ }
 {
     let mut e = 0;
     while e < QUEUES {
-        let levels = columns::wide(links[4 * (e / 8) + 3]);
-        if e / 8 < n && ((e % 8) as u64) < levels {
+        if queue_table::is_queue(e, table) {
             show_queue(e, sums);
         }
         e += 1;
@@ -103,59 +110,60 @@ fn show_queues(n: usize, links: &[u32], sums: &[u64])
 }
 
 // The columns of a flow before its hops, from column 5 on.
-fn write_flow(slot: usize, slots: &[u32], out: &mut [u8])
-    requires { ⌜ (slot < 256) × ((length (now slots) ≡ 1536) × (length (now out) ≡ 116)) ⌝ }
+fn write_flow(flow: Flow, out: &mut [u8])
+    requires { ⌜ length (now out) ≡ orderColumns + 3 ⌝ }
 {
-    put(out, 5, 10, slots[slot]);
-    put(out, 11, 19, slots[RATES + slot]);
-    put(out, 20, 27, slots[BURSTS + slot]);
-    put(out, 28, 32, slots[FRAMES + slot]);
-    put(out, 33, 40, slots[DEADLINES + slot]);
-    put(out, 41, 43, slots[HOPS + slot]);
+    let share = flow.share;
+    put(out, 5, 10, flow.number);
+    columns::write_at(out, 11, 19, share.rate.0);
+    columns::write_at(out, 20, 27, share.burst.0);
+    columns::write_at(out, 28, 32, share.frame.0);
+    columns::write_at(out, 33, 40, flow.deadline.0);
+    put(out, 41, 43, flow.hops);
 }
 
-// Its hops, six columns each.
+// Its hops.
 fn write_hops(entries: &[u32], out: &mut [u8])
-    requires { ⌜ (length (now entries) ≤ 12) × (length (now out) ≡ 116) ⌝ }
+    requires { ⌜ (length (now entries) ≤ hopsMost) × (length (now out) ≡ orderColumns + 3) ⌝ }
 {
     let mut k = 0;
     while k < entries.len() {
-        let entry = columns::wide(entries[k]);
-        let at = 44 + 6 * k;
-        columns::write_at(out, at, at + 3, entry / 8 + 1);
-        columns::write_at(out, at + 4, at + 5, entry % 8 + 1);
+        let hop = queue_table::hop_at(entries[k]);
+        let at = HEAD + HOP_COLUMNS * k + 1;
+        put(out, at, at + 3, hop.link);
+        put(out, at + 4, at + 5, hop.level);
         k += 1;
     }
 }
 
 // A held slot's line.
-fn show_flow(slot: usize, slots: &[u32], entries: &[u32])
-    requires { ⌜ (slot < 256) × ((length (now slots) ≡ 1536) × (length (now entries) ≤ 12)) ⌝ }
+fn show_flow(slot: usize, flow: Flow, entries: &[u32])
+    requires { ⌜ (slot < slotCount) × (length (now entries) ≤ hopsMost) ⌝ }
 {
-    let mut out = [b' '; SLOT];
+    let mut out = [b' '; SLOT_LINE];
     columns::write_at(&mut out, 1, 4, (slot + 1) as u64);
-    write_flow(slot, slots, &mut out);
+    write_flow(flow, &mut out);
     write_hops(entries, &mut out);
-    let end = 43 + 6 * entries.len();
+    let end = HEAD + HOP_COLUMNS * entries.len();
     out[end] = b'\n';
     let next = end + 1;
     io::write_all(STDOUT_FILENO, &out[..next]);
 }
 
-// A slot's line where it is held: a path has 1 to 12 hops.
+// A slot's line where it is held: a path has 1 to MOST_HOPS hops.
 fn show_slot(slot: usize, slots: &[u32], pool: &[u32])
-    requires { ⌜ Store (now slots) (now pool) × (slot < 256) ⌝ }
+    requires { ⌜ Store (now slots) (now pool) × (slot < slotCount) ⌝ }
 {
-    let hops = slots[HOPS + slot];
+    let hops = flow_store::hops_at(slot, slots);
     if hops == 0 {
         return;
     }
-    if 12 < hops {
+    if MOST_HOPS < hops {
         return;
     }
-    let mut entries = [0u32; orders::MOST_HOPS];
+    let mut entries = [0u32; MOST_HOPS];
     let n = flow_store::path_into(slot, slots, pool, &mut entries);
-    show_flow(slot, slots, &entries[..n]);
+    show_flow(slot, flow_store::flow_at(slot, slots), &entries[..n]);
 }
 
 fn show_slots(slots: &[u32], pool: &[u32])
@@ -171,12 +179,11 @@ fn show_slots(slots: &[u32], pool: &[u32])
 fn show_registry(registry: Registry)
     requires { ⌜ Consistent registry ⌝ }
 {
-    let count = registry.count;
-    let links = registry.links;
+    let table = registry.table;
     let slots = registry.slots;
     let pool = registry.pool;
     let sums = registry.sums;
-    show_queues(count, &links, &sums);
+    show_queues(&table, &sums);
     show_slots(&slots, &pool);
 }
 

@@ -1,7 +1,13 @@
 // Reads table texts, the files t00, t01, .. beside it until one is missing, and prints what each says: code in 3 columns,
 // line in 6, links in 4 and queues in 5.
+ghost use Rattle.queue_table.specs.View.{WellFormed};
 use libc::STDOUT_FILENO;
+use queue_table::QUEUES;
+use queue_table::TABLE_BYTES;
 use queue_table::Verdict;
+
+// One byte above the longest table text, so that 5 is seen.
+const TEXT: usize = TABLE_BYTES + 1;
 
 fn show(code: u32, line: u32, links: u64, queues: u32) {
     let mut out = *b"                  \n";
@@ -12,29 +18,35 @@ fn show(code: u32, line: u32, links: u64, queues: u32) {
     io::write_all(STDOUT_FILENO, &out);
 }
 
-// The levels of the first n links. A sum that is only shown may wrap.
-fn count_queues(n: usize, links: &[u32]) -> u32 {
-    let mut sum: u32 = 0;
-    let mut i = 3;
-    let mut left = n;
-    while i < links.len() {
-        if left == 0 {
-            return sum;
+fn count_queues(table: &[u32]) -> u32
+    requires { ⌜ WellFormed (now table) ⌝ }
+{
+    let mut count: u32 = 0;
+    let mut e: usize = 0;
+    while e < QUEUES {
+        let found = queue_table::is_queue(e, table);
+        e += 1;
+        if found {
+            count += 1;
         }
-        sum = std::num::wrapping_add_u32(sum, links[i]);
-        i += 4;
-        left -= 1;
     }
-    sum
+    count
+}
+
+fn show_table(table: &[u32])
+    requires { ⌜ WellFormed (now table) ⌝ }
+{
+    let links = queue_table::link_count(table);
+    show(0, 0, links as u64, count_queues(table));
 }
 
 fn judge(text: &[u8]) {
     let table = queue_table::read_table(text);
     let verdict = table.verdict;
-    let links = table.links;
+    let numbers = table.numbers;
     match verdict {
-        Verdict::Accepted(n) => show(0, 0, n as u64, count_queues(n, &links)),
-        Verdict::Refused(code, line) => show(code, line, 0, 0),
+        Verdict::Accepted => show_table(&numbers),
+        Verdict::Refused(fault, line) => show(queue_table::fault_code(fault), line, 0, 0),
     }
 }
 
@@ -44,7 +56,7 @@ fn judge_file(name: &[u8]) -> bool {
     if fd < 0 {
         return false;
     }
-    let mut text = [0u8; 20000];
+    let mut text = [0u8; TEXT];
     let n = io::read_full(fd, &mut text);
     libc::close(fd);
     judge(&text[..n]);

@@ -1,13 +1,18 @@
 // Bytes on the wire, kilobits per second and microseconds, each a type of its own, and the named formulas that take
 // one to another (document 01, "Units" and "The book").
 //
-// Why nothing overflows. A rate is at most 10,000,000 kbit/s: a link's speed is at most 10,000 Mbit/s, and the rate rule
-// comes before every formula that takes a rate sum. A path has at most 12 hops and a threshold is at most 100,000 µs, so
-// thresholds sum to at most 1,200,000 and a burst at a hop is below 2^31. No more than 256 flows meet at a link, so that
-// burst sums and Y together stay below 2^40. Then 8000 × 2^40 and 10,000,000 × 2^40 + 10,000,000 are below 2^64.
+// Why nothing overflows. A rate is at most 10,000,000 kbit/s: a flow's by its range, a sum because a link's speed is at most
+// 10,000 Mbit/s and the rate rule comes before every formula that takes one. A path has at most 12 hops and a threshold is at most 100,000 µs, so
+// thresholds sum to at most 1,200,000 and a burst at a hop is below 2^31. A queue's backlog passed its check, so its burst
+// sum is at most its buffer, below 2^32; with one flow more, the eight burst sums of a link and Y stay below 2^40, whatever
+// the number of flows. Then 8000 × 2^40 and 10,000,000 × 2^40 + 10,000,000 are below 2^64.
 ghost use mathlib.Core.Path.{_≡_};
-ghost use Prim.Native.Nat.{_+_, _*_, _^_, _≤_, _<_};
+ghost use Prim.Native.Nat.{_+_, _*_, _^_, max, _≤_, _<_};
+ghost use Rattle.model.specs.Sizes.{thresholdsMost};
 ghost use Rattle.model.specs.Formula.{ceilDiv, burstAtHop, residual, withinRate, delayBound, backlogBound};
+ghost use Rattle.model.specs.Aggregates.{grown};
+ghost use Rattle.model.specs.WithFlow.{together};
+ghost use Rattle.units.specs.View.{aggregateOf, AtSource};
 
 // Bytes on the wire.
 pub struct Bytes(pub u64);
@@ -17,6 +22,14 @@ pub struct Rate(pub u64);
 
 // Microseconds.
 pub struct Micros(pub u64);
+
+// Rate, burst and largest frame: of one flow at a hop, its share there, or summed over the flows of a queue (document 01: its
+// figures; the largest frame is 0 where none).
+pub struct Aggregate {
+    pub rate: Rate,
+    pub burst: Bytes,
+    pub frame: Bytes,
+}
 
 // The quotient rounded up.
 fn ceil_div(a: u64, b: u64) -> u64
@@ -28,7 +41,7 @@ fn ceil_div(a: u64, b: u64) -> u64
 
 // The burst of a flow at a hop, where the thresholds of the earlier hops sum to `sum`.
 pub fn burst_at_hop(rate: Rate, burst: Bytes, sum: Micros) -> Bytes
-    requires { ⌜ (rate .0 ≤ 10000000) × ((burst .0 ≤ 1000000) × (sum .0 ≤ 1200000)) ⌝ }
+    requires { ⌜ (rate .0 ≤ 10000000) × ((burst .0 ≤ 1000000) × (sum .0 ≤ thresholdsMost)) ⌝ }
     ensures { λ r. ⌜ r .0 ≡ burstAtHop (rate .0) (burst .0) (sum .0) ⌝ }
 {
     let r = rate.0;
@@ -76,4 +89,46 @@ pub fn backlog_bound(rate: Rate, burst: Bytes, y: Bytes, res: Rate) -> Bytes
     let y = y.0;
     let c = res.0;
     Bytes(b + ceil_div(r * y, c))
+}
+
+pub fn larger(a: Bytes, b: Bytes) -> Bytes
+    ensures { λ r. ⌜ r .0 ≡ max (a .0) (b .0) ⌝ }
+{
+    let x = a.0;
+    let y = b.0;
+    if x < y {
+        return b;
+    }
+    a
+}
+
+impl Aggregate {
+    // The aggregate with a flow's share counted in.
+    pub fn with_flow(self, share: Aggregate) -> Aggregate
+        requires { ⌜ (self .rate .0 + share .rate .0 ≤ 2 ^ 40) × (self .burst .0 + share .burst .0 ≤ 2 ^ 40) ⌝ }
+        ensures { λ r. ⌜ aggregateOf r ≡ together (aggregateOf self) (aggregateOf share) ⌝ }
+    {
+        let r = self.rate;
+        let b = self.burst;
+        let f = self.frame;
+        let rate = share.rate;
+        let burst = share.burst;
+        let frame = share.frame;
+        Aggregate {
+            rate: Rate(r.0 + rate.0),
+            burst: Bytes(b.0 + burst.0),
+            frame: larger(f, frame),
+        }
+    }
+
+    // A flow's share at a hop: `self` is the one at its source, and `sum` is S over the earlier hops.
+    pub fn grown(self, sum: Micros) -> Aggregate
+        requires { ⌜ AtSource (aggregateOf self) × (sum .0 ≤ thresholdsMost) ⌝ }
+        ensures { λ r. ⌜ aggregateOf r ≡ grown (aggregateOf self) (sum .0) ⌝ }
+    {
+        let rate = self.rate;
+        let frame = self.frame;
+        let burst = burst_at_hop(rate, self.burst, sum);
+        Aggregate { rate, burst, frame }
+    }
 }

@@ -1,12 +1,12 @@
 -- `admission::perform` meets its contract, order by order.
 -- Assumes nothing.
 use borrow.Author.Needs.{needs}
-use mathlib.Core.Path.{_≡_, refl, sym, ap, subst}
+use mathlib.Core.Path.{_≡_, sym, ap, subst}
 use Rattle.model.specs.Orders as line
 use Rattle.model.specs.Reference.{State}
 use Rattle.orders.specs.declared.Order.{Order}
-use Rattle.orders.specs.Reading.{orderWith}
-use Rattle.admission.specs.declared.Answer.the-variants.{Refused}
+use Rattle.orders.specs.View.{orderWith}
+use Rattle.causes.specs.declared.Cause.the-variants.{Malformed, OutOfRange}
 use Rattle.admission.specs.View.{stateOf, OrderRead}
 use Rattle.admission.proofs.StepLaws.{line-cause}
 use Rattle.admission.proofs.KeptLaws.{stepped-refused, stepped-same}
@@ -16,34 +16,34 @@ use Rattle.admission.proofs.perform.Tie as tie
 -- The order that a case of the match found.
 module _ (c : tie.Start) where
   abbrev s : State
-  s = stateOf (c .args .n) (c .args .links .now) (c .args .queues .now) (c .args .slots .now) (c .args .pool .now)
+  s = stateOf (c .args .table .now) (c .args .slots .now) (c .args .pool .now)
 
-  as-read : (o : Order) → c .args .order ≡ o → orderWith o (c .args .hop-links .now) (c .args .hop-levels .now) ≡ orderWith (c .args .order) (c .args .hop-links .now) (c .args .hop-levels .now)
-  as-read o e = sym (ap (λ (x : Order). orderWith x (c .args .hop-links .now) (c .args .hop-levels .now)) e)
+  as-read : (o : Order) → c .args .order ≡ o → orderWith o (c .args .hops .now) ≡ orderWith (c .args .order) (c .args .hops .now)
+  as-read o e = sym (ap (λ (x : Order). orderWith x (c .args .hops .now)) e)
 
 register-flow-requires : tie.Need-register-flow-requires
 register-flow-requires c κs =
-    let at = c .before .before .before .before .before .before .before .before .before .before .before .before .before in
-    (subst (λ (o : Order). OrderRead o (at .args .hop-links .now) (at .args .hop-levels .now)) (c .before .before .before .before .order .given .1) (at .pre .0), at .pre .1)
+    let at = c .before .before .before .before .before .before .before .before .before .before .before in
+    (subst (λ (o : Order). OrderRead o (at .args .hops .now)) (c .before .before .before .before .order .given .1) (at .pre .0), at .pre .1)
 
 release-flow-requires : tie.Need-release-flow-requires
-release-flow-requires c κs = c .before .before .before .before .before .before .before .before .before .before .before .before .before .pre .1
+release-flow-requires c κs = c .before .before .before .before .before .before .before .before .before .before .before .pre .1
 
 returns : tie.Need-returns
-returns c = stepped-same (as-read (c .before .before .before .before .before .before .before .before .before .before .before .before .before .before .before .before .before .before .before .before) _ (c .before .before .before .before .before .before .before .before .before .before .before .order .given .1)) (c .before .before .before .before .before .before .register-flow .ensures)
+returns c = stepped-same (as-read (c .before .before .before .before .before .before .before .before .before .before .before .before .before .before .before .before .before .before) _ (c .before .before .before .before .before .before .before .before .before .before .before .order .given .1)) (c .before .before .before .before .before .before .register-flow .ensures)
 
 returns-2 : tie.Need-returns-2
-returns-2 c = stepped-same (as-read (c .before .before .before .before .before .before .before .before .before .before .before .before .before .before .before .before .before .before .before .before) _ (c .before .before .before .before .before .before .before .before .before .before .before .order2 .given .1)) (c .before .before .before .before .before .before .release-flow .ensures)
+returns-2 c = stepped-same (as-read (c .before .before .before .before .before .before .before .before .before .before .before .before .before .before .before .before .before .before) _ (c .before .before .before .before .before .before .before .before .before .before .before .order2 .given .1)) (c .before .before .before .before .before .before .release-flow .ensures)
 
 returns-3 : tie.Need-returns-3
 returns-3 c =
-    let at = c .before .before .before .before .before .before .before .before .before in
-    stepped-same (as-read at _ (c .enum-told .given .1)) (stepped-refused _ _ _ _ _ _ (at .pre .1) (line.rejected 10) (Refused 10 0 0) (line-cause (s at) 10) refl)
+    let at = c .before .before .before .before .before .before .before in
+    stepped-same (as-read at _ (c .enum-told .given .1)) (stepped-refused _ _ _ _ (at .pre .1) (line.rejected 10) Malformed (line-cause (s at) 10))
 
 returns-4 : tie.Need-returns-4
 returns-4 c =
-    let at = c .before .before .before .before .before .before .before .before .before in
-    stepped-same (as-read at _ (c .enum-told2 .given .1)) (stepped-refused _ _ _ _ _ _ (at .pre .1) (line.rejected 11) (Refused 11 0 0) (line-cause (s at) 11) refl)
+    let at = c .before .before .before .before .before .before .before in
+    stepped-same (as-read at _ (c .enum-told2 .given .1)) (stepped-refused _ _ _ _ (at .pre .1) (line.rejected 11) OutOfRange (line-cause (s at) 11))
 
 pub perform-spec : {M : Type 1} → statement M
 perform-spec =

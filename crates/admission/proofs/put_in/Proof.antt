@@ -6,9 +6,8 @@ use Rattle.admission.proofs.put_in.Tie as tie
 
 add-path-requires : tie.Need-add-path-requires
 add-path-requires c κs =
-    let pre = c .before .before .before .before .before .before .before .before .before .before .before .before .before .before .before .before .pre in
-    let narrow = pre .0 .0 .narrow in
-    ((narrow .rate, (narrow .burst, narrow .frame)), (pre .0 .1, (pre .1 .0, pre .1 .1)))
+    let pre = c .before .before .before .before .before .before .before .before .before .before .before .before .before .before .pre in
+    (pre .0 .0 .narrow .share, (pre .0 .1, (pre .1 .0, pre .1 .1)))
 
 returns : tie.Need-returns
 returns c = (c .before .before .before .before .before .before .before .before .insert .ensures .0, (c .before .before .before .before .before .before .before .before .insert .ensures .1, c .before .before .add-path .ensures))

@@ -2,12 +2,14 @@
 -- Assumes nothing.
 use borrow.Author.Needs.{needs}
 use Prim.Native.Nat.{_<_}
-use mathlib.Core.Path.{_≡_, refl}
+use mathlib.Core.Path.{_≡_}
 use native.Mathlib.Omega.{arith}
+use Rattle.model.specs.Words.{firstIndex}
+use Rattle.model.specs.Sizes.{slotCount}
 use Rattle.model.specs.Orders.{release}
-use Rattle.model.specs.Reference.{firstIndex, holds}
+use Rattle.model.specs.Reference.{holds}
 use Rattle.flow_store.specs.View.{slotsOf}
-use Rattle.admission.specs.declared.Answer.the-variants.{Refused}
+use Rattle.causes.specs.declared.Cause.the-variants.{NumberNotHeld}
 use Rattle.admission.proofs.KeptLaws.{stepped-refused}
 use Rattle.admission.proofs.ReleaseLaws.{not-held, slot-inside, slot-count, stepped-released}
 use Rattle.admission.proofs.release_flow.Statement.{statement}
@@ -15,18 +17,18 @@ use Rattle.admission.proofs.release_flow.Tie as tie
 
 module _ (c : tie.After-find) where
   abbrev start : tie.Start
-  start = c .before .before .before .before .before .before .before
+  start = c .before .before .before .before .before .before
 
   found : c .find .result ≡ firstIndex (holds (start .args .number)) (slotsOf (start .args .slots .now) (start .args .pool .now))
   found = c .find .ensures (start .args .pool .now)
 
 -- A slot holds the number.
-inside : (c : tie.Else1) → c .before .find .result < 256
+inside : (c : tie.Else1) → c .before .find .result < slotCount
 inside c = slot-inside _ _ (start (c .before) .args .pool .now) _ (found (c .before)) (c .if1 .left)
 
 returns : tie.Need-returns
 returns c =
-    stepped-refused _ _ _ _ _ _ (start (c .before) .pre) (release _) (Refused 13 0 0) (not-held _ _ _ _ (found (c .before)) _ (c .if1 .taken)) refl
+    stepped-refused _ _ _ _ (start (c .before) .pre) (release _) NumberNotHeld (not-held _ _ _ _ (found (c .before)) _ (c .if1 .taken))
 
 take-out-requires : tie.Need-take-out-requires
 take-out-requires c κs =
@@ -34,11 +36,11 @@ take-out-requires c κs =
     let s = start (at .before) in
     (s .pre, (inside at, slot-count _ _ (s .args .pool .now) _ (found (at .before)) (at .if1 .left)))
 
-cast-t19 : tie.Need-cast-t19
-cast-t19 c = omega (arith, inside (c .before .before .before .before .before .before .before .before .before .before))
+cast-t18 : tie.Need-cast-t18
+cast-t18 c = omega (arith, inside (c .before .before .before .before .before .before .before .before .before .before))
 
-add-t20 : tie.Need-add-t20
-add-t20 c = omega (arith, inside (c .before .before .before .before .before .before .before .before .before .before))
+add-t19 : tie.Need-add-t19
+add-t19 c = omega (arith, inside (c .before .before .before .before .before .before .before .before .before .before))
 
 returns-2 : tie.Need-returns-2
 returns-2 c =
@@ -49,4 +51,4 @@ returns-2 c =
 pub release-flow-spec : {M : Type 1} → statement M
 release-flow-spec =
     tie.close
-    (tie.spec (λ c κs. search needs) (λ c. search needs) returns take-out-requires cast-t19 add-t20 (λ c. search needs) (λ c. search needs) (λ c. search needs) returns-2)
+    (tie.spec (λ c κs. search needs) (λ c. search needs) returns take-out-requires cast-t18 add-t19 (λ c. search needs) (λ c. search needs) (λ c. search needs) returns-2)

@@ -1,19 +1,20 @@
 -- `admit::run` is safe: the answers of a batch that was done stand in the area.
 -- Assumes nothing.
 use borrow.Author.Needs.{needs, length-unmapped}
-use Prim.Native.Nat.{_≤_}
+use Prim.Native.Nat.{_*_, _≤_}
 use mathlib.Core.Path.{_≡_, sym}
 use native.Mathlib.Omega.{arith}
 use lib.ListN.{length}
 use lib.Seq.{length-take-le}
+use Rattle.model.specs.Sizes.{orderLines, answerBytes}
 use Rattle.admit.proofs.DoneLaws.{done-lines}
 use Rattle.admit.proofs.run.Statement.{statement}
 use Rattle.admit.proofs.run.Tie as tie
 
-few : (c : tie.Else1) → c .before .before .devvonur-batch .result .line ≤ 2000
+few : (c : tie.Else1) → c .before .before .devvonur-batch .result .line ≤ orderLines
 few c = done-lines _ _ _ (c .before .before .devvonur-batch .ensures) (c .if1 .left)
 
-long : (c : tie.Else1) → length (c .before .before .devvonur-batch .last .1 .1 .0) ≡ 40000
+long : (c : tie.Else1) → length (c .before .before .devvonur-batch .last .1 .1 .0) ≡ answerBytes * orderLines
 long c = search (needs, length-unmapped)
 
 array-share-prefix-answers : tie.Need-array-share-prefix-answers

@@ -8,7 +8,7 @@ use lib.ListN.{drop}
 use Rattle.model.specs.Columns.{writtenAt}
 use Rattle.model.specs.Reference.{Answer}
 use Rattle.model.specs.Answers.{answerColumns}
-use Rattle.answer_line.specs.View.{numbersOf}
+use Rattle.answer_line.specs.View.{fieldsOf}
 use Rattle.answer_line.proofs.FieldLaws.{answer-written}
 use Rattle.answer_line.proofs.write_answer.Statement.{statement}
 use Rattle.answer_line.proofs.write_answer.Tie as tie
@@ -24,7 +24,7 @@ returns c =
     (c .before .before .before .before .before .before .before .before .before .before .before .before .write-at2 .ensures
     ∙ ap₂ (writtenAt 4 7) (c .before .before .before .before .before .before .before .before .before .before .before .before .before .wide2 .ensures)
     (c .before .before .before .before .before .before .before .before .before .before .before .before .before .before .before .before .before .write-at .ensures ∙ ap (λ (n : ℕ). writtenAt 1 3 n part) (c .before .before .before .before .before .before .before .before .before .before .before .before .before .before .before .before .before .before .wide .ensures))))
-    ∙ answer-written part (numbersOf (fields .result))
+    ∙ answer-written part (fieldsOf (fields .result))
     ∙ ap (λ (a : Answer). answerColumns a ++ drop 13 part) (fields .ensures)
 
 pub write-answer-spec : {M : Type 1} → statement M

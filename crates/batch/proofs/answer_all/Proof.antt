@@ -6,6 +6,7 @@ use mathlib.Core.Path.{sym, ap, _∙_}
 use native.Mathlib.Omega.{arith}
 use lib.ListN.{length}
 use borrow.Rule.Slice.PartMut.{putMid}
+use Rattle.model.specs.Sizes.{orderLines, answerBytes}
 use Rattle.model.specs.Columns.{lines}
 use Rattle.model.specs.Answers.{answerLine}
 use Rattle.model.specs.Batch.{doneBatch}
@@ -15,21 +16,21 @@ use Rattle.batch.proofs.answer_all.Statement.{statement}
 use Rattle.batch.proofs.answer_all.Tie as tie
 
 abbrev Inv-loop : tie.InvT-loop
-Inv-loop orders n links queues slots₀ pool₀ sums₀ answers₀ at₀ number₀ offset₀ slots pool sums answers at number offset =
-    Answering (doneBatch (stateOf n links queues slots₀ pool₀) (lines orders) answers₀ .area) orders n links queues slots pool sums (length answers₀) answers at number offset
+Inv-loop orders table slots₀ pool₀ sums₀ answers₀ at₀ number₀ offset₀ slots pool sums answers at number offset =
+    Answering (doneBatch (stateOf table slots₀ pool₀) (lines orders) answers₀ .area) orders table slots pool sums (length answers₀) answers at number offset
 
 abbrev μ-loop : tie.MeasureT-loop
-μ-loop orders n links queues slots₀ pool₀ sums₀ answers₀ at₀ number₀ offset₀ slots pool sums answers at number offset = length orders - at
+μ-loop orders table slots₀ pool₀ sums₀ answers₀ at₀ number₀ offset₀ slots pool sums answers at number offset = length orders - at
 
 -- There is room for the line that was answered.
 room : (c : tie.After-answer-next Inv-loop μ-loop)
-    → (c .before .before .before .before .before .loop .offset + 20 ≤ length (c .before .before .before .before .before .loop .answers)) × (c .before .before .before .before .before .loop .number + 1 ≤ 2000)
+    → (c .before .before .before .before .before .loop .offset + answerBytes ≤ length (c .before .before .before .before .before .loop .answers)) × (c .before .before .before .before .before .loop .number + 1 ≤ orderLines)
 room c = room-left (c .before .before .before .before .before .loop .inv) (c .answer-next .ensures)
 
 loop-holds : tie.Need-loop-holds Inv-loop μ-loop
 loop-holds c =
-    let start = c .before .before .before .before .before .before .before in
-    answering-first (start .args .orders .now) (start .args .n) (start .args .links .now) (start .args .queues .now) (start .args .slots .now) (start .args .pool .now) (start .args .sums .now) (start .args .answers .now) (start .pre .0) (start .pre .1)
+    let start = c .before .before .before .before .before .before in
+    answering-first (start .args .orders .now) (start .args .table .now) (start .args .slots .now) (start .args .pool .now) (start .args .sums .now) (start .args .answers .now) (start .pre .0) (start .pre .1)
 
 answer-next-requires : tie.Need-answer-next-requires Inv-loop μ-loop
 answer-next-requires c κs = (c .before .before .before .loop-test .taken, c .before .before .before .before .loop .inv .kept)
@@ -47,7 +48,7 @@ write-line-requires : tie.Need-write-line-requires Inv-loop μ-loop
 write-line-requires c κs = let at = c .before .before .before .before .before .before .before .before .before .before .before .before .loop in part-long (at .answers) (at .offset) (room (c .before .before .before .before .before .before .before) .0)
 
 add-offset : tie.Need-add-offset Inv-loop μ-loop
-add-offset c = omega (arith, room (c .before .before .before .before .before .before .before .before .before .before) .0, c .before .before .before .before .before .before .before .before .before .before .before .before .before .before .before .loop .inv .same-size, c .before .before .before .before .before .before .before .before .before .before .before .before .before .before .before .before .before .before .before .before .before .before .before .good)
+add-offset c = omega (arith, room (c .before .before .before .before .before .before .before .before .before .before) .0, c .before .before .before .before .before .before .before .before .before .before .before .before .before .before .before .loop .inv .same-size, c .before .before .before .before .before .before .before .before .before .before .before .before .before .before .before .before .before .before .before .before .before .before .good)
 
 loop-less : tie.Need-loop-less Inv-loop μ-loop
 loop-less c = omega (arith, c .before .before .before .before .before .before .before .before .before .before .answer-next .ensures .on, c .before .before .before .before .before .before .before .before .before .before .before .before .before .before .loop-test .taken)
@@ -61,13 +62,13 @@ loop-again c =
     (ap (putMid (at .offset) (length (at .answers) - at .offset) (at .answers)) (c .before .before .write-line .ensures) ∙ line-put (at .answers) line (at .offset) (room next .0))
 
 same-length : tie.Need-same-length Inv-loop μ-loop
-same-length c = c .before .loop .inv .kept .store .slots-long ∙ sym (c .before .before .before .before .before .before .before .before .before .pre .0 .store .slots-long)
+same-length c = c .before .loop .inv .kept .store .slots-long ∙ sym (c .before .before .before .before .before .before .before .before .pre .0 .store .slots-long)
 
 same-length-2 : tie.Need-same-length-2 Inv-loop μ-loop
-same-length-2 c = c .before .loop .inv .kept .store .pool-long ∙ sym (c .before .before .before .before .before .before .before .before .before .pre .0 .store .pool-long)
+same-length-2 c = c .before .loop .inv .kept .store .pool-long ∙ sym (c .before .before .before .before .before .before .before .before .pre .0 .store .pool-long)
 
 same-length-3 : tie.Need-same-length-3 Inv-loop μ-loop
-same-length-3 c = c .before .loop .inv .kept .figures .long ∙ sym (c .before .before .before .before .before .before .before .before .before .pre .0 .figures .long)
+same-length-3 c = c .before .loop .inv .kept .figures .long ∙ sym (c .before .before .before .before .before .before .before .before .pre .0 .figures .long)
 
 same-length-4 : tie.Need-same-length-4 Inv-loop μ-loop
 same-length-4 c = c .before .loop .inv .same-size

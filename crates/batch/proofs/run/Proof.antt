@@ -1,4 +1,4 @@
--- `batch::run` meets its contract: the columns are zeros. Assumes nothing.
+-- `batch::run` meets its contract: the arrays are zeros. Assumes nothing.
 use borrow.Author.Needs.{needs}
 use Rattle.batch.specs.View.{noFlows, noHops, noSums}
 use Rattle.batch.proofs.run.Statement.{statement}
@@ -6,7 +6,7 @@ use Rattle.batch.proofs.run.Tie as tie
 
 answer-all-requires : tie.Need-answer-all-requires
 unfolding noFlows noHops noSums
-answer-all-requires c κs = c .before .before .before .before .before .before .before .before .pre
+answer-all-requires c κs = c .before .before .before .before .before .before .before .pre
 
 returns : tie.Need-returns
 unfolding noFlows noHops

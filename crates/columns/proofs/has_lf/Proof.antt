@@ -5,7 +5,7 @@ use Prim.Native.Nat.{_-_, _≤_}
 use mathlib.Core.Path.{_≡_, _∙_, ap}
 use mathlib.Core.Logic.{⊎-elim}
 use native.Mathlib.Omega.{arith}
-use Rattle.columns.specs.Reading.{lfWithin}
+use Rattle.columns.specs.View.{lfWithin}
 use Rattle.columns.proofs.LineLaws.{lf-none, lf-here, lf-other}
 use Rattle.columns.proofs.has_lf.Statement.{statement}
 use Rattle.columns.proofs.has_lf.Tie as tie

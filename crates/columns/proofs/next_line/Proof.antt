@@ -6,7 +6,7 @@ use mathlib.Core.Path.{_∙_}
 use native.Mathlib.Omega.{arith}
 use lib.ListN.{length}
 use Rattle.model.specs.Laws.Columns.{line-ended, line-unended}
-use Rattle.columns.specs.Reading.{SameLine}
+use Rattle.columns.specs.View.{SameLine}
 use Rattle.columns.proofs.LineLaws.{line-on}
 use Rattle.columns.proofs.next_line.Statement.{statement}
 use Rattle.columns.proofs.next_line.Tie as tie

@@ -5,7 +5,7 @@ use Prim.Native.Nat.{_+_, _-_, _≤_}
 use mathlib.Core.Path.{sym, _∙_}
 use native.Mathlib.Omega.{arith}
 use lib.ListN.{length}
-use Rattle.columns.specs.Reading.{SameLine}
+use Rattle.columns.specs.View.{SameLine}
 use Rattle.columns.proofs.LineLaws.{line-begun, line-past}
 use Rattle.columns.proofs.skip_blocks.Statement.{statement}
 use Rattle.columns.proofs.skip_blocks.Tie as tie

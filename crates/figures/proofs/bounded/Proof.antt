@@ -7,19 +7,20 @@ use mathlib.Core.Bool.{true, false, false≢true}
 use mathlib.Core.List.{List}
 use mathlib.Core.Logic.{_↔_}
 use native.Mathlib.Omega.{arith}
+use Rattle.model.specs.Sizes.{queuesMost}
 use Rattle.model.specs.Laws.List.{before-next}
 use Rattle.model.specs.Formula as model
-use Rattle.link_check.specs.Levels.{aggregateOf}
+use Rattle.units.specs.View.{aggregateOf}
 use Rattle.figures.specs.View.{figureAt, Bounded}
 use Rattle.figures.proofs.BoundLaws.{Small, small-all, all-small}
 use Rattle.figures.proofs.bounded.Statement.{statement}
 use Rattle.figures.proofs.bounded.Tie as tie
 
 abbrev Inv-loop : tie.InvT-loop
-Inv-loop sums e₀ e = (e ≤ 512) × ((d : ℕ) → d < e → Small (figureAt sums d))
+Inv-loop sums e₀ e = (e ≤ queuesMost) × ((d : ℕ) → d < e → Small (figureAt sums d))
 
 abbrev μ-loop : tie.MeasureT-loop
-μ-loop sums e₀ e = 512 - e
+μ-loop sums e₀ e = queuesMost - e
 
 loop-holds : tie.Need-loop-holds Inv-loop μ-loop
 loop-holds c = (omega arith, λ d lt. absurd (omega arith))

@@ -1,23 +1,25 @@
 -- `figures::link_levels` meets its contract. The invariant: the levels before `p` are loaded.
 -- Assumes nothing.
 use borrow.Author.Needs.{needs}
-use Prim.Native.Nat.{_+_, _*_, _-_, _≤_}
+use Prim.Native.Nat.{_-_, _≤_}
 use mathlib.Core.Path.{_≡_, refl, sym, ap, _∙_}
 use native.Mathlib.Omega.{arith}
 use lib.ListN.{length, take, length-set}
 use lib.Seq.{take-all}
-use Rattle.link_check.specs.Levels.{aggregateOf, aggregatesOf}
-use Rattle.queue_table.specs.View.{upTo}
+use Rattle.model.specs.Sizes.{levelsMost}
+use Rattle.units.specs.View.{aggregateOf}
+use Rattle.link_check.specs.View.{aggregatesOf}
+use Rattle.queue_table.specs.View.{upTo, entryAt}
 use Rattle.figures.specs.View.{figureAt, levelFigures}
 use Rattle.figures.proofs.LoadLaws.{loaded-next}
 use Rattle.figures.proofs.link_levels.Statement.{statement}
 use Rattle.figures.proofs.link_levels.Tie as tie
 
 abbrev Inv-loop : tie.InvT-loop
-Inv-loop link sums levels₀ p₀ levels p = (p ≤ 8) × (length levels ≡ 8) × (aggregatesOf (take p levels) ≡ upTo p (λ k. figureAt sums (8 * link + k)))
+Inv-loop link sums levels₀ p₀ levels p = (p ≤ levelsMost) × (length levels ≡ levelsMost) × (aggregatesOf (take p levels) ≡ upTo p (λ k. figureAt sums (entryAt link k)))
 
 abbrev μ-loop : tie.MeasureT-loop
-μ-loop link sums levels₀ p₀ levels p = 8 - p
+μ-loop link sums levels₀ p₀ levels p = levelsMost - p
 
 loop-holds : tie.Need-loop-holds Inv-loop μ-loop
 unfolding upTo
@@ -25,22 +27,21 @@ loop-holds c = (omega arith, refl, refl)
 
 loop-again : tie.Need-loop-again Inv-loop μ-loop
 loop-again c =
-    let at = c .before .before .loop in
-    let args = c .before .before .before .before .args in (
+    let at = c .before .before .before .loop in
+    let args = c .before .before .before .before .before .args in (
       omega arith,
       length-set (at .levels) (at .p) (c .figure .result) ∙ at .inv .1,
-      loaded-next aggregateOf (at .levels) (at .p) (c .figure .result) (λ k. figureAt (args .sums .now) (8 * args .link + k)) (omega (arith, at .inv .1)) (at .inv .2) (c .figure .ensures),
+      loaded-next aggregateOf (at .levels) (at .p) (c .figure .result) (λ k. figureAt (args .sums .now) (entryAt (args .link) k)) (omega (arith, at .inv .1)) (at .inv .2) (c .figure .ensures ∙ ap (figureAt (args .sums .now)) (c .before .entry-at .ensures .0)),
     )
 
 returns : tie.Need-returns Inv-loop μ-loop
 unfolding levelFigures
 returns c =
     let at = c .before .loop in
-    let end : at .p ≡ 8 = omega (arith, at .inv .0, c .loop-test .left) in
+    let end : at .p ≡ levelsMost = omega (arith, at .inv .0, c .loop-test .left) in
     ap aggregatesOf (sym (take-all (at .p) (at .levels) (omega (arith, at .inv .1)))) ∙ at .inv .2 ∙ rw end
 
 pub link-levels-spec : {M : Type 1} → statement M
 link-levels-spec =
     tie.close
-    (tie.spec Inv-loop μ-loop loop-holds (λ c. search needs) (λ c. search needs) (λ c κs. search needs) (λ c. search needs) (λ c. search needs)
-    (λ c. search needs) (λ c. search needs) loop-again returns)
+    (tie.spec Inv-loop μ-loop loop-holds (λ c κs. search needs) (λ c κs. search needs) (λ c. search needs) (λ c. search needs) (λ c. search needs) (λ c. search needs) loop-again returns)

@@ -1,7 +1,7 @@
 -- `flow_check::is_nothing` meets its contract, case by case.
 -- Assumes nothing.
 use borrow.Author.Needs.{needs}
-use Rattle.model.specs.Reference.{isNone}
+use Rattle.model.specs.Words.{isNone}
 use Rattle.flow_check.proofs.is_nothing.Statement.{statement}
 use Rattle.flow_check.proofs.is_nothing.Tie as tie
 
@@ -13,9 +13,5 @@ returns-2 : tie.Need-returns-2
 unfolding isNone
 returns-2 c = search needs
 
-returns-3 : tie.Need-returns-3
-unfolding isNone
-returns-3 c = search needs
-
 pub is-nothing-spec : {M : Type 1} → statement M
-is-nothing-spec = tie.close (tie.spec (λ c. search needs) (λ c. search needs) (λ c. search needs) returns returns-2 returns-3)
+is-nothing-spec = tie.close (tie.spec (λ c. search needs) (λ c. search needs) returns returns-2)

@@ -7,46 +7,56 @@ use mathlib.Core.List.{List}
 use mathlib.Core.Option.{Option·none-ne-some}
 use borrow.Author.Tests.{lt-ltb, le-ltb}
 use lib.Dec.{leb, ltb}
+use Rattle.model.specs.Words.{firstIndex}
+use Rattle.model.specs.Sizes.{slotCount}
 use Rattle.model.specs.Orders.{flowOf}
-use Rattle.model.specs.Reference.{withNumber, heldFlows, holds, firstIndex}
+use Rattle.model.specs.Reference.{State, withNumber, heldFlows, holds}
 use Rattle.model.specs.Laws.Slot.{number-index}
 use Rattle.flow_store.specs.View.{slotsOf}
 use Rattle.flow_store.proofs.ViewLaws.{length-slots}
 use Rattle.queue_table.specs.View.{tableOf}
-use Rattle.flow_check.specs.Findings.{lineFlow}
+use Rattle.orders.specs.View.{lineFlow}
 use Rattle.flow_check.proofs.CauseLaws.{early-held, early-frame, early-path}
 use Rattle.flow_check.proofs.judge_flow.Statement.{statement}
 use Rattle.flow_check.proofs.judge_flow.Tie as tie
 
 -- Whether the number is held is whether its slot was found.
-held : (c : tie.After-find) (pool : List ℕ)
-    → leb 1 (withNumber (c .before .before .before .before .before .before .args .flow .number) (heldFlows (slotsOf (c .before .before .before .before .before .before .args .slots .now) pool))) ≡ ltb (c .find .result) 256
+held : (c : tie.After-find) (pool : List ℕ) → leb 1 (withNumber (c .before .before .before .before .before .args .flow .number) (heldFlows (slotsOf (c .before .before .before .before .before .args .slots .now) pool))) ≡ ltb (c .find .result) slotCount
 held c pool =
-    number-index (c .before .before .before .before .before .before .args .flow .number) (slotsOf (c .before .before .before .before .before .before .args .slots .now) pool)
-    ∙ ap (ltb (firstIndex (holds (c .before .before .before .before .before .before .args .flow .number)) (slotsOf (c .before .before .before .before .before .before .args .slots .now) pool))) (length-slots (c .before .before .before .before .before .before .args .slots .now) pool)
-    ∙ ap (λ (i : ℕ). ltb i 256) (sym (c .find .ensures pool))
+    let number = c .before .before .before .before .before .args .flow .number in
+    let slots = slotsOf (c .before .before .before .before .before .args .slots .now) pool in
+    number-index number slots
+    ∙ ap (ltb (firstIndex (holds number) slots)) (length-slots (c .before .before .before .before .before .args .slots .now) pool)
+    ∙ ap (λ (i : ℕ). ltb i slotCount) (sym (c .find .ensures pool))
+
+-- The table and the slots, with this pool.
+abbrev state : (c : tie.Start) (pool : List ℕ) → State
+state c pool = record { table = tableOf (c .args .table .now); slots = slotsOf (c .args .slots .now) pool }
 
 returns : tie.Need-returns
 unfolding flowOf
 returns c =
+    let start = c .before .before .before .before .before .before in
     record {
-      first = λ pool. sym (early-held (record { table = tableOf (c .before .before .before .before .before .before .before .args .n) (c .before .before .before .before .before .before .before .args .links .now) (c .before .before .before .before .before .before .before .args .queues .now); slots = slotsOf (c .before .before .before .before .before .before .before .args .slots .now) pool }) (lineFlow (c .before .before .before .before .before .before .before .args .flow) (c .before .before .before .before .before .before .before .args .hop-links .now) (c .before .before .before .before .before .before .before .args .hop-levels .now)) (held (c .before) pool ∙ lt-ltb _ 256 (c .if1 .taken)));
+      first = λ pool. sym (early-held (state start pool) (lineFlow (start .args .flow) (start .args .hops .now)) (held (c .before) pool ∙ lt-ltb _ slotCount (c .if1 .taken)));
       named = λ e. absurd (Option·none-ne-some _ (sym e));
     }
 
 returns-2 : tie.Need-returns-2
 unfolding flowOf
 returns-2 c =
+    let start = c .before .before .before .before .before .before .before in
     record {
-      first = λ pool. sym (early-frame (record { table = tableOf (c .before .before .before .before .before .before .before .before .args .n) (c .before .before .before .before .before .before .before .before .args .links .now) (c .before .before .before .before .before .before .before .before .args .queues .now); slots = slotsOf (c .before .before .before .before .before .before .before .before .args .slots .now) pool }) (lineFlow (c .before .before .before .before .before .before .before .before .args .flow) (c .before .before .before .before .before .before .before .before .args .hop-links .now) (c .before .before .before .before .before .before .before .before .args .hop-levels .now)) (held (c .before .before) pool ∙ le-ltb _ 256 (c .before .if1 .left)) (lt-ltb _ _ (c .if2 .taken)));
+      first = λ pool. sym (early-frame (state start pool) (lineFlow (start .args .flow) (start .args .hops .now)) (held (c .before .before) pool ∙ le-ltb _ slotCount (c .before .if1 .left)) (lt-ltb _ _ (c .if2 .taken)));
       named = λ e. absurd (Option·none-ne-some _ (sym e));
     }
 
 returns-3 : tie.Need-returns-3
 unfolding flowOf
 returns-3 c =
+    let start = c .before .before .before .before .before .before .before .before in
     record {
-      first = λ pool. c .judge-path .ensures .first ∙ sym (early-path (record { table = tableOf (c .before .before .before .before .before .before .before .before .before .args .n) (c .before .before .before .before .before .before .before .before .before .args .links .now) (c .before .before .before .before .before .before .before .before .before .args .queues .now); slots = slotsOf (c .before .before .before .before .before .before .before .before .before .args .slots .now) pool }) (lineFlow (c .before .before .before .before .before .before .before .before .before .args .flow) (c .before .before .before .before .before .before .before .before .before .args .hop-links .now) (c .before .before .before .before .before .before .before .before .before .args .hop-levels .now)) (held (c .before .before .before) pool ∙ le-ltb _ 256 (c .before .before .if1 .left)) (le-ltb _ _ (c .before .if2 .left)));
+      first = λ pool. c .judge-path .ensures .first ∙ sym (early-path (state start pool) (lineFlow (start .args .flow) (start .args .hops .now)) (held (c .before .before .before) pool ∙ le-ltb _ slotCount (c .before .before .if1 .left)) (le-ltb _ _ (c .before .if2 .left)));
       named = c .judge-path .ensures .named;
     }
 

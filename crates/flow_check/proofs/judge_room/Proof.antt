@@ -8,7 +8,9 @@ use mathlib.Core.List.{List}
 use native.Mathlib.Omega.{arith}
 use borrow.Author.Tests.{lt-ltb, le-ltb}
 use lib.Dec.{ltb}
-use Rattle.model.specs.Reference.{every, isHeld, firstIndex, isNone}
+use Rattle.model.specs.Words.{every, firstIndex, isNone}
+use Rattle.model.specs.Sizes.{slotCount}
+use Rattle.model.specs.Reference.{isHeld}
 use Rattle.model.specs.Laws.Slot.{held-index}
 use Rattle.flow_store.specs.View.{slotsOf}
 use Rattle.flow_store.proofs.ViewLaws.{length-slots, held-hops}
@@ -17,20 +19,20 @@ use Rattle.flow_check.proofs.judge_room.Statement.{statement}
 use Rattle.flow_check.proofs.judge_room.Tie as tie
 
 -- Whether all slots are held is whether no free one was found.
-full : (c : tie.After-first-free) (pool : List ℕ) → every isHeld (slotsOf (c .before .before .args .slots .now) pool) ≡ not (ltb (c .first-free .result) 256)
+full : (c : tie.After-first-free) (pool : List ℕ) → every isHeld (slotsOf (c .before .before .args .slots .now) pool) ≡ not (ltb (c .first-free .result) slotCount)
 full c pool =
     held-index (slotsOf (c .before .before .args .slots .now) pool)
     ∙ ap not
     (ap (ltb (firstIndex isNone (slotsOf (c .before .before .args .slots .now) pool))) (length-slots (c .before .before .args .slots .now) pool)
-    ∙ ap (λ (i : ℕ). ltb i 256) (sym (c .first-free .ensures pool)))
+    ∙ ap (λ (i : ℕ). ltb i slotCount) (sym (c .first-free .ensures pool)))
 
 free : (c : tie.Else1) (pool : List ℕ) → every isHeld (slotsOf (c .before .before .before .args .slots .now) pool) ≡ false
-free c pool = full (c .before) pool ∙ ap not (lt-ltb (c .before .first-free .result) 256 (c .if1 .left))
+free c pool = full (c .before) pool ∙ ap not (lt-ltb (c .before .first-free .result) slotCount (c .if1 .left))
 
 returns : tie.Need-returns
 returns c =
     record {
-      first = λ pool f store long. sym (room-slots (slotsOf (c .before .before .before .args .slots .now) pool) f (full (c .before) pool ∙ ap not (le-ltb (c .before .first-free .result) 256 (c .if1 .taken))));
+      first = λ pool f store long. sym (room-slots (slotsOf (c .before .before .before .args .slots .now) pool) f (full (c .before) pool ∙ ap not (le-ltb (c .before .first-free .result) slotCount (c .if1 .taken))));
       slot = c .before .first-free .ensures;
     }
 

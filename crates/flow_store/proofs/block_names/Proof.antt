@@ -5,16 +5,16 @@ use Prim.Native.Nat.{_+_, _-_, _≤_}
 use mathlib.Core.Path.{_≡_}
 use mathlib.Core.Bool.{false, true≢false}
 use native.Mathlib.Omega.{arith}
-use Rattle.flow_store.specs.View.{OthersFrom}
+use Rattle.flow_store.specs.View.{blockSlots, OthersFrom}
 use Rattle.flow_store.proofs.ScanLaws.{others-join, others-one}
 use Rattle.flow_store.proofs.block_names.Statement.{statement}
 use Rattle.flow_store.proofs.block_names.Tie as tie
 
 abbrev Inv-loop : tie.InvT-loop
-Inv-loop number from slots any₀ i₀ any i = (from ≤ i) × (i ≤ from + 16) × (any ≡ false → OthersFrom number slots from i)
+Inv-loop number from slots any₀ i₀ any i = (from ≤ i) × (i ≤ from + blockSlots) × (any ≡ false → OthersFrom number slots from i)
 
 abbrev μ-loop : tie.MeasureT-loop
-μ-loop number from slots any₀ i₀ any i = from + 16 - i
+μ-loop number from slots any₀ i₀ any i = from + blockSlots - i
 
 loop-holds : tie.Need-loop-holds Inv-loop μ-loop
 loop-holds c = (omega arith, omega arith, λ e j low lt. absurd (omega arith))

@@ -7,16 +7,17 @@ use mathlib.Core.Bool.{true, false}
 use mathlib.Core.Logic.{⊎-elim}
 use native.Mathlib.Omega.{arith}
 use borrow.Author.Tests.{eq-eqb, ne-eqb}
+use Rattle.model.specs.Sizes.{slotCount}
 use Rattle.model.specs.Reference.{holds}
 use Rattle.flow_store.proofs.ScanLaws.{named, holds-named, found, scan-found, scan-on, scan-end, scan-whole, scan-skip}
 use Rattle.flow_store.proofs.find.Statement.{statement}
 use Rattle.flow_store.proofs.find.Tie as tie
 
 abbrev Inv-loop : tie.InvT-loop
-Inv-loop number slots i₀ i = (i ≤ 256) × (found (holds number) slots i ≡ found (holds number) slots 0)
+Inv-loop number slots i₀ i = (i ≤ slotCount) × (found (holds number) slots i ≡ found (holds number) slots 0)
 
 abbrev μ-loop : tie.MeasureT-loop
-μ-loop number slots i₀ i = 256 - i
+μ-loop number slots i₀ i = slotCount - i
 
 loop-holds : tie.Need-loop-holds Inv-loop μ-loop
 loop-holds c =

@@ -5,16 +5,17 @@ use Prim.Native.Nat.{_-_, _≤_}
 use mathlib.Core.Path.{_≡_, refl, sym, _∙_}
 use native.Mathlib.Omega.{arith}
 use borrow.Author.Tests.{eq-eqb, ne-eqb}
-use Rattle.model.specs.Reference.{isNone}
+use Rattle.model.specs.Words.{isNone}
+use Rattle.model.specs.Sizes.{slotCount}
 use Rattle.flow_store.proofs.ScanLaws.{free, none-free, found, scan-found, scan-on, scan-end, scan-whole}
 use Rattle.flow_store.proofs.first_free.Statement.{statement}
 use Rattle.flow_store.proofs.first_free.Tie as tie
 
 abbrev Inv-loop : tie.InvT-loop
-Inv-loop slots slot₀ slot = (slot ≤ 256) × (found isNone slots slot ≡ found isNone slots 0)
+Inv-loop slots slot₀ slot = (slot ≤ slotCount) × (found isNone slots slot ≡ found isNone slots 0)
 
 abbrev μ-loop : tie.MeasureT-loop
-μ-loop slots slot₀ slot = 256 - slot
+μ-loop slots slot₀ slot = slotCount - slot
 
 loop-holds : tie.Need-loop-holds Inv-loop μ-loop
 loop-holds c = (omega arith, refl)

@@ -5,7 +5,7 @@ use Prim.Native.Nat.{_+_, _-_, _*_, _≤_}
 use mathlib.Core.Path.{_≡_}
 use native.Mathlib.Omega.{arith}
 use native.Mathlib.Nat.{zero-add, sub-zero}
-use Rattle.flow_store.specs.View.{countsFrom}
+use Rattle.flow_store.specs.View.{hopsPosition, countsFrom}
 use Rattle.flow_store.proofs.ViewLaws.{counts-next, counts-done}
 use Rattle.flow_store.proofs.hop_sum.Statement.{statement}
 use Rattle.flow_store.proofs.hop_sum.Tie as tie
@@ -20,17 +20,17 @@ loop-holds : tie.Need-loop-holds Inv-loop μ-loop
 loop-holds c = (omega arith, omega arith, rw (sub-zero (c .args .slot)) (zero-add (countsFrom (c .args .slot) 0 (c .args .slots .now))))
 
 cast-sum : tie.Need-cast-sum Inv-loop μ-loop
-cast-sum c = omega (arith, c .shared-slice-known .given (1280 + c .before .before .loop .i))
+cast-sum c = omega (arith, c .shared-slice-known .given (hopsPosition (c .before .before .loop .i)))
 
 add-sum-2 : tie.Need-add-sum-2 Inv-loop μ-loop
-add-sum-2 c = omega (arith, c .shared-slice-known .given (1280 + c .before .before .loop .i))
+add-sum-2 c = omega (arith, c .shared-slice-known .given (hopsPosition (c .before .before .loop .i)))
 
 loop-again : tie.Need-loop-again Inv-loop μ-loop
 loop-again c =
     let at = c .before .before in
     let args = at .before .args in (
       omega arith,
-      omega (arith, c .shared-slice-known .given (1280 + at .loop .i)),
+      omega (arith, c .shared-slice-known .given (hopsPosition (at .loop .i))),
       omega (arith, at .loop .inv .2, counts-next (args .slots .now) (args .slot) (at .loop .i) (c .before .loop-test .taken)),
     )
 

@@ -4,16 +4,17 @@ use borrow.Author.Needs.{needs}
 use Prim.Native.Nat.{_-_, _%_, _≤_}
 use mathlib.Core.Path.{_≡_}
 use native.Mathlib.Omega.{arith}
-use Rattle.flow_store.specs.View.{OthersFrom}
+use Rattle.model.specs.Sizes.{slotCount}
+use Rattle.flow_store.specs.View.{blockSlots, OthersFrom}
 use Rattle.flow_store.proofs.ScanLaws.{others-join}
 use Rattle.flow_store.proofs.skip_others.Statement.{statement}
 use Rattle.flow_store.proofs.skip_others.Tie as tie
 
 abbrev Inv-loop : tie.InvT-loop
-Inv-loop number slots i₀ i = (i ≤ 256) × (i % 16 ≡ 0) × OthersFrom number slots 0 i
+Inv-loop number slots i₀ i = (i ≤ slotCount) × (i % blockSlots ≡ 0) × OthersFrom number slots 0 i
 
 abbrev μ-loop : tie.MeasureT-loop
-μ-loop number slots i₀ i = 256 - i
+μ-loop number slots i₀ i = slotCount - i
 
 loop-holds : tie.Need-loop-holds Inv-loop μ-loop
 loop-holds c = (omega arith, omega arith, λ j low lt. absurd (omega arith))

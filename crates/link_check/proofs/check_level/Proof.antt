@@ -17,7 +17,7 @@ use Rattle.link_check.proofs.check_level.Tie as tie
 -- The delay and the backlog that are compared are the formulas at the level's Y and Res.
 module _ (c : tie.After-delay-bound) where
   abbrev start : tie.Start
-  start = c .before .before .before .before .before .before .before .before .before
+  start = c .before .before .before .before .before .before .before .before .before .before .before
 
   abbrev y : ℕ
   y = start .args .above .burst .0 + start .args .below .0 + start .args .own .frame .0
@@ -40,7 +40,7 @@ queued c = rw (left (c .before .before .before .before)) at (c .backlog-bound .e
 
 -- 22 is ruled out.
 in-time : (c : tie.After-backlog-bound) → let at = c .before .before .before .before in
-    leb (delayBound (y at) (start at .args .own .burst .0) (res at)) (start at .args .threshold .0) ≡ true
+    leb (delayBound (y at) (start at .args .own .burst .0) (res at)) (start at .args .queue .threshold .0) ≡ true
 in-time c = le-leb _ _ (rw (delayed (c .before .before .before .before)) at (c .before .if2 .left))
 
 returns : tie.Need-returns
@@ -76,5 +76,4 @@ returns-4 c =
 pub check-level-spec : {M : Type 1} → statement M
 check-level-spec =
     tie.close
-    (tie.spec returns (λ c κs. search needs) (λ c. search needs) (λ c. search needs) delay-bound-requires returns-2 backlog-bound-requires returns-3
-    returns-4)
+    (tie.spec returns (λ c κs. search needs) (λ c. search needs) (λ c. search needs) delay-bound-requires returns-2 backlog-bound-requires returns-3 returns-4)

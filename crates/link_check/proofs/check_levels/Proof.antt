@@ -7,25 +7,32 @@ use mathlib.Core.List.{List, _∷_}
 use native.Mathlib.Omega.{arith}
 use native.Mathlib.Numerals.{add-one}
 use lib.ListN.{length, getD, drop, length-map, List·getD-map}
+use Rattle.model.specs.Sizes.{levelsMost}
 use Rattle.model.specs.Total.{largest}
 use Rattle.model.specs.Formula as model
 use Rattle.model.specs.QueueTable.{Queue}
 use Rattle.model.specs.WithFlow.{noFlow}
 use Rattle.model.specs.Laws.LinkSteps.{levelFinding, framesBelow-at, Passed, passed-none, passed-all, passed-room, passed-next, passed-found}
-use Rattle.link_check.specs.Levels.{aggregateOf, aggregatesOf, queuesOf, findingOf}
+use Rattle.units.specs.View.{aggregateOf}
+use Rattle.queue_table.specs.declared.access.Queue as queue_table
+use Rattle.link_check.specs.View.{aggregatesOf, queueOf, queuesOf, levelFindingOf}
 use Rattle.link_check.proofs.FindingLaws.{faulty}
-use Rattle.link_check.proofs.Laws.{length-mapped, mapped-end, blank, level-next, queue-next}
+use Rattle.link_check.proofs.Laws.{length-mapped, mapped-next, mapped-end, blank, level-next}
 use Rattle.link_check.proofs.check_levels.Statement.{statement}
 use Rattle.link_check.proofs.check_levels.Tie as tie
 
+-- What is read past the end of the queues.
+abbrev noQueue : queue_table.Queue
+noQueue = record { threshold = record { 0 = 0 }; buffer = record { 0 = 0 } }
+
 abbrev Inv-loop : tie.InvT-loop
-Inv-loop speed thresholds buffers levels below above₀ i₀ above i = (i ≤ 8) × Passed speed (queuesOf thresholds buffers) (aggregatesOf levels) i (aggregateOf above)
+Inv-loop speed queues levels below above₀ i₀ above i = (i ≤ levelsMost) × Passed speed (queuesOf queues) (aggregatesOf levels) i (aggregateOf above)
 
 abbrev μ-loop : tie.MeasureT-loop
-μ-loop speed thresholds buffers levels below above₀ i₀ above i = 8 - i
+μ-loop speed queues levels below above₀ i₀ above i = levelsMost - i
 
-long : (c : tie.Start Inv-loop μ-loop) → (length (c .args .t2) ≡ 8) × (length (c .args .t3) ≡ 8) × (length (c .args .t4) ≡ 8)
-long c = (search (needs, length-mapped), search (needs, length-mapped), search (needs, length-mapped))
+long : (c : tie.Start Inv-loop μ-loop) → (length (c .args .t2) ≡ levelsMost) × (length (c .args .t3) ≡ levelsMost)
+long c = (search (needs, length-mapped), search (needs, length-mapped))
 
 -- The queue and the level at `i`, and the largest frame below.
 module _ (c : tie.In-loop Inv-loop μ-loop) where
@@ -33,10 +40,10 @@ module _ (c : tie.In-loop Inv-loop μ-loop) where
   start = c .before .before .before
 
   abbrev queues : List Queue
-  queues = queuesOf (start .args .t2) (start .args .t3)
+  queues = queuesOf (start .args .t2)
 
   abbrev levels : List model.Aggregate
-  levels = aggregatesOf (start .args .t4)
+  levels = aggregatesOf (start .args .t3)
 
   abbrev i : ℕ
   i = c .before .loop .i
@@ -45,19 +52,19 @@ module _ (c : tie.In-loop Inv-loop μ-loop) where
   above = aggregateOf (c .before .loop .above)
 
   abbrev queue : Queue
-  queue = record { threshold = getD (start .args .t2) i (record { 0 = 0 }) .0; buffer = getD (start .args .t3) i (record { 0 = 0 }) .0 }
+  queue = queueOf (getD (start .args .t2) i noQueue)
 
   abbrev own : model.Aggregate
-  own = aggregateOf (getD (start .args .t4) i blank)
+  own = aggregateOf (getD (start .args .t3) i blank)
 
   abbrev below : ℕ
   below = getD (c .before .before .frames-below .result) i (record { 0 = 0 }) .0
 
   queue-at : drop i queues ≡ queue ∷ drop (i + 1) queues
-  queue-at = queue-next (start .args .t2) (start .args .t3) i (omega (arith, long start)) (omega (arith, long start))
+  queue-at = mapped-next queueOf (start .args .t2) i noQueue (omega (arith, long start))
 
   own-at : drop i levels ≡ own ∷ drop (i + 1) levels
-  own-at = level-next (start .args .t4) i (omega (arith, long start))
+  own-at = level-next (start .args .t3) i (omega (arith, long start))
 
   below-at : below ≡ largest (λ a. a .frame) (drop (i + 1) levels)
   below-at =
@@ -70,44 +77,42 @@ module _ (c : tie.In-loop Inv-loop μ-loop) where
   room = omega (arith, passed-room (c .before .loop .inv .1) queue-at own-at, below-at, start .pre)
 
 -- What the call tells of the level.
-found : (c : tie.After-check-level Inv-loop μ-loop) → let at = c .before .before .before .before .before in
+found : (c : tie.After-check-level Inv-loop μ-loop) → let at = c .before .before .before .before in
     levelFinding (start at .args .speed) (i at + 1) (queue at) (above at) (own at) (largest (λ a. a .frame) (drop (i at + 1) (levels at)))
-    ≡ findingOf (c .check-level .result)
-found c = rw (below-at (c .before .before .before .before .before)) at (sym (c .check-level .ensures))
+    ≡ levelFindingOf (c .check-level .result)
+found c = rw (below-at (c .before .before .before .before)) at (sym (c .check-level .ensures))
 
 loop-holds : tie.Need-loop-holds Inv-loop μ-loop
 unfolding noFlow
-loop-holds c = (omega arith, passed-none (c .before .args .speed) (queuesOf (c .before .args .t2) (c .before .args .t3)) (aggregatesOf (c .before .args .t4)))
+loop-holds c = (omega arith, passed-none (c .before .args .speed) (queuesOf (c .before .args .t2)) (aggregatesOf (c .before .args .t3)))
 
 check-level-requires : tie.Need-check-level-requires Inv-loop μ-loop
-check-level-requires c κs = omega (arith, room (c .before .before .before .before), c .before .before .before .before .before .before .before .pre)
+check-level-requires c κs = omega (arith, room (c .before .before .before), c .before .before .before .before .before .before .pre)
 
 returns : tie.Need-returns Inv-loop μ-loop
 returns c =
-    let at = c .before .before .before .before .before .before in
+    let at = c .before .before .before .before .before in
     let result = c .before .check-level .result in
-    sym (passed-found (at .before .loop .inv .1) (queue-at at) (own-at at) (findingOf result) (found (c .before)) (faulty result (c .match .keys2)))
+    sym (passed-found (at .before .loop .inv .1) (queue-at at) (own-at at) (levelFindingOf result) (found (c .before)) (faulty result (c .match .keys2)))
 
 with-flow-requires : tie.Need-with-flow-requires Inv-loop μ-loop
 with-flow-requires c κs =
-    let at = c .before .before .before .before .before .before .before in
+    let at = c .before .before .before .before .before .before in
     omega (arith, room at, start at .pre)
 
 loop-again : tie.Need-loop-again Inv-loop μ-loop
 loop-again c =
-    let at = c .before .before .before .before .before .before .before .before in
-    let fits = ap findingOf (c .before .enum-told .given .1) in
+    let at = c .before .before .before .before .before .before .before in
+    let fits = ap levelFindingOf (c .before .enum-told .given .1) in
     (omega arith, rw (c .with-flow .ensures) (passed-next (at .before .loop .inv .1) (queue-at at) (own-at at) (found (c .before .before .before) ∙ fits)))
 
 returns-2 : tie.Need-returns-2 Inv-loop μ-loop
 returns-2 c =
     let start = c .before .before .before in
     let at = c .before .loop in
-    sym (passed-all (at .inv .1) (mapped-end aggregateOf (start .args .t4) (at .i) (omega (arith, long start))))
+    sym (passed-all (at .inv .1) (mapped-end aggregateOf (start .args .t3) (at .i) (omega (arith, long start))))
 
 pub check-levels-spec : {M : Type 1} → statement M
 check-levels-spec =
     tie.close
-    (tie.spec Inv-loop μ-loop (λ c κs. search needs) loop-holds (λ c. search needs) (λ c. search needs) (λ c. search needs) (λ c. search needs)
-    (λ c. search needs) (λ c. search needs) (λ c. search needs) (λ c. search needs) (λ c. search needs) (λ c. search needs) check-level-requires
-    (λ c. search needs) returns with-flow-requires (λ c. search needs) (λ c. search needs) loop-again returns-2)
+    (tie.spec Inv-loop μ-loop (λ c κs. search needs) loop-holds (λ c. search needs) (λ c. search needs) (λ c. search needs) (λ c. search needs) (λ c. search needs) (λ c. search needs) (λ c. search needs) (λ c. search needs) check-level-requires (λ c. search needs) returns with-flow-requires (λ c. search needs) (λ c. search needs) loop-again returns-2)

@@ -5,30 +5,32 @@ use Prim.Native.Nat.{_-_, _≤_}
 use mathlib.Core.Path.{_≡_, refl, sym, ap, _∙_}
 use native.Mathlib.Omega.{arith}
 use lib.ListN.{length, drop, length-set}
+use Rattle.model.specs.Sizes.{levelsMost}
 use Rattle.model.specs.Total.{largest}
 use Rattle.model.specs.Laws.LinkSteps.{framesBelow}
-use Rattle.link_check.specs.Levels.{aggregateOf, aggregatesOf, bytesOf}
+use Rattle.units.specs.View.{aggregateOf}
+use Rattle.link_check.specs.View.{aggregatesOf, bytesOf}
 use Rattle.link_check.proofs.Laws.{length-mapped, mapped-end, top-previous, below-previous}
 use Rattle.link_check.proofs.frames_below.Statement.{statement}
 use Rattle.link_check.proofs.frames_below.Tie as tie
 
 abbrev Inv-loop : tie.InvT-loop
 Inv-loop levels below₀ top₀ i₀ below top i =
-    (i ≤ 8)
-    × (length below ≡ 8)
+    (i ≤ levelsMost)
+    × (length below ≡ levelsMost)
     × (top .0 ≡ largest (λ a. a .frame) (drop i (aggregatesOf levels)))
     × (bytesOf (drop i below) ≡ framesBelow (drop i (aggregatesOf levels)))
 
 abbrev μ-loop : tie.MeasureT-loop
 μ-loop levels below₀ top₀ i₀ below top i = i
 
-long : (c : tie.Start Inv-loop μ-loop) → length (c .args .t1) ≡ 8
+long : (c : tie.Start Inv-loop μ-loop) → length (c .args .t1) ≡ levelsMost
 long c = search (needs, length-mapped)
 
 loop-holds : tie.Need-loop-holds Inv-loop μ-loop
 unfolding largest framesBelow
 loop-holds c =
-    let end = sym (mapped-end aggregateOf (c .args .t1) 8 (omega (arith, long c))) in
+    let end = sym (mapped-end aggregateOf (c .args .t1) levelsMost (omega (arith, long c))) in
     (omega arith, refl, ap (largest (λ a. a .frame)) end, ap framesBelow end)
 
 loop-again : tie.Need-loop-again Inv-loop μ-loop

@@ -5,20 +5,22 @@ use Prim.Native.Nat.{_+_, _-_, _≤_}
 use mathlib.Core.Path.{_≡_, ap}
 use native.Mathlib.Omega.{arith}
 use lib.ListN.{length, getD, drop}
+use Rattle.model.specs.Sizes.{levelsMost}
 use Rattle.model.specs.Total.{total}
 use Rattle.model.specs.Laws.Total.{total-next}
-use Rattle.link_check.specs.Levels.{aggregateOf, aggregatesOf}
+use Rattle.units.specs.View.{aggregateOf}
+use Rattle.link_check.specs.View.{aggregatesOf}
 use Rattle.link_check.proofs.Laws.{length-mapped, mapped-end, blank, level-next}
 use Rattle.link_check.proofs.rate_sum.Statement.{statement}
 use Rattle.link_check.proofs.rate_sum.Tie as tie
 
 abbrev Inv-loop : tie.InvT-loop
-Inv-loop levels sum₀ i₀ sum i = (i ≤ 8) × (sum + total (λ a. a .rate) (drop i (aggregatesOf levels)) ≡ total (λ a. a .rate) (aggregatesOf levels))
+Inv-loop levels sum₀ i₀ sum i = (i ≤ levelsMost) × (sum + total (λ a. a .rate) (drop i (aggregatesOf levels)) ≡ total (λ a. a .rate) (aggregatesOf levels))
 
 abbrev μ-loop : tie.MeasureT-loop
-μ-loop levels sum₀ i₀ sum i = 8 - i
+μ-loop levels sum₀ i₀ sum i = levelsMost - i
 
-long : (c : tie.Start Inv-loop μ-loop) → length (c .args .t1) ≡ 8
+long : (c : tie.Start Inv-loop μ-loop) → length (c .args .t1) ≡ levelsMost
 long c = search (needs, length-mapped)
 
 -- One level more.

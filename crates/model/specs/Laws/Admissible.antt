@@ -8,16 +8,17 @@ use mathlib.Core.List.{List, _∷_, List·Memᴰ}
 use mathlib.Core.Option.{none, some, Option·some-injective}
 use native.Mathlib.Omega.{arith}
 use borrow.Author.Tests.{ltb-false, le-ltb}
+use Rattle.model.specs.Words.{All}
 use Rattle.model.specs.Columns.{between}
 use Rattle.model.specs.Laws.Columns.{between-true}
 use Rattle.model.specs.Laws.Test.{and-both}
 use Rattle.model.specs.QueueTable.{Link, Table}
-use Rattle.model.specs.Orders.{Hop, Flow, register, headInRange, numberInRange}
+use Rattle.model.specs.Orders.{Hop, Flow, register, headInRange, numberInRange, registering, kindNumber}
 use Rattle.model.specs.LinkCheck.{linkFinding}
 use Rattle.model.specs.Laws.LinkCheck.{link-meets, meets-link}
 use Rattle.model.specs.Laws.Levels.{level-admits, admits-level}
 use Rattle.model.specs.Aggregates.{linkAt, levelAggregates}
-use Rattle.model.specs.Schedulable.{All, LinkMeets}
+use Rattle.model.specs.Schedulable.{LinkMeets}
 use Rattle.model.specs.Reference.{State, heldFlows, apply, perform, fill, findings, deadlineFinding, thresholdSum}
 use Rattle.model.specs.Outcomes.{NoneOthers}
 use Rattle.model.specs.Laws.Finding.{whole-none, none-whole}
@@ -73,7 +74,7 @@ module _ (s : State) (f : Flow) (ok : StateRules s) (range : flowInRange f ≡ t
   pub admissible : NoneOthers s f → (apply s (register f) .answer .code ≡ 0) ↔ Admissible (s .table) (heldFlows (s .slots)) f
   unfolding findings perform fill
   admissible others = (
-    λ z. to (register-rules s f (no-cause s (register f) 1 (refl, range) z)),
+    λ z. to (register-rules s f (no-cause s (register f) (kindNumber registering) (refl, range) z)),
     λ a. ap (λ o. o .answer .code) (performed s (register f) (rules-register s f (from a))),
   )
     where

@@ -7,6 +7,7 @@ use mathlib.Core.List.{List, [], _∷_, _++_}
 use native.Mathlib.Omega.{arith}
 use lib.Dec.{eqb}
 use borrow.Author.Tests.{eqb-true, eqb-false, eq-eqb, ne-eqb}
+use Rattle.model.specs.Words.{All}
 use Rattle.model.specs.Total.{total, largest}
 use Rattle.model.specs.Part.{Part}
 use Rattle.model.specs.Laws.Total.{Pairs, none, pair, total-append, largest-append, total-part, largest-part, total-zero, largest-zero}
@@ -15,7 +16,6 @@ use Rattle.model.specs.Laws.Formula.{AtMost}
 use Rattle.model.specs.QueueTable.{Queue, Table}
 use Rattle.model.specs.Orders.{Hop, Flow}
 use Rattle.model.specs.Aggregates.{Share, thresholdOf, queueAt, shares, allShares, sameHop, addsAt, aggregateAt, levelAggregates}
-use Rattle.model.specs.Schedulable.{All}
 use Rattle.model.specs.Laws.Test.{and-both, both-and, or-neither}
 use Rattle.model.specs.Reference.{crosses}
 

@@ -1,12 +1,12 @@
 -- What holds of each element of lists joined, mapped, reversed or in another order, and of one of them, by membership or index.
 -- By induction on the list. Assumes nothing.
+use Rattle.model.specs.Words.{All}
 use Prim.Native.Nat.{ℕ, zero, suc, _<_}
 use mathlib.Core.Path.{_≡_, refl, subst, sym}
 use mathlib.Core.List.{List, [], _∷_, _++_, map, reverse, reverseAux, List·Memᴰ, List·Memᴰ·head, List·Memᴰ·tail, List·Permᴰ, List·Permᴰ·nil, List·Permᴰ·cons, List·Permᴰ·swap, List·Permᴰ·trans}
 use mathlib.Core.Option.{some, Option·none-ne-some, Option·some-injective}
 use native.Mathlib.Omega.{arith}
 use lib.ListN.{length, getD, getElem?}
-use Rattle.model.specs.Schedulable.{All}
 
 pub member-at : {A : Type 0} (l : List A) (i : ℕ) {x : A} → getElem? l i ≡ some x → List·Memᴰ x l
 member-at [] i e = absurd (Option·none-ne-some _ e)

@@ -8,15 +8,17 @@ use mathlib.Core.Option.{some, Option·none-ne-some}
 use native.Mathlib.Nat.{le-trans}
 use native.Mathlib.Omega.{arith}
 use lib.ListN.{length, getElem?}
+use Rattle.model.specs.Words.{All, nth}
+use Rattle.model.specs.Sizes.{levelsMost}
 use Rattle.model.specs.Total.{total, largest}
 use Rattle.model.specs.Formula.{Aggregate, backlog, backlogBound}
 use Rattle.model.specs.QueueTable.{Queue, Link, Table}
 use Rattle.model.specs.Orders.{Hop, Flow}
-use Rattle.model.specs.Aggregates.{Share, nth, linkAt, queueAt, thresholdOf, shares, allShares, sameHop, addsAt, aggregateAt, levelAggregates}
+use Rattle.model.specs.Aggregates.{Share, linkAt, queueAt, thresholdOf, shares, allShares, sameHop, addsAt, aggregateAt, levelAggregates}
 use Rattle.model.specs.Reference.{State, heldFlows}
 use Rattle.model.specs.Consistent.{tableConsistent}
 use Rattle.model.specs.Admissible.{own}
-use Rattle.model.specs.Schedulable.{All, Named, LinkMeets, FlowMeets}
+use Rattle.model.specs.Schedulable.{Named, LinkMeets, FlowMeets}
 use Rattle.model.specs.Laws.All.{all-append, all-imp, all-member}
 use Rattle.model.specs.Laws.Test.{cond-le}
 use Rattle.model.specs.Laws.Total.{largest-le}
@@ -35,7 +37,7 @@ threshold-below t ok h q e = queue-bounds t ok h q e .3 .threshold
 pub speed-range : (t : Table) → tableConsistent t ≡ true → (n : ℕ) (k : Link) → linkAt t n ≡ some k → (1 ≤ k .speed) × (k .speed ≤ 10000)
 speed-range t ok n k e =
     let (levels, ranges) = link-bounds t ok n k e in
-    first (k .levels) (between-true 1 8 (length (k .levels)) levels .0) ranges
+    first (k .levels) (between-true 1 levelsMost (length (k .levels)) levels .0) ranges
   where
     first : (qs : List Queue) → 1 ≤ length qs → All (RowBounds k) qs → (1 ≤ k .speed) × (k .speed ≤ 10000)
     first [] some-level a = absurd (omega arith)

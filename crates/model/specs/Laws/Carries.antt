@@ -6,13 +6,13 @@ use mathlib.Core.Logic.{_⊎_, inl, inr, ⊎-elim}
 use mathlib.Core.List.{List, [], _∷_, List·Memᴰ, List·Memᴰ·head, List·Memᴰ·tail}
 use native.Mathlib.Nat.{not-suc-le-zero, le-trans, le-of-eq, le-max-left}
 use native.Mathlib.Omega.{arith}
+use Rattle.model.specs.Words.{All}
 use Rattle.model.specs.Total.{largest}
 use Rattle.model.specs.Laws.Total.{largest-append}
 use Rattle.model.specs.Formula.{Aggregate}
 use Rattle.model.specs.QueueTable.{Table}
 use Rattle.model.specs.Orders.{Hop, Flow}
 use Rattle.model.specs.Aggregates.{Share, thresholdOf, queueAt, shares, allShares, sameHop, addsAt, aggregateAt}
-use Rattle.model.specs.Schedulable.{All}
 use Rattle.model.specs.Laws.All.{all-member}
 use Rattle.model.specs.Laws.Aggregates.{same-hop, hop-same}
 use Rattle.model.specs.Admissible.{Carries}

@@ -10,6 +10,7 @@ use native.Mathlib.Omega.{arith}
 use lib.ListN.{length}
 use lib.Dec.{leb, eqb}
 use borrow.Author.Tests.{eqb-true, eqb-false, ne-eqb, leb-true, le-leb}
+use Rattle.model.specs.Words.{All, every, isNone}
 use Rattle.model.specs.Total.{total}
 use Rattle.model.specs.Part.{Part}
 use Rattle.model.specs.Laws.Total.{total-part, length-part, all-part}
@@ -17,8 +18,9 @@ use Rattle.model.specs.Laws.Test.{and-both, both-and, every-all, all-eve
 use Rattle.model.specs.Laws.All.{append-all, all-append, all-imp, all-imp₂}
 use Rattle.model.specs.QueueTable.{Table}
 use Rattle.model.specs.Orders.{Hop, Flow}
-use Rattle.model.specs.Schedulable.{All, LinkMeets}
-use Rattle.model.specs.Reference.{heldHops, withNumber, crosses, slotCount, hopEntries, isNone, every, lineFindings, deadlineFinding, linkFindings}
+use Rattle.model.specs.Schedulable.{LinkMeets}
+use Rattle.model.specs.Sizes.{slotCount, hopEntries}
+use Rattle.model.specs.Reference.{heldHops, withNumber, crosses, lineFindings, deadlineFinding, linkFindings}
 use Rattle.model.specs.Outcomes.{NoneApplies}
 use Rattle.model.specs.Laws.Finding.{none-applies, applies-none, is-none}
 use Rattle.model.specs.Laws.LinkMeets.{meets-part, meets-off, findings-meet, meet-findings}

@@ -10,17 +10,18 @@ use native.Mathlib.Omega.{arith}
 use lib.ListN.{length, set}
 use lib.Dec.{eqb}
 use borrow.Author.Tests.{eqb-false, eq-eqb, ne-eqb}
+use Rattle.model.specs.Words.{All}
 use Rattle.model.specs.Total.{total, largest}
 use Rattle.model.specs.Laws.Total.{total-append, largest-append, total-zero, largest-zero}
 use Rattle.model.specs.Laws.Test.{or-neither}
 use Rattle.model.specs.Laws.Aggregates.{same-hop, hop-same, off-path}
 use Rattle.model.specs.Laws.LinkSteps.{Empty}
-use Rattle.model.specs.Formula.{Aggregate, burstAtHop}
+use Rattle.model.specs.Formula.{Aggregate}
 use Rattle.model.specs.QueueTable.{Queue, Table}
 use Rattle.model.specs.Orders.{Hop, Flow}
-use Rattle.model.specs.Aggregates.{Share, thresholdOf, queueAt, shares, allShares, sameHop, addsAt, aggregateAt, levelAggregates}
-use Rattle.model.specs.Schedulable.{All, Named}
-use Rattle.model.specs.WithFlow.{noFlow, withFlow, together}
+use Rattle.model.specs.Aggregates.{Share, source, grown, thresholdOf, queueAt, shares, allShares, sameHop, addsAt, aggregateAt, levelAggregates}
+use Rattle.model.specs.Schedulable.{Named}
+use Rattle.model.specs.WithFlow.{noFlow, together}
 use Rattle.model.specs.Laws.All.{append-all, all-imp}
 use Rattle.model.specs.Reference.{Cause, crosses, thresholdSum, atHop, metEarlier}
 
@@ -52,8 +53,8 @@ together-none a = λ i. record { rate = rate i; burst = burst i; frame = frame i
     frame : max 0 (a .frame) ≡ a .frame
     frame = omega arith
 
-together-moved : (a b c : Aggregate) → together (together a b) c ≡ together b (withFlow c (a .rate) (a .burst) (a .frame))
-unfolding together withFlow
+together-moved : (a b c : Aggregate) → together (together a b) c ≡ together b (together c a)
+unfolding together
 together-moved a b c = λ i. record { rate = rate i; burst = burst i; frame = frame i }
   where
     rate : a .rate + b .rate + c .rate ≡ b .rate + (c .rate + a .rate)
@@ -82,7 +83,7 @@ module _ (q : Hop) where
 
   -- A share at this queue, counted in there and then taken as done.
   pub shares-here : (x : Share) (es : List Share) (a : Aggregate) → sameHop q (x .hop) ≡ true
-      → together (sharesAt q (x ∷ es)) a ≡ together (sharesAt q es) (withFlow a (x .adds .rate) (x .adds .burst) (x .adds .frame))
+      → together (sharesAt q (x ∷ es)) a ≡ together (sharesAt q es) (together a (x .adds))
   unfolding sharesAt total largest addsAt together
   shares-here x es a e = rw e (together-moved (x .adds) (sharesAt q es) a)
 
@@ -145,7 +146,7 @@ module _ (t : Table) where
     sum = thresholdSum t before
 
     share : Share
-    share = record { hop = h; adds = record { rate = f .rate; burst = burstAtHop (f .rate) (f .burst) sum; frame = f .frame } }
+    share = record { hop = h; adds = grown (source f) sum }
 
     after-shares : List Share
     after-shares = shares t f (sum + thresholdOf (queueAt t h)) after
@@ -174,7 +175,7 @@ module _ (t : Table) where
 
     -- The aggregate at the hop, with the flow's burst there.
     unfoldable pub counted : Aggregate
-    counted = withFlow (aggregateAt t fs h) (f .rate) (burstAtHop (f .rate) (f .burst) (thresholdSum t before)) (f .frame)
+    counted = together (aggregateAt t fs h) (grown (source f) (thresholdSum t before))
 
     at-level : aggregateAt t (f ∷ fs) h ≡ counted
     unfolding counted share sum

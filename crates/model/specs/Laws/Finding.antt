@@ -5,10 +5,10 @@ use mathlib.Core.Path.{_≡_, refl, ap}
 use mathlib.Core.Bool.{Bool, true, false, cond, false≢true}
 use mathlib.Core.List.{List, [], _∷_, _++_}
 use mathlib.Core.Option.{Option, none, some, Option·some-ne-none, Option·none-ne-some}
+use Rattle.model.specs.Words.{All, isNone}
 use Rattle.model.specs.Orders.{Hop}
-use Rattle.model.specs.Schedulable.{All}
 use Rattle.model.specs.Outcomes.{NoneApplies, First}
-use Rattle.model.specs.Reference.{Cause, firstCause, whole, atHop, isNone}
+use Rattle.model.specs.Reference.{Cause, firstCause, whole, atHop}
 
 pub first-listed : (l : List (Option Cause)) {c : Cause} → firstCause l ≡ some c → First l c
 unfolding firstCause

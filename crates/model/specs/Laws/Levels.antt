@@ -6,12 +6,13 @@ use mathlib.Core.List.{List, [], _∷_, reverse, reverseAux}
 use mathlib.Core.Option.{some, Option·none-ne-some, Option·some-injective}
 use native.Mathlib.Omega.{arith}
 use lib.ListN.{take, drop, getElem?}
+use Rattle.model.specs.Words.{nth}
 use Rattle.model.specs.Laws.Total.{total-reverse}
 use Rattle.model.specs.Formula.{Aggregate, interference, levelResidual, delay, backlog}
 use Rattle.model.specs.QueueTable.{Queue, Link, Table}
 use Rattle.model.specs.Orders.{Flow}
 use Rattle.model.specs.Laws.LinkCheck.{LevelMeets, LevelsMeet}
-use Rattle.model.specs.Aggregates.{nth, aggregateAt, levelAggregates}
+use Rattle.model.specs.Aggregates.{aggregateAt, levelAggregates}
 use Rattle.model.specs.Admissible.{own, above, below, LevelAdmits}
 
 module _ (t : Table) (fs : List Flow) (n speed : ℕ) where

@@ -8,6 +8,7 @@ use mathlib.Core.Option.{Option, none, some, Option·some-ne-none}
 use native.Mathlib.Omega.{arith}
 use lib.Dec.{eqb}
 use borrow.Author.Tests.{eqb-true, eqb-false, eq-eqb}
+use Rattle.model.specs.Words.{All}
 use Rattle.model.specs.Part.{Part}
 use Rattle.model.specs.QueueTable.{Link, Table}
 use Rattle.model.specs.Orders.{Hop, Flow}
@@ -15,7 +16,7 @@ use Rattle.model.specs.LinkCheck.{Finding}
 use Rattle.model.specs.Laws.LinkCheck.{link-mono, code-at-most}
 use Rattle.model.specs.Aggregates.{linkAt}
 use Rattle.model.specs.Laws.Aggregates.{aggregate-part, aggregate-off, level-pairs}
-use Rattle.model.specs.Schedulable.{All, LinkMeets}
+use Rattle.model.specs.Schedulable.{LinkMeets}
 use Rattle.model.specs.Reference.{Cause, crosses, linkCause, causeAt, linkFindings}
 use Rattle.model.specs.Laws.All.{map-all, all-map, all-imp, member-all}
 use Rattle.model.specs.Outcomes.{NoneApplies}

@@ -9,14 +9,14 @@ use native.Mathlib.Omega.{arith}
 use native.Mathlib.Numerals.{add-one}
 use lib.ListN.{length, getD, drop}
 use borrow.Author.Tests.{ne-eqb, lt-ltb}
+use Rattle.model.specs.Words.{All}
 use Rattle.model.specs.Total.{total, largest}
 use Rattle.model.specs.Laws.Total.{total-append, total-next, total-zero, largest-append, largest-next, largest-drop, largest-zero}
 use Rattle.model.specs.Laws.All.{all-imp}
 use Rattle.model.specs.Formula.{Aggregate, withinRate, delay, backlog, interference, levelResidual}
 use Rattle.model.specs.QueueTable.{Queue}
 use Rattle.model.specs.LinkCheck.{Finding, isEmpty, levelCode, orElse, levelsFinding, rateCode, linkFinding}
-use Rattle.model.specs.WithFlow.{noFlow, withFlow}
-use Rattle.model.specs.Schedulable.{All}
+use Rattle.model.specs.WithFlow.{noFlow, together}
 
 -- The largest frame of all levels below each level.
 unfoldable pub framesBelow : List Aggregate → List ℕ
@@ -99,8 +99,8 @@ module _ {speed : ℕ} {queues : List Queue} {levels : List Aggregate} {i : ℕ}
         ∙ orElse-clear (levelCode speed q (sum ∷ []) own (low ∷ [])) (i + 1) rest
 
     pub passed-next : levelFinding speed (i + 1) q sum own (largest (λ a. a .frame) (drop (i + 1) levels)) ≡ clear
-        → Passed speed queues levels (i + 1) (withFlow sum (own .rate) (own .burst) (own .frame))
-    unfolding withFlow total orElse
+        → Passed speed queues levels (i + 1) (together sum own)
+    unfolding together total orElse
     passed-next fits =
         record {
           above = own ∷ p .above;

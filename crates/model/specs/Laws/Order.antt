@@ -9,16 +9,17 @@ use mathlib.Core.Option.{Option, none, some, Option·none-ne-some, Option·some-
 use lib.ListN.{length, drop}
 use lib.Dec.{eqb}
 use borrow.Author.Tests.{eqb-true}
+use Rattle.model.specs.Sizes.{headColumns, hopColumns}
 use Rattle.model.specs.Columns.{Line, ended, unended, lines, fieldAt}
-use Rattle.model.specs.Orders.{Hop, Order, register, release, rejected, Head, headFields, hopField, hopFields, pathFields, numberInRange, hopsInRange, headInRange, flowOf, withPath, registration, registrationOf, releaseOf, releaseLine, orderOfKind, readOrder}
-use Rattle.model.specs.Reference.{Call, kindNumber, lineOfKind, onlyLine, callOrder}
+use Rattle.model.specs.Orders.{Hop, Order, register, release, rejected, Head, headFields, hopField, hopFields, pathFields, numberInRange, hopsInRange, headInRange, flowOf, withPath, registration, registrationOf, releaseOf, releaseLine, registering, releasing, kindNumber, kindOfNumber, kindOrder, orderOfKind, readOrder}
+use Rattle.model.specs.Reference.{Call, lineOfKind, onlyLine, callOrder}
 use Rattle.model.specs.Consistent.{headOf, flowInRange}
 use Rattle.model.specs.Laws.Test.{both-and, and-then}
 
 -- What a line of this kind can say.
 abbrev pub Readable : (kind : ℕ) → Order → Type 0
-Readable kind (register f) = (kind ≡ 1) × (flowInRange f ≡ true)
-Readable kind (release n) = (kind ≡ 2) × (numberInRange n ≡ true)
+Readable kind (register f) = (kind ≡ kindNumber registering) × (flowInRange f ≡ true)
+Readable kind (release n) = (kind ≡ kindNumber releasing) × (numberInRange n ≡ true)
 Readable kind (rejected code) = (code ≡ 10) ⊎ (code ≡ 11)
 
 either : (kind : ℕ) (b : Bool) (x y : Order) → (b ≡ true → Readable kind x) → Readable kind y → Readable kind (cond b x y)
@@ -35,36 +36,40 @@ hops-counted (suc n) bytes path e =
 
 path-counted : (hops : ℕ) (line : List ℕ) (path : List Hop) → pathFields hops line ≡ some path → length path ≡ hops
 unfolding pathFields
-path-counted hops line path = go (eqb (length line) (41 + 6 * hops))
+path-counted hops line path = go (eqb (length line) (headColumns + hopColumns * hops))
   where
-    go : (b : Bool) → cond b (hopFields hops (drop 41 line)) none ≡ some path → length path ≡ hops
-    go true e = hops-counted hops (drop 41 line) path e
+    go : (b : Bool) → cond b (hopFields hops (drop headColumns line)) none ≡ some path → length path ≡ hops
+    go true e = hops-counted hops (drop headColumns line) path e
     go false e = absurd (Option·none-ne-some _ e)
 
 module _ (kind : ℕ) (line : List ℕ) where
-  with-path : (h : Head) (o : Option (List Hop)) → kind ≡ 1 → hopsInRange (h .hops) ≡ true → pathFields (h .hops) line ≡ o
+  with-path : (h : Head) (o : Option (List Hop)) → kind ≡ kindNumber registering → hopsInRange (h .hops) ≡ true → pathFields (h .hops) line ≡ o
       → Readable kind (withPath h o)
   unfolding withPath flowInRange headOf flowOf headInRange
   with-path h none one r e = inl refl
   with-path h (some path) one r e =
       either kind (headInRange h) _ _ (λ q. (one, both-and q (rw (path-counted (h .hops) line path e) r))) (inr refl)
 
-  registration-readable : (o : Option Head) → kind ≡ 1 → Readable kind (registrationOf line o)
+  registration-readable : (o : Option Head) → kind ≡ kindNumber registering → Readable kind (registrationOf line o)
   unfolding registrationOf
   registration-readable none one = inl refl
   registration-readable (some h) one =
       either kind (hopsInRange (h .hops)) _ _ (λ r. with-path h (pathFields (h .hops) line) one r refl) (inr refl)
 
-  release-readable : (o : Option ℕ) → kind ≡ 2 → Readable kind (releaseOf o)
+  release-readable : (o : Option ℕ) → kind ≡ kindNumber releasing → Readable kind (releaseOf o)
   unfolding releaseOf
   release-readable none two = inl refl
   release-readable (some n) two = either kind (numberInRange n) _ _ (λ r. (two, r)) (inr refl)
 
   kind-readable : Readable kind (orderOfKind line (some kind))
-  unfolding orderOfKind registration releaseLine
-  kind-readable =
-      either kind (eqb kind 1) _ _ (λ one. registration-readable (headFields line) (eqb-true _ _ one))
-      (either kind (eqb kind 2) _ _ (λ two. either kind (eqb (length line) 8) _ _ (λ e. release-readable (fieldAt 3 8 line) (eqb-true _ _ two)) (inl refl)) (inr refl))
+  unfolding orderOfKind kindOrder kindOfNumber registration releaseLine
+  kind-readable = go (eqb kind (kindNumber registering)) (eqb kind (kindNumber releasing)) refl refl
+    where
+      go : (b d : Bool) → eqb kind (kindNumber registering) ≡ b → eqb kind (kindNumber releasing) ≡ d
+          → Readable kind (kindOrder line (cond b (some registering) (cond d (some releasing) none)))
+      go true d one two = registration-readable (headFields line) (eqb-true _ _ one)
+      go false true one two = either kind (eqb (length line) 8) _ _ (λ e. release-readable (fieldAt 3 8 line) (eqb-true _ _ two)) (inl refl)
+      go false false one two = inr refl
 
   own-kind : (o : Option ℕ) → fieldAt 1 2 line ≡ o → Readable kind (lineOfKind kind line o)
   unfolding lineOfKind readOrder

@@ -9,9 +9,11 @@ use native.Mathlib.Omega.{arith}
 use lib.ListN.{length, replicate, length-set, length-replicate}
 use lib.Dec.{eqb}
 use borrow.Author.Tests.{eqb-true, eq-eqb}
+use Rattle.model.specs.Words.{firstIndex, isNone}
 use Rattle.model.specs.Total.{total}
-use Rattle.model.specs.Orders.{Flow, Order, register, release, rejected}
-use Rattle.model.specs.Reference.{State, Cause, Call, heldFlows, heldHops, withNumber, slotCount, isNone, holds, firstIndex, firstCause, findings, refuse, fill, perform, decide, apply, callOrder, kindNumber, step, opened, final}
+use Rattle.model.specs.Orders.{Flow, Order, register, release, rejected, kindNumber}
+use Rattle.model.specs.Sizes.{slotCount}
+use Rattle.model.specs.Reference.{Slot, State, Cause, Call, heldFlows, heldHops, withNumber, holds, firstCause, findings, refuse, fill, perform, decide, apply, callOrder, step, opened, final}
 use Rattle.model.specs.Laws.Finding.{none-applies}
 use Rattle.model.specs.Laws.LinkMeets.{findings-meet}
 use Rattle.model.specs.Laws.Slot.{not-all-held, fill-part, clear-part}
@@ -54,7 +56,7 @@ unfolding opened
 opened-rules text =
     record {
       table = table-consistent text;
-      size = length-replicate slotCount none;
+      size = length-replicate {A = Slot} slotCount none;
       flows = no-flows (opened text) (none-held slotCount);
     }
 

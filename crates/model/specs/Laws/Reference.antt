@@ -10,9 +10,10 @@ use native.Mathlib.Omega.{arith}
 use lib.ListN.{length, length-set}
 use lib.Seq.{getD-set-same, getD-set-other}
 use borrow.Author.Tests.{eqb-true, eqb-false, ltb-false, leb-false}
-use Rattle.model.specs.Orders.{Flow, Order, register, release, rejected}
-use Rattle.model.specs.Schedulable.{All}
-use Rattle.model.specs.Reference.{Slot, State, Cause, heldFlows, heldHops, withNumber, hopEntries, isNone, isHeld, every, holds, firstIndex, firstCause, whole, numberFinding, lineFindings, deadlineFinding, roomFindings, linkFindings, registerFindings, findings, refuse, fill, perform, decide, apply, Call, callOrder, kindNumber, step}
+use Rattle.model.specs.Words.{All, every, firstIndex, isNone}
+use Rattle.model.specs.Orders.{Flow, Order, register, release, rejected, registering, releasing, kindNumber}
+use Rattle.model.specs.Sizes.{hopEntries}
+use Rattle.model.specs.Reference.{Slot, State, Cause, heldFlows, heldHops, withNumber, isHeld, holds, firstCause, whole, numberFinding, lineFindings, deadlineFinding, roomFindings, linkFindings, registerFindings, findings, refuse, fill, perform, decide, apply, Call, callOrder, step}
 use Rattle.model.specs.Laws.All.{all-append, append-all}
 use Rattle.model.specs.Outcomes.{NoneApplies, NoneOthers, Refused, Replaced, Admitted, Released}
 use Rattle.model.specs.Laws.Finding.{first-listed, none-applies, applies-none, Coded, whole-coded, hop-coded, first-coded, whole-none, is-none}
@@ -183,19 +184,20 @@ not-rejected : (s : State) (code : ℕ) → NoneApplies (findings s (rejected co
 unfolding findings whole
 not-rejected s code a = Option·some-ne-none _ (a .0)
 
-pub order-admitted : (s : State) (o : Order) → Readable 1 o → apply s o .answer .code ≡ 0
+pub order-admitted : (s : State) (o : Order) → Readable (kindNumber registering) o → apply s o .answer .code ≡ 0
     → (f : Flow) × (o ≡ register f) × Admitted s f (apply s o)
-unfolding findings
+unfolding findings kindNumber
 order-admitted s (register f) r z =
-    let a = no-cause s (register f) 1 r z in
+    let a = no-cause s (register f) _ r z in
     (f, refl, subst (Admitted s f) (sym (performed s (register f) a)) (admitted s f (register-rules s f a)))
 order-admitted s (release n) r z = absurd (omega (arith, r .0))
-order-admitted s (rejected code) r z = absurd (not-rejected s code (no-cause s (rejected code) 1 r z))
+order-admitted s (rejected code) r z = absurd (not-rejected s code (no-cause s (rejected code) (kindNumber registering) r z))
 
-pub order-released : (s : State) (o : Order) → Readable 2 o → apply s o .answer .code ≡ 0
+pub order-released : (s : State) (o : Order) → Readable (kindNumber releasing) o → apply s o .answer .code ≡ 0
     → (n : ℕ) × (o ≡ release n) × Released s n (apply s o)
+unfolding kindNumber
 order-released s (register f) r z = absurd (omega (arith, r .0))
 order-released s (release n) r z =
-    let a = no-cause s (release n) 2 r z in
+    let a = no-cause s (release n) _ r z in
     (n, refl, subst (Released s n) (sym (performed s (release n) a)) (released s n a))
-order-released s (rejected code) r z = absurd (not-rejected s code (no-cause s (rejected code) 2 r z))
+order-released s (rejected code) r z = absurd (not-rejected s code (no-cause s (rejected code) (kindNumber releasing) r z))

@@ -10,9 +10,10 @@ use native.Mathlib.Omega.{arith}
 use lib.ListN.{length}
 use lib.Dec.{ltb}
 use borrow.Author.Tests.{ltb-true, lt-ltb}
+use Rattle.model.specs.Words.{All, every}
 use Rattle.model.specs.Orders.{Flow, register}
-use Rattle.model.specs.Schedulable.{All}
-use Rattle.model.specs.Reference.{State, Cause, heldFlows, heldHops, slotCount, hopEntries, isHeld, every, firstCause, whole, lineFindings, roomFindings, linkFindings, registerFindings, findings, refuse, fill, perform, decide, apply}
+use Rattle.model.specs.Sizes.{slotCount, hopEntries}
+use Rattle.model.specs.Reference.{State, Cause, heldFlows, heldHops, isHeld, firstCause, whole, lineFindings, roomFindings, linkFindings, registerFindings, findings, refuse, fill, perform, decide, apply}
 use Rattle.model.specs.Outcomes.{NoneApplies, earlyFindings, NoRoom, Full}
 use Rattle.model.specs.Laws.Finding.{Coded, first-coded, skip-none}
 use Rattle.model.specs.Laws.LinkMeets.{findings-coded}

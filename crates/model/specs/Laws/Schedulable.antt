@@ -5,13 +5,15 @@ use mathlib.Core.Bool.{true, cond, _&&_}
 use mathlib.Core.List.{List, [], _∷_}
 use mathlib.Core.Option.{Option, none, some, Option·none-ne-some, Option·some-ne-none}
 use lib.ListN.{length}
+use Rattle.model.specs.Words.{All, every, isNone, nth}
+use Rattle.model.specs.Sizes.{levelsMost}
 use Rattle.model.specs.Columns.{between}
 use Rattle.model.specs.Laws.Columns.{between-true}
 use Rattle.model.specs.QueueTable.{Queue, Link, Table, rowInRange}
 use Rattle.model.specs.Orders.{Hop, Flow}
-use Rattle.model.specs.Aggregates.{nth, linkAt, queueAt}
-use Rattle.model.specs.Schedulable.{All, Named, FlowMeets, Schedulable}
-use Rattle.model.specs.Reference.{State, heldFlows, isNone, every, atHop, noQueue, lineFindings}
+use Rattle.model.specs.Aggregates.{linkAt, queueAt}
+use Rattle.model.specs.Schedulable.{Named, FlowMeets, Schedulable}
+use Rattle.model.specs.Reference.{State, heldFlows, atHop, noQueue, lineFindings}
 use Rattle.model.specs.Laws.Test.{and-both, and-then, every-all}
 use Rattle.model.specs.Laws.All.{all-imp, all-at}
 use Rattle.model.specs.Consistent.{rowOf, linkConsistent, tableConsistent}
@@ -55,7 +57,7 @@ module _ (t : Table) (ok : tableConsistent t ≡ true) where
   links-rules = all-imp t link-rules (every-all linkConsistent t (and-both (every linkConsistent t) _ ok .0))
 
   -- Each level of a link with a number.
-  pub link-bounds : (n : ℕ) (k : Link) → linkAt t n ≡ some k → (between 1 8 (length (k .levels)) ≡ true) × All (RowBounds k) (k .levels)
+  pub link-bounds : (n : ℕ) (k : Link) → linkAt t n ≡ some k → (between 1 levelsMost (length (k .levels)) ≡ true) × All (RowBounds k) (k .levels)
   unfolding linkAt
   link-bounds n k e =
       let r = all-nth LinkRules t n links-rules e in

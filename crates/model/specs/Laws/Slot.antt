@@ -9,12 +9,12 @@ use native.Mathlib.Omega.{arith}
 use borrow.Author.Tests.{lt-ltb, le-leb}
 use lib.ListN.{length, getD, set}
 use lib.Dec.{leb, ltb, eqb, leb·suc-suc}
-use Rattle.model.specs.Schedulable.{All}
+use Rattle.model.specs.Words.{All, every, firstIndex, isNone}
 use Rattle.model.specs.Total.{total}
 use Rattle.model.specs.Part.{Part, empty, skip, keep, swap, both}
 use Rattle.model.specs.Laws.Total.{part-refl}
 use Rattle.model.specs.Orders.{Flow}
-use Rattle.model.specs.Reference.{Slot, heldFlows, withNumber, isNone, isHeld, every, firstIndex, holds}
+use Rattle.model.specs.Reference.{Slot, heldFlows, withNumber, isHeld, holds}
 
 module _ {A : Type 0} (test : A → Bool) where
   -- The test finds one.

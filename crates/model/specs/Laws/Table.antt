@@ -8,10 +8,11 @@ use native.Mathlib.Omega.{arith}
 use lib.ListN.{length, length-append, length-reverse}
 use lib.Dec.{leb, eqb}
 use borrow.Author.Tests.{eqb-true, leb-true, le-leb}
+use Rattle.model.specs.Words.{All, every}
+use Rattle.model.specs.Sizes.{linksMost, levelsMost, tableBytes}
 use Rattle.model.specs.Columns.{Line, ended, unended, lines, between}
 use Rattle.model.specs.QueueTable.{Link, Row, row, rowInRange, continues, begins, rowInTurn, sameLink, rowAgrees, rowCause, queueOf, newLink, addLevel, addRow, Step, links, fault, rowStep, lineStep, refused, afterStep, readLines, readTable}
-use Rattle.model.specs.Schedulable.{All}
-use Rattle.model.specs.Reference.{every, tableOf}
+use Rattle.model.specs.Reference.{tableOf}
 use Rattle.model.specs.Consistent.{rowOf, linkConsistent, tableConsistent}
 use Rattle.model.specs.Laws.Test.{and-both, both-and, or-left, or-right, cond-zero, every-all, all-every}
 use Rattle.model.specs.Laws.All.{all-append, all-imp, reverse-all}
@@ -19,13 +20,13 @@ use Rattle.model.specs.Laws.All.{all-append, all-imp, reverse-all}
 -- What a consistent link meets, rule by rule.
 pub record LinkRules (l : Link) : Type 0 where
   pub ranges : All (λ q. rowInRange (rowOf l q) ≡ true) (l .levels)
-  pub levels : between 1 8 (length (l .levels)) ≡ true
+  pub levels : between 1 levelsMost (length (l .levels)) ≡ true
   pub nodes : not (eqb (l .from) (l .to)) ≡ true
 
 pub link-rules : (l : Link) → linkConsistent l ≡ true → LinkRules l
 unfolding linkConsistent
 link-rules l e =
-    let (e₁, nodes) = and-both (every (λ q. rowInRange (rowOf l q)) (l .levels) && between 1 8 (length (l .levels))) _ e in
+    let (e₁, nodes) = and-both (every (λ q. rowInRange (rowOf l q)) (l .levels) && between 1 levelsMost (length (l .levels))) _ e in
     let (ranges, levels) = and-both (every (λ q. rowInRange (rowOf l q)) (l .levels)) _ e₁ in
     record { ranges = every-all _ (l .levels) ranges; levels = levels; nodes = nodes }
 
@@ -47,24 +48,24 @@ row-rules ls r z =
     record { range = range; turn = turn; agrees = cond-zero (rowAgrees ls r) (omega arith) z₂ .0 }
 
 -- 3: it goes on with a link or begins one, within the limits.
-pub row-turn : (ls : List Link) (r : Row) → RowRules ls r → ((continues ls r || begins ls r) ≡ true) × (r .link ≤ 64) × (r .level ≤ 8)
+pub row-turn : (ls : List Link) (r : Row) → RowRules ls r → ((continues ls r || begins ls r) ≡ true) × (r .link ≤ linksMost) × (r .level ≤ levelsMost)
 unfolding rowInTurn
 row-turn ls r m =
-    let (e, level) = and-both ((continues ls r || begins ls r) && leb (r .link) 64) _ (m .turn) in
+    let (e, level) = and-both ((continues ls r || begins ls r) && leb (r .link) linksMost) _ (m .turn) in
     let (e′, link) = and-both (continues ls r || begins ls r) _ e in
     (e′, leb-true _ _ link, leb-true _ _ level)
 
 -- The links read so far.
 pub record LinksRules (ls : List Link) : Type 0 where
   pub each : All LinkRules ls
-  pub count : length ls ≤ 64
+  pub count : length ls ≤ linksMost
 
 new-link : (ls : List Link) (r : Row) → RowRules ls r → LinkRules (newLink r)
 unfolding newLink rowOf queueOf rowInRange rowAgrees between
 new-link ls r m = record { ranges = (m .range, tt); levels = refl; nodes = and-both (not (eqb (r .from) (r .to))) _ (m .agrees) .0 }
 
 -- A level more of the newest link.
-one-more : (l : Link) (r : Row) → LinkRules l → rowInRange r ≡ true → eqb (r .level) (suc (length (l .levels))) ≡ true → r .level ≤ 8
+one-more : (l : Link) (r : Row) → LinkRules l → rowInRange r ≡ true → eqb (r .level) (suc (length (l .levels))) ≡ true → r .level ≤ levelsMost
     → (r .from ≡ l .from)
     → (r .to ≡ l .to)
     → (r .speed ≡ l .speed)
@@ -78,7 +79,7 @@ one-more l r m range level high from to speed =
       levels =
           both-and
           (le-leb 1 (length (l .levels ++ (queueOf r ∷ []))) (omega arith))
-          (le-leb (length (l .levels ++ (queueOf r ∷ []))) 8 (omega arith));
+          (le-leb (length (l .levels ++ (queueOf r ∷ []))) levelsMost (omega arith));
       nodes = m .nodes;
     }
 
@@ -87,7 +88,7 @@ unfolding addRow begins continues rowAgrees sameLink
 add-row [] r m n = record { each = (new-link [] r n, tt); count = omega arith }
 add-row (l ∷ ls) r m n = go (begins (l ∷ ls) r) refl
   where
-    turn : ((continues (l ∷ ls) r || begins (l ∷ ls) r) ≡ true) × (r .link ≤ 64) × (r .level ≤ 8)
+    turn : ((continues (l ∷ ls) r || begins (l ∷ ls) r) ≡ true) × (r .link ≤ linksMost) × (r .level ≤ levelsMost)
     turn = row-turn (l ∷ ls) r n
 
     begun : begins (l ∷ ls) r ≡ true → r .link ≡ suc (length (l ∷ ls))
@@ -135,7 +136,7 @@ unfolding readLines tableOf tableConsistent every
 lines-consistent n ls [] m =
     both-and
     (all-every linkConsistent (reverse ls) (all-imp (reverse ls) rules-link (reverse-all LinkRules ls (m .each))))
-    (le-leb (length (reverse ls)) 64 (rw (length-reverse ls) (m .count)))
+    (le-leb (length (reverse ls)) linksMost (rw (length-reverse ls) (m .count)))
 lines-consistent n ls (l ∷ more) m = go (lineStep ls l) (line-sound ls l m) (λ ls′. lines-consistent (suc n) ls′ more)
   where
     go : (step : Step) → Sound step → ((ls′ : List Link) → LinksRules ls′ → tableConsistent (tableOf (readLines (suc n) ls′ more)) ≡ true)
@@ -147,7 +148,7 @@ lines-consistent n ls (l ∷ more) m = go (lineStep ls l) (line-sound ls l m) (�
 -- Of any text: the table it says, and none if it was refused.
 pub table-consistent : (text : List ℕ) → tableConsistent (tableOf (readTable text)) ≡ true
 unfolding readTable tableOf tableConsistent every
-table-consistent text = go (leb (length text) 18944)
+table-consistent text = go (leb (length text) tableBytes)
   where
     go : (b : Bool) → tableConsistent (tableOf (cond b (readLines 1 [] (lines text)) (refused 5 0))) ≡ true
     go true = lines-consistent 1 [] (lines text) (record { each = tt; count = omega arith })

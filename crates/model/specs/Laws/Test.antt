@@ -1,5 +1,6 @@
 -- What computed tests say: `&&`, `||`, a choice, a step that may fail, a test of every element. By cases, and by induction on the list.
 -- Assumes nothing.
+use Rattle.model.specs.Words.{All, andThen, every}
 use Prim.Native.Nat.{ℕ, _≤_, zero-le}
 use mathlib.Core.Path.{_≡_, refl, sym, ap, _∙_}
 use mathlib.Core.Bool.{Bool, true, false, cond, _&&_, _||_, and-eq-true-iff, and-assoc, true≢false}
@@ -7,9 +8,6 @@ use mathlib.Core.List.{List, [], _∷_, _++_}
 use mathlib.Core.Option.{Option, none, some, Option·none-ne-some}
 use native.Mathlib.Nat.{le-refl}
 use native.Mathlib.Omega.{arith}
-use Rattle.model.specs.Columns.{andThen}
-use Rattle.model.specs.Schedulable.{All}
-use Rattle.model.specs.Reference.{every}
 
 pub and-both : (a b : Bool) → (a && b) ≡ true → (a ≡ true) × (b ≡ true)
 and-both a b e = and-eq-true-iff a b .0 e

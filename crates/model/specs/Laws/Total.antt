@@ -8,9 +8,9 @@ use native.Mathlib.Nat.{le-trans, zero-add}
 use lib.ListN.{length, drop}
 use lib.Seq.{drop-nil}
 use native.Mathlib.Omega.{arith}
+use Rattle.model.specs.Words.{All}
 use Rattle.model.specs.Total.{total, largest}
 use Rattle.model.specs.Part.{Part, empty, skip, keep, swap, both}
-use Rattle.model.specs.Schedulable.{All}
 use Rattle.model.specs.Laws.All.{member-all}
 
 -- Two lists compared element by element.

@@ -4,10 +4,11 @@ use Prim.Native.Nat.{ℕ}
 use mathlib.Core.Path.{_≡_, refl}
 use mathlib.Core.Bool.{Bool, true, false}
 use mathlib.Core.List.{List, [], _∷_}
+use Rattle.model.specs.Words.{All}
 use Rattle.model.specs.QueueTable.{Table}
 use Rattle.model.specs.Orders.{Flow}
 use Rattle.model.specs.Aggregates.{levelAggregates}
-use Rattle.model.specs.Schedulable.{All, LinkMeets}
+use Rattle.model.specs.Schedulable.{LinkMeets}
 use Rattle.model.specs.Reference.{State, heldFlows, crosses}
 use Rattle.model.specs.Consistent.{tableConsistent}
 use Rattle.model.specs.Laws.LinkSteps.{empty-link}

@@ -5,7 +5,7 @@ use Prim.Native.Nat.{_-_, _≤_, _<_}
 use mathlib.Core.Path.{subst}
 use native.Mathlib.Omega.{arith}
 use lib.ListN.{length}
-use Rattle.columns.specs.Reading.{endsWithin}
+use Rattle.columns.specs.View.{endsWithin}
 use Rattle.order_cases.proofs.walk.Statement.{statement}
 use Rattle.order_cases.proofs.walk.Tie as tie
 

@@ -9,16 +9,16 @@ use Rattle.model.specs.Orders.{headInRange, numberInRange}
 use Rattle.orders.proofs.in_range.Statement.{statement}
 use Rattle.orders.proofs.in_range.Tie as tie
 
-number-within : (c : tie.Else1) → between 1 65535 (c .before .before .before .args .flow .number) ≡ true
+number-within : (c : tie.Else1) → between 1 65535 (c .before .before .before .before .args .flow .number) ≡ true
 number-within c = ap (between 1 65535) (sym (c .before .before .wide .ensures)) ∙ sym (c .before .within .ensures) ∙ not-false _ (c .if1 .left)
 
-rate-within : (c : tie.Else2) → between 1 10000000 (c .before .before .before .before .before .args .flow .rate .0) ≡ true
+rate-within : (c : tie.Else2) → between 1 10000000 (c .before .before .before .before .before .before .args .flow .share .rate .0) ≡ true
 rate-within c = sym (c .before .within2 .ensures) ∙ not-false _ (c .if2 .left)
 
-burst-within : (c : tie.Else3) → between 84 1000000 (c .before .before .before .before .before .before .before .args .flow .burst .0) ≡ true
+burst-within : (c : tie.Else3) → between 84 1000000 (c .before .before .before .before .before .before .before .before .args .flow .share .burst .0) ≡ true
 burst-within c = sym (c .before .within3 .ensures) ∙ not-false _ (c .if3 .left)
 
-frame-within : (c : tie.Else4) → between 84 1542 (c .before .before .before .before .before .before .before .before .before .args .flow .frame .0) ≡ true
+frame-within : (c : tie.Else4) → between 84 1542 (c .before .before .before .before .before .before .before .before .before .before .args .flow .share .frame .0) ≡ true
 frame-within c = sym (c .before .within4 .ensures) ∙ not-false _ (c .if4 .left)
 
 returns : tie.Need-returns

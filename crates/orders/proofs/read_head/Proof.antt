@@ -3,7 +3,7 @@
 use borrow.Author.Needs.{needs}
 use mathlib.Core.Path.{_≡_, sym, _∙_, ap}
 use mathlib.Core.Option.{some}
-use Rattle.columns.specs.Reading.{valueOf}
+use Rattle.columns.specs.View.{valueOf}
 use Rattle.model.specs.Columns.{fieldAt}
 use Rattle.model.specs.Orders.{headFields}
 use Rattle.orders.proofs.read_head.Statement.{statement}

@@ -7,7 +7,7 @@ use mathlib.Core.List.{List}
 use native.Mathlib.Omega.{arith}
 use lib.ListN.{length, take, drop, length-drop}
 use lib.Seq.{take-all}
-use Rattle.columns.specs.Reading.{valueOf}
+use Rattle.columns.specs.View.{valueOf}
 use Rattle.model.specs.Columns.{fieldAt}
 use Rattle.model.specs.Orders.{hopField}
 use Rattle.orders.proofs.read_hop.Statement.{statement}

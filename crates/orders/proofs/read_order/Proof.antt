@@ -1,18 +1,29 @@
 -- `orders::read_order` meets its contract: the kind alone says what the rest is read as.
 -- Assumes nothing.
 use borrow.Author.Needs.{needs}
+use Prim.Native.Nat.{ℕ}
 use mathlib.Core.Path.{_≡_, sym, _∙_, ap}
-use mathlib.Core.Option.{some}
-use borrow.Author.Tests.{eq-eqb, ne-eqb}
-use Rattle.columns.specs.Reading.{valueOf}
+use mathlib.Core.List.{List}
+use mathlib.Core.Option.{Option, some}
+use Rattle.columns.specs.View.{valueOf}
 use Rattle.model.specs.Columns.{fieldAt}
-use Rattle.model.specs.Orders.{readOrder, orderOfKind}
+use Rattle.model.specs.Orders.{Order, Kind, kindOfNumber, kindOrder, readOrder, orderOfKind}
+use Rattle.orders.specs.declared.Kind as code
+use Rattle.orders.specs.View.{kindOf, kindIn}
 use Rattle.orders.proofs.PathLaws.{with-order, bare-fits}
 use Rattle.orders.proofs.read_order.Statement.{statement}
 use Rattle.orders.proofs.read_order.Tie as tie
 
-kind : (c : tie.After-kind) → fieldAt 1 2 (c .before .before .before .before .args .line .now) ≡ some (c .kind .given .0 .0)
-kind c = sym (c .before .before .read-at .ensures) ∙ ap valueOf (c .kind .given .1)
+number : (c : tie.After-number) → fieldAt 1 2 (c .before .before .before .before .args .line .now) ≡ some (c .number .given .0 .0)
+number c = sym (c .before .before .read-at .ensures) ∙ ap valueOf (c .number .given .1)
+
+-- The line goes by the kind that its number stands for.
+by-kind : (line : List ℕ) {n : ℕ} {k : Option Kind} {o : Order} → fieldAt 1 2 line ≡ some n → kindOfNumber n ≡ k → o ≡ kindOrder line k → o ≡ readOrder line
+unfolding readOrder orderOfKind
+by-kind line {n} {k} {o} e is same = same ∙ sym (ap (orderOfKind line) e ∙ ap (kindOrder line) is)
+
+kind : (c : tie.After-kind) → kindOfNumber (c .before .before .before .before .number .given .0 .0) ≡ some (kindOf (c .kind .given .0 .0))
+kind c = sym (c .before .before .kind-of-number .ensures) ∙ ap kindIn (c .kind .given .1)
 
 returns : tie.Need-returns
 unfolding readOrder orderOfKind
@@ -21,22 +32,21 @@ returns c =
     (with-order _ _ (c .bare .ensures) ∙ sym (simp ends), bare-fits _ _ (c .bare .ensures) tt)
 
 returns-2 : tie.Need-returns-2
-unfolding readOrder orderOfKind
+unfolding kindOrder
 returns-2 c =
-    (c .read-registration .ensures .0 ∙ sym (simp (kind (c .before .before .before), eq-eqb _ _ (c .before .if1 .taken))), c .read-registration .ensures .1)
+    (by-kind _ (number (c .before .before .before .before .before)) (sym (c .before .before .before .kind-of-number .ensures) ∙ ap kindIn (c .before .enum-told2 .given .1)) (with-order _ _ (c .bare2 .ensures)), bare-fits _ _ (c .bare2 .ensures) tt)
 
 returns-3 : tie.Need-returns-3
-unfolding readOrder orderOfKind
+unfolding kindOrder
 returns-3 c =
-    (c .read-release .ensures .0 ∙ sym (simp (kind (c .before .before .before .before), ne-eqb _ _ (c .before .before .if1 .left), eq-eqb _ _ (c .before .if2 .taken))), c .read-release .ensures .1)
+    (by-kind _ (number (c .before .before .before .before .before .before .before .before)) (kind (c .before .before .before .before) ∙ ap (λ (k : code.Kind). some (kindOf k)) (c .before .enum-told3 .given .1)) (c .read-registration .ensures .0), c .read-registration .ensures .1)
 
 returns-4 : tie.Need-returns-4
-unfolding readOrder orderOfKind
+unfolding kindOrder
 returns-4 c =
-    (with-order _ _ (c .bare2 .ensures) ∙ sym (simp (kind (c .before .before .before .before), ne-eqb _ _ (c .before .before .if1 .left), ne-eqb _ _ (c .before .if2 .left))), bare-fits _ _ (c .bare2 .ensures) tt)
+    (by-kind _ (number (c .before .before .before .before .before .before .before .before)) (kind (c .before .before .before .before) ∙ ap (λ (k : code.Kind). some (kindOf k)) (c .before .enum-told4 .given .1)) (c .read-release .ensures .0), c .read-release .ensures .1)
 
 pub read-order-spec : {M : Type 1} → statement M
 read-order-spec =
     tie.close
-    (tie.spec (λ c κs. search needs) (λ c. search needs) (λ c. search needs) (λ c κs. search needs) returns (λ c κs. search needs) returns-2
-    (λ c κs. search needs) returns-3 (λ c κs. search needs) returns-4)
+    (tie.spec (λ c κs. search needs) (λ c. search needs) (λ c. search needs) (λ c κs. search needs) returns (λ c κs. search needs) (λ c. search needs) (λ c. search needs) (λ c κs. search needs) returns-2 (λ c. search needs) (λ c κs. search needs) (λ c. search needs) (λ c κs. search needs) returns-3 returns-4)

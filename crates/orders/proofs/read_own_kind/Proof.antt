@@ -4,7 +4,7 @@ use borrow.Author.Needs.{needs}
 use mathlib.Core.Path.{_≡_, sym, _∙_, ap}
 use mathlib.Core.Option.{some}
 use borrow.Author.Tests.{eq-eqb, ne-eqb}
-use Rattle.columns.specs.Reading.{valueOf}
+use Rattle.columns.specs.View.{valueOf}
 use Rattle.model.specs.Columns.{fieldAt}
 use Rattle.model.specs.Reference.{lineOfKind}
 use Rattle.orders.proofs.PathLaws.{with-order, bare-fits}
@@ -23,15 +23,14 @@ returns c =
 returns-2 : tie.Need-returns-2
 unfolding lineOfKind
 returns-2 c =
-    (with-order _ _ (c .bare2 .ensures) ∙ sym (simp (found (c .before .before .before), ne-eqb _ _ (c .before .if1 .taken))), bare-fits _ _ (c .bare2 .ensures) tt)
+    (with-order _ _ (c .bare2 .ensures) ∙ sym (simp (found (c .before .before .before .before), ne-eqb _ _ (λ e. c .before .if1 .taken (e ∙ sym (c .before .before .kind-number .ensures))))), bare-fits _ _ (c .bare2 .ensures) tt)
 
 returns-3 : tie.Need-returns-3
 unfolding lineOfKind
 returns-3 c =
-    (c .read-order .ensures .0 ∙ sym (simp (found (c .before .before .before), eq-eqb _ _ (c .before .if1 .left))), c .read-order .ensures .1)
+    (c .read-order .ensures .0 ∙ sym (simp (found (c .before .before .before .before), eq-eqb _ _ (c .before .if1 .left ∙ c .before .before .kind-number .ensures))), c .read-order .ensures .1)
 
 pub read-own-kind-spec : {M : Type 1} → statement M
 read-own-kind-spec =
     tie.close
-    (tie.spec (λ c κs. search needs) (λ c. search needs) (λ c. search needs) (λ c κs. search needs) returns (λ c κs. search needs) returns-2
-    (λ c κs. search needs) returns-3)
+    (tie.spec (λ c κs. search needs) (λ c. search needs) (λ c. search needs) (λ c κs. search needs) returns (λ c κs. search needs) (λ c κs. search needs) returns-2 (λ c κs. search needs) returns-3)

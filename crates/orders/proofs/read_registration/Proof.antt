@@ -3,12 +3,12 @@
 use mathlib.Core.Path.{_≡_, sym, _∙_, ap}
 use mathlib.Core.Bool.{Bool, true, false}
 use mathlib.Core.Option.{some}
-use lib.ListN.{take}
 use borrow.Author.Tests.{not-true, not-false}
+use Rattle.model.specs.Sizes.{hopsMost}
 use Rattle.model.specs.Columns.{between}
 use Rattle.model.specs.Laws.Columns.{between-true}
 use Rattle.model.specs.Orders.{headFields, hopsInRange, pathFields, registration, registrationOf, withPath}
-use Rattle.orders.specs.Reading.{fieldsOf, headOf, pathWhen, zipHops}
+use Rattle.orders.specs.View.{fieldsOf, headOf, linePath, pathWhen}
 use borrow.Author.Needs.{needs}
 use Rattle.orders.proofs.PathLaws.{with-order, bare-fits}
 use Rattle.orders.proofs.read_registration.Statement.{statement}
@@ -19,22 +19,22 @@ head c = sym (c .before .before .read-head .ensures) ∙ ap headOf (c .flow .giv
 
 counted : (c : tie.After-within) → hopsInRange (c .before .before .before .flow .given .0 .0 .hops) ≡ c .within .result
 unfolding hopsInRange
-counted c = ap (between 1 12) (sym (c .before .wide .ensures)) ∙ sym (c .within .ensures)
+counted c = ap (between 1 hopsMost) (sym (c .before .wide .ensures)) ∙ sym (c .within .ensures)
 
 few : (c : tie.Else1) → hopsInRange (c .before .before .before .before .flow .given .0 .0 .hops) ≡ true
 few c = counted (c .before) ∙ not-false _ (c .if1 .left)
 
-fits : (c : tie.Else1) → between 1 12 (c .before .before .before .before .flow .given .0 .0 .hops) ≡ true
+fits : (c : tie.Else1) → between 1 hopsMost (c .before .before .before .before .flow .given .0 .0 .hops) ≡ true
 unfolding hopsInRange
 fits c = few c
 
 -- What `read_path` says, once its flag is known.
 path : (c : tie.After-read-path) (whole : Bool) → c .read-path .result .whole ≡ whole
     → pathFields (c .before .before .before .before .before .flow .given .0 .0 .hops) (c .before .before .before .before .before .before .before .before .before .args .line .now)
-    ≡ pathWhen whole (take (c .before .before .before .before .before .flow .given .0 .0 .hops) (zipHops (c .read-path .result .links) (c .read-path .result .levels)))
+    ≡ pathWhen whole (linePath (c .read-path .result .hops) (c .before .before .before .before .before .flow .given .0 .0 .hops))
 path c whole e =
     sym (c .read-path .ensures)
-    ∙ ap (λ (w : Bool). pathWhen w (take (c .before .before .before .before .before .flow .given .0 .0 .hops) (zipHops (c .read-path .result .links) (c .read-path .result .levels)))) e
+    ∙ ap (λ (w : Bool). pathWhen w (linePath (c .read-path .result .hops) (c .before .before .before .before .before .flow .given .0 .0 .hops))) e
 
 returns : tie.Need-returns
 unfolding registration registrationOf
@@ -49,7 +49,7 @@ returns-2 c =
 
 read-path-requires : tie.Need-read-path-requires
 unfolding hopsInRange
-read-path-requires c κs = between-true 1 12 _ (few c) .1
+read-path-requires c κs = between-true 1 hopsMost _ (few c) .1
 
 returns-3 : tie.Need-returns-3
 unfolding registration registrationOf withPath
@@ -64,7 +64,7 @@ returns-4 c =
 returns-5 : tie.Need-returns-5
 unfolding registration registrationOf withPath
 returns-5 c =
-    (sym (simp (head (c .before .before .before .before .before .before .before .before .before .before), few (c .before .before .before .before .before .before), path (c .before .before .before .before .before) true (not-false _ (c .before .before .before .before .if2 .left)), sym (c .before .before .before .in-range .ensures) ∙ not-false _ (c .before .before .if3 .left))), between-true 1 12 _ (fits (c .before .before .before .before .before .before)) .1)
+    (sym (simp (head (c .before .before .before .before .before .before .before .before .before), few (c .before .before .before .before .before), path (c .before .before .before .before) true (not-false _ (c .before .before .before .if2 .left)), sym (c .before .before .in-range .ensures) ∙ not-false _ (c .before .if3 .left))), between-true 1 hopsMost _ (fits (c .before .before .before .before .before)) .1)
 
 pub read-registration-spec : {M : Type 1} → statement M
 read-registration-spec =

@@ -3,7 +3,7 @@
 use borrow.Author.Needs.{needs}
 use mathlib.Core.Path.{_≡_, sym, _∙_, ap}
 use borrow.Author.Tests.{eq-eqb, ne-eqb}
-use Rattle.columns.specs.Reading.{valueOf}
+use Rattle.columns.specs.View.{valueOf}
 use Rattle.model.specs.Columns.{between}
 use Rattle.model.specs.Orders.{releaseLine, releaseOf, numberInRange}
 use Rattle.orders.proofs.PathLaws.{with-order, bare-fits}

@@ -9,27 +9,27 @@ use Rattle.queue_table.specs.View.{linkStored, queueStored}
 use Rattle.queue_table.proofs.store_row.Statement.{statement}
 use Rattle.queue_table.proofs.store_row.Tie as tie
 
-slice-write-links-2 : tie.Need-slice-write-links-2
-slice-write-links-2 c = simp length-set (omega arith)
+slice-write-table-2 : tie.Need-slice-write-table-2
+slice-write-table-2 c = simp length-set (omega (arith, c .link-position .ensures))
 
-slice-write-links-3 : tie.Need-slice-write-links-3
-slice-write-links-3 c = simp length-set (omega arith)
+slice-write-table-3 : tie.Need-slice-write-table-3
+slice-write-table-3 c = simp length-set (omega (arith, c .link-position .ensures))
 
-slice-write-links-4 : tie.Need-slice-write-links-4
-slice-write-links-4 c = simp length-set (omega arith)
+slice-write-table-4 : tie.Need-slice-write-table-4
+slice-write-table-4 c = simp length-set (omega (arith, c .link-position .ensures))
 
-slice-write-queues-2 : tie.Need-slice-write-queues-2
-slice-write-queues-2 c = simp length-set (omega arith)
+slice-write-table-5 : tie.Need-slice-write-table-5
+slice-write-table-5 c = simp length-set (omega (arith, c .queue-position .ensures, c .before .entry-at .ensures))
+
+slice-write-table-6 : tie.Need-slice-write-table-6
+slice-write-table-6 c = simp length-set (omega (arith, c .queue-position .ensures, c .before .entry-at .ensures))
+
+same-length : tie.Need-same-length
+same-length c = simp length-set
 
 returns : tie.Need-returns
 unfolding linkStored queueStored
-returns c = (refl, (simp (add-one, add-two, add-three), simp add-one))
+returns c = (refl, rw (c .queue-position .ensures, c .before .entry-at .ensures .0, c .before .before .link-position .ensures) (simp (add-one, add-two, add-three)))
 
 pub store-row-spec : {M : Type 1} → statement M
-store-row-spec =
-    tie.close
-    (tie.spec (λ c. search needs) (λ c. search needs) (λ c. search needs) (λ c. search needs) (λ c. search needs) (λ c. search needs)
-    (λ c. search needs) (λ c. search needs) slice-write-links-2 (λ c. search needs) (λ c. search needs) slice-write-links-3 (λ c. search needs)
-    (λ c. search needs) slice-write-links-4 (λ c. search needs) (λ c. search needs) (λ c. search needs) (λ c. search needs) (λ c. search needs)
-    (λ c. search needs) (λ c. search needs) (λ c. search needs) (λ c. search needs) slice-write-queues-2 (λ c. search needs) (λ c. search needs)
-    returns)
+store-row-spec = tie.close (tie.spec (λ c. search needs) (λ c. search needs) (λ c. search needs) (λ c κs. search needs) (λ c. search needs) (λ c. search needs) (λ c. search needs) (λ c. search needs) slice-write-table-2 (λ c. search needs) (λ c. search needs) slice-write-table-3 (λ c. search needs) (λ c. search needs) slice-write-table-4 (λ c. search needs) (λ c. search needs) (λ c κs. search needs) (λ c κs. search needs) (λ c. search needs) slice-write-table-5 (λ c. search needs) (λ c. search needs) slice-write-table-6 same-length returns)

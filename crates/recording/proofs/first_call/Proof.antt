@@ -7,9 +7,9 @@ use mathlib.Core.Option.{some}
 use native.Mathlib.Omega.{arith}
 use lib.ListN.{length}
 use borrow.Author.Tests.{le-leb, lt-leb}
-use Rattle.recording.specs.Calls.{header, firstCall}
-use Rattle.registry.specs.View.{kindOf}
-use Rattle.recording.specs.Reading.{headerOf}
+use Rattle.orders.specs.View.{kindOf}
+use Rattle.recording.specs.Calls.{headerBytes, header, firstCall}
+use Rattle.recording.specs.View.{headerOf}
 use Rattle.recording.proofs.first_call.Statement.{statement}
 use Rattle.recording.proofs.first_call.Tie as tie
 
@@ -25,19 +25,19 @@ returns c =
 returns-2 : tie.Need-returns-2
 unfolding firstCall
 returns-2 c =
-    let short : length (c .before .before .before .before .before .before .args .bytes .now) < 9 + c .before .before .kind .given .0 .1 .0 = omega (arith, c .if1 .taken) in
+    let short : length (c .before .before .before .before .before .before .args .bytes .now) < headerBytes + c .before .before .kind .given .0 .1 .0 = omega (arith, c .if1 .taken) in
     record { same = sym (simp (read (c .before .before), lt-leb _ _ short)); within = tt }
 
 returns-3 : tie.Need-returns-3
 unfolding firstCall
 returns-3 c =
-    let short : length (c .before .before .before .before .before .before .before .args .bytes .now) < 9 + c .before .before .before .kind .given .0 .1 .0 = omega (arith, c .if2 .taken, c .before .if1 .left) in
+    let short : length (c .before .before .before .before .before .before .before .args .bytes .now) < headerBytes + c .before .before .before .kind .given .0 .1 .0 = omega (arith, c .if2 .taken, c .before .if1 .left) in
     record { same = sym (simp (read (c .before .before .before), lt-leb _ _ short)); within = tt }
 
 returns-4 : tie.Need-returns-4
 unfolding firstCall
 returns-4 c =
-    let enough : 9 + c .before .before .before .kind .given .0 .1 .0 ≤ length (c .before .before .before .before .before .before .before .args .bytes .now) = omega (arith, c .if2 .left, c .before .if1 .left) in
+    let enough : headerBytes + c .before .before .before .kind .given .0 .1 .0 ≤ length (c .before .before .before .before .before .before .before .args .bytes .now) = omega (arith, c .if2 .left, c .before .if1 .left) in
     record { same = sym (simp (read (c .before .before .before), le-leb _ _ enough)); within = enough }
 
 pub first-call-spec : {M : Type 1} → statement M

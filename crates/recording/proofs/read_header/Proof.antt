@@ -8,11 +8,12 @@ use native.Mathlib.Omega.{arith}
 use lib.Dec.{eqb}
 use lib.ListN.{List·getD-eq-default}
 use borrow.Author.Tests.{eq-eqb, ne-eqb}
-use Rattle.columns.specs.Reading.{valueOf}
-use Rattle.model.specs.Columns.{fieldAt, andThen}
-use Rattle.recording.specs.Calls.{kindOfNumber, header}
-use Rattle.registry.specs.View.{kindOf}
-use Rattle.recording.specs.Reading.{kindIn}
+use Rattle.model.specs.Words.{andThen}
+use Rattle.columns.specs.View.{valueOf}
+use Rattle.model.specs.Columns.{fieldAt}
+use Rattle.model.specs.Orders.{kindOfNumber}
+use Rattle.orders.specs.View.{kindOf, kindIn}
+use Rattle.recording.specs.Calls.{header}
 use Rattle.recording.proofs.read_header.Statement.{statement}
 use Rattle.recording.proofs.read_header.Tie as tie
 

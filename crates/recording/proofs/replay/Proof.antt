@@ -1,7 +1,8 @@
 -- `recording::replay` meets its contract: the run of the calls is a chain from the registry that was opened, of which all is claimed.
 -- Assumes nothing.
 use borrow.Author.Needs.{needs}
-use Rattle.registry.specs.Claim.{claim}
+use Rattle.queue_table.specs.View.{tableOf}
+use Rattle.registry.specs.ClaimLaws.{claim}
 use Rattle.recording.proofs.ReplayLaws.{same-verdict}
 use Rattle.recording.proofs.replay.Statement.{statement}
 use Rattle.recording.proofs.replay.Tie as tie
@@ -12,7 +13,7 @@ returns c =
     let runs = c .before .before .before .run .ensures in
     let claimed = claim _ (c .before .before .before .before .before .before .open .result) opens _ (runs .given) _ (runs .chain) in
     record {
-      verdict = same-verdict _ _ (c .before .before .before .before .before .before .open .result .verdict) (c .before .before .before .before .before .before .open .result .registry .links) (c .before .before .before .before .before .before .open .result .registry .queues) (c .before .before .before .run .result .registry) (opens .verdict) (claimed .state);
+      verdict = same-verdict _ _ (c .before .before .before .before .before .before .open .result .verdict) (tableOf (c .before .before .before .before .before .before .open .result .registry .table)) (c .before .before .before .run .result .registry) (opens .verdict) (claimed .state);
       count = runs .count;
       end = runs .end;
       given = runs .given;

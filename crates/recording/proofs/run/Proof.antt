@@ -5,7 +5,9 @@ use Prim.Native.Nat.{_+_, _-_, _*_, _≤_}
 use mathlib.Core.Path.{_≡_, subst}
 use native.Mathlib.Omega.{arith}
 use lib.ListN.{length}
-use Rattle.recording.specs.Reading.{FirstCall}
+use Rattle.recording.specs.Calls.{headerBytes}
+use Rattle.recording.specs.Replay.{callAnswerBytes}
+use Rattle.recording.specs.View.{FirstCall}
 use Rattle.recording.specs.declared.Recorded.{Recorded}
 use Rattle.recording.specs.declared.Recorded.the-variants as recorded
 use Rattle.recording.proofs.RunLaws.{Going, restAt, going-first, going-next, fits-in, same-size, line-room, part-room, full, broken, ran}
@@ -25,11 +27,11 @@ found c r e = subst (λ (x : Recorded). FirstCall (restAt (c .before .before .be
 here : (c : tie.After-kind Inv-loop μ-loop) → FirstCall (restAt (c .before .before .before .before .before .before .before .before .args .calls .now) (c .before .before .before .before .before .loop .at)) (recorded.Call (c .kind .given .0 .0) (c .kind .given .0 .1 .0))
 here c = found (c .before .before) _ (c .kind .given .1)
 
-inside : (c : tie.After-kind Inv-loop μ-loop) → c .before .before .before .before .before .loop .at + 9 + c .kind .given .0 .1 .0 ≤ length (c .before .before .before .before .before .before .before .before .args .calls .now)
+inside : (c : tie.After-kind Inv-loop μ-loop) → c .before .before .before .before .before .loop .at + headerBytes + c .kind .given .0 .1 .0 ≤ length (c .before .before .before .before .before .before .before .before .args .calls .now)
 inside c = fits-in (c .before .before .before .before .before .before .before .before .args .calls .now) (c .before .before .before .before .before .loop .at) _ _ (c .before .before .before .before .before .loop .inv .within) (here c)
 
 -- The room that is left in the area.
-room : (c : tie.In-loop Inv-loop μ-loop) → 14 * c .before .loop .count + 14 ≤ length (c .before .loop .answers)
+room : (c : tie.In-loop Inv-loop μ-loop) → callAnswerBytes * c .before .loop .count + callAnswerBytes ≤ length (c .before .loop .answers)
 room c = omega (arith, line-room (c .before .loop .inv) (c .loop-test .taken), same-size (c .before .loop .inv))
 
 loop-holds : tie.Need-loop-holds Inv-loop μ-loop

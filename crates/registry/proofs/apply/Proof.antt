@@ -2,9 +2,10 @@
 -- Assumes nothing.
 use borrow.Author.Needs.{needs}
 use mathlib.Core.Path.{_≡_, sym, subst}
-use Rattle.registry.specs.declared.Kind.{Kind}
+use Rattle.orders.specs.declared.Kind.{Kind}
+use Rattle.orders.specs.View.{kindOf}
 use Rattle.registry.specs.declared.Called.{Called}
-use Rattle.registry.specs.View.{kindOf, callOf, Performs}
+use Rattle.registry.specs.View.{callOf, Performs}
 use Rattle.registry.proofs.apply.Statement.{statement}
 use Rattle.registry.proofs.apply.Tie as tie
 

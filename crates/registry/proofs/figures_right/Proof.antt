@@ -1,11 +1,11 @@
--- `registry::figures_right` meets its contract: there is one column only with the figures of the held flows.
+-- `registry::figures_right` meets its contract: one array only holds the figures of the held flows.
 -- Assumes nothing.
 use borrow.Author.Needs.{needs}
 use mathlib.Core.Path.{subst}
 use mathlib.Core.List.{List}
 use Prim.Native.Nat.{ℕ}
 use Rattle.recount.specs.View.{Recounted}
-use Rattle.recount.proofs.RecountLaws.{figures-unique}
+use Rattle.figures.proofs.FigureLaws.{figures-unique}
 use Rattle.registry.proofs.figures_right.Statement.{statement}
 use Rattle.registry.proofs.figures_right.Tie as tie
 
@@ -13,8 +13,8 @@ returns : tie.Need-returns
 returns c =
     let args = c .before .before .before .before .before .before .before .before .before .args in
     let fresh = c .before .before .before .recount .ensures in (
-      λ e. subst (λ (l : List ℕ). Recounted (args .queues .now) (args .slots .now) (args .pool .now) l) (c .same .ensures .0 e) fresh,
-      λ e n links on figures. c .same .ensures .1 e (figures-unique (fresh .same n links on) figures),
+      λ e. subst (λ (l : List ℕ). Recounted (args .table .now) (args .slots .now) (args .pool .now) l) (c .same .ensures .0 e) fresh,
+      λ e on figures. c .same .ensures .1 e (figures-unique (fresh .same on) figures),
     )
 
 pub figures-right-spec : {M : Type 1} → statement M

@@ -38,20 +38,21 @@ use denote.Triple.Entry.{onEntry, Vals}
 use denote.Triple.Spec.{Meets, tripleOf}
 use denote.Triple.Table.{entered, cited}
 use denote.Triple.Walked.{says, Stays, stay-none, stay-none-slice, walkOf, goes-none, goes-none-slice, Walks, ends-at, walked, walk-meets}
-use Rattle.model.specs.Reference.{registering, releasing}
+use Rattle.model.specs.Orders.{registering, releasing}
 use Rattle.admission.proofs.Answer as An
 use Rattle.admission.proofs.Answer.Laws as An′
 use Rattle.registry.specs.declared.Registry.{Registry}
 use Rattle.registry.specs.declared.Called.{Called}
-use Rattle.registry.specs.declared.Kind.{Kind}
-use Rattle.registry.specs.declared.Kind.the-variants.{Register, Release}
-use Rattle.registry.specs.View.{kindOf, callOf, Performs}
+use Rattle.orders.specs.declared.Kind.{Kind}
+use Rattle.orders.specs.declared.Kind.the-variants.{Register, Release}
+use Rattle.orders.specs.View.{kindOf}
+use Rattle.registry.specs.View.{callOf, Performs}
 use Rattle.registry.proofs.Registry as Re
 use Rattle.registry.proofs.Registry.Laws as Re′
 use Rattle.registry.proofs.Called as Ca
 use Rattle.registry.proofs.Called.Laws as Ca′
-use Rattle.registry.proofs.Kind as Ki
-use Rattle.registry.proofs.Kind.Laws as Ki′
+use Rattle.orders.proofs.Kind as Ki
+use Rattle.orders.proofs.Kind.Laws as Ki′
 use Rattle.registry_in_place.proofs.InPlaceLaws.{rv, av, Stores}
 use Rattle.registry_in_place.proofs.LendLaws.{lent-call}
 use Rattle.registry_in_place.proofs.register.Symbol as register-def

@@ -3,7 +3,7 @@
 use contract.Running.{givenOf, tables, tablesOf}
 use denote.Triple.Spec.{tripleOf}
 use denote.Triple.Table.{entered, cited}
-use Rattle.model.specs.Reference.{registering}
+use Rattle.model.specs.Orders.{registering}
 use Rattle.registry.proofs.register.Symbol as by-value
 use Rattle.registry.proofs.register.Symbol.{name as #registry·register}
 use Rattle.registry.proofs.register.Met as by-value-met

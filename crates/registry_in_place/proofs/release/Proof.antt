@@ -3,7 +3,7 @@
 use contract.Running.{givenOf, tables, tablesOf}
 use denote.Triple.Spec.{tripleOf}
 use denote.Triple.Table.{entered, cited}
-use Rattle.model.specs.Reference.{releasing}
+use Rattle.model.specs.Orders.{releasing}
 use Rattle.registry.proofs.release.Symbol as by-value
 use Rattle.registry.proofs.release.Symbol.{name as #registry·release}
 use Rattle.registry.proofs.release.Met as by-value-met

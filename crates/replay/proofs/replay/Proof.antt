@@ -6,17 +6,22 @@ use mathlib.Core.Path.{_≡_, sym, subst}
 use native.Mathlib.Omega.{arith}
 use lib.ListN.{length, replicate, length-replicate}
 use lib.Seq.{length-take-le}
+use Rattle.recording.specs.Replay.{callAnswerBytes}
 use Rattle.recording.proofs.ReplayLaws.{count-fits}
 use Rattle.replay.proofs.replay.Statement.{statement}
 use Rattle.replay.proofs.replay.Tie as tie
 
+-- The bytes of the area for the answers.
+abbrev area : ℕ
+area = callAnswerBytes * 22223
+
 under : (n k : ℕ) → k ≤ length {A = ℕ} (replicate n 0) → k ≤ n
 under n k h = subst (λ (m : ℕ). k ≤ m) (length-replicate {A = ℕ} n 0) h
 
-few : (c : tie.After-replay) → 14 * c .replay .result .count ≤ 311122
-few c = under 311122 (14 * c .replay .result .count) (count-fits (c .replay .ensures))
+few : (c : tie.After-replay) → callAnswerBytes * c .replay .result .count ≤ area
+few c = under area (callAnswerBytes * c .replay .result .count) (count-fits (c .replay .ensures))
 
-long : (c : tie.After-show-verdict) → length (c .before .before .before .before .replay .last .1 .1 .1 .0) ≡ 311122
+long : (c : tie.After-show-verdict) → length (c .before .before .before .before .replay .last .1 .1 .1 .0) ≡ area
 long c = search needs
 
 mul-end : tie.Need-mul-end

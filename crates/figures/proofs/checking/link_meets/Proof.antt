@@ -1,45 +1,61 @@
 -- `figures::checking::link_meets` meets its contract: the loaded levels are those of the definition.
 -- Assumes nothing.
 use borrow.Author.Needs.{needs}
-use Prim.Native.Nat.{_+_, _*_}
-use mathlib.Core.Path.{_≡_, sym, ap, _∙_}
-use lib.ListN.{getD}
-use borrow.Author.Tests.{eq-eqb, ne-eqb}
+use Prim.Native.Nat.{ℕ, _+_}
+use mathlib.Core.Path.{_≡_, refl, sym, ap, _∙_}
+use mathlib.Core.Bool.{Bool, true, false, cond}
+use mathlib.Core.List.{List}
+use mathlib.Core.Option.{none, some}
+use lib.Dec.{eqb}
+use Rattle.model.specs.Words.{isNone}
+use Rattle.model.specs.Sizes.{levelsMost}
+use Rattle.model.specs.Formula.{Aggregate}
 use Rattle.model.specs.LinkCheck as model
-use Rattle.model.specs.LinkCheck.{linkFinding}
-use Rattle.queue_table.specs.View.{upTo, queueAt}
-use Rattle.link_check.specs.declared.Finding.{Finding}
-use Rattle.link_check.specs.Levels.{findingOf}
-use Rattle.link_check.proofs.FindingLaws.{faulty}
+use Rattle.model.specs.Reference.{Cause, linkCause}
+use Rattle.causes.specs.declared.Finding.{Finding}
+use Rattle.causes.specs.View.{findingOf}
+use Rattle.queue_table.specs.View.{upTo, speedAt, queueAt}
 use Rattle.figures.specs.View.{codeAt}
-use Rattle.figures.proofs.BoundLaws.{room-alone}
+use Rattle.figures.proofs.BoundLaws.{summable-alone}
 use Rattle.figures.proofs.checking.link_meets.Statement.{statement}
 use Rattle.figures.proofs.checking.link_meets.Tie as tie
 
+-- Nothing is found where the code is 0.
+unless : (b : Bool) (c : Cause) → isNone (cond b none (some c)) ≡ b
+unfolding isNone
+unless true c = refl
+unless false c = refl
+
+coded : (link : ℕ) (w : model.Finding) → isNone (linkCause link w) ≡ eqb (w .code) 0
+unfolding linkCause
+coded link w = unless (eqb (w .code) 0) _
+
 -- What the check tells.
-code : (c : tie.After-find-on) → let args = c .before .before .before .before .before .args in
-    findingOf (c .find-on .result) .code ≡ codeAt (args .links .now) (args .queues .now) (args .sums .now) (args .link)
-code c =
-    let args = c .before .before .before .before .before .args in
-    ap (λ (w : model.Finding). w .code)
+found : (c : tie.After-find-on) → let args = c .before .before .before .before .args in
+    isNone (findingOf (c .find-on .result)) ≡ eqb (codeAt (args .table .now) (args .sums .now) (args .link)) 0
+found c =
+    let args = c .before .before .before .before .args in
+    let table = args .table .now in
+    ap isNone
     (c .find-on .ensures
-    ∙ ap (linkFinding (getD (args .links .now) (4 * args .link + 2) 0) (upTo 8 (queueAt (args .queues .now) (args .link)))) (c .before .link-levels .ensures))
+    ∙ ap (λ (l : List Aggregate). linkCause (args .link + 1) (model.linkFinding (speedAt table (args .link)) (upTo levelsMost (queueAt table (args .link))) l)) (c .before .link-levels .ensures))
+    ∙ coded (args .link + 1) _
 
 find-on-requires : tie.Need-find-on-requires
 find-on-requires c κs =
-    let start = c .before .before .before .before in
+    let start = c .before .before .before in
     let pre = start .pre .0 in (
-      (pre .0, (pre .1 .0, pre .1 .1 .0)),
-      (start .pre .1, rw (c .link-levels .ensures) (room-alone (start .args .sums .now) (pre .1 .1 .1) (start .args .link) (pre .0))),
+      (pre .0, pre .1 .0),
+      (start .pre .1, rw (c .link-levels .ensures) (summable-alone (start .args .sums .now) (pre .1 .1) (start .args .link) (pre .0))),
     )
 
 returns : tie.Need-returns
-returns c = sym (eq-eqb _ 0 (sym (code (c .before .before)) ∙ ap (λ (w : Finding). findingOf w .code) (c .enum-told .given .1)))
+unfolding isNone
+returns c = sym (ap (λ (f : Finding). isNone (findingOf f)) (c .enum-told .given .1)) ∙ found (c .before .before)
 
 returns-2 : tie.Need-returns-2
-returns-2 c = sym (ne-eqb _ 0 (λ z. faulty (c .before .find-on .result) (c .match .keys2) (code (c .before) ∙ z)))
+unfolding isNone
+returns-2 c = sym (ap (λ (f : Finding). isNone (findingOf f)) (c .enum-told2 .given .1)) ∙ found (c .before .before)
 
 pub link-meets-spec : {M : Type 1} → statement M
-link-meets-spec =
-    tie.close
-    (tie.spec (λ c κs. search needs) find-on-requires (λ c. search needs) returns returns-2)
+link-meets-spec = tie.close (tie.spec (λ c κs. search needs) find-on-requires (λ c. search needs) (λ c. search needs) returns returns-2)

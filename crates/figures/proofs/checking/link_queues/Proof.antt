@@ -1,58 +1,47 @@
 -- `figures::checking::link_queues` meets its contract. The invariant: the queues before `p` are loaded.
 -- Assumes nothing.
 use borrow.Author.Needs.{needs}
-use Prim.Native.Nat.{ℕ, _+_, _*_, _-_, _≤_}
-use mathlib.Core.Path.{_≡_, refl, sym, ap, ap₂, _∙_}
+use Prim.Native.Nat.{_-_, _≤_}
+use mathlib.Core.Path.{_≡_, refl, sym, ap, _∙_}
 use native.Mathlib.Omega.{arith}
-use lib.ListN.{length, getD, take, length-set}
+use lib.ListN.{length, take, length-set}
 use lib.Seq.{take-all}
-use Rattle.link_check.specs.Levels.{queuesOf}
-use Rattle.queue_table.specs.View.{upTo, queueAt}
-use Rattle.figures.proofs.LoadLaws.{queues-next}
+use Rattle.model.specs.Sizes.{levelsMost}
+use Rattle.link_check.specs.View.{queueOf, queuesOf}
+use Rattle.queue_table.specs.View.{upTo, thresholdAt, bufferAt, queueAt}
+use Rattle.figures.proofs.LoadLaws.{loaded-next}
 use Rattle.figures.proofs.checking.link_queues.Statement.{statement}
 use Rattle.figures.proofs.checking.link_queues.Tie as tie
 
 abbrev Inv-loop : tie.InvT-loop
-Inv-loop link queues thresholds₀ buffers₀ p₀ thresholds buffers p = (p ≤ 8) × (length thresholds ≡ 8) × (length buffers ≡ 8) × (queuesOf (take p thresholds) (take p buffers) ≡ upTo p (queueAt queues link))
+Inv-loop link table queues₀ p₀ queues p = (p ≤ levelsMost) × (length queues ≡ levelsMost) × (queuesOf (take p queues) ≡ upTo p (queueAt table link))
 
 abbrev μ-loop : tie.MeasureT-loop
-μ-loop link queues thresholds₀ buffers₀ p₀ thresholds buffers p = 8 - p
+μ-loop link table queues₀ p₀ queues p = levelsMost - p
 
 loop-holds : tie.Need-loop-holds Inv-loop μ-loop
-unfolding upTo queuesOf
-loop-holds c = (omega arith, refl, refl, refl)
-
-cast-t14 : tie.Need-cast-t14 Inv-loop μ-loop
-cast-t14 c = omega (arith, c .shared-slice-known .given (16 * c .before .before .before .args .link + 2 * c .before .before .loop .p))
-
-cast-t14-2 : tie.Need-cast-t14-2 Inv-loop μ-loop
-cast-t14-2 c = omega (arith, c .shared-slice-known2 .given (16 * c .before .before .before .before .args .link + 2 * c .before .before .before .loop .p + 1))
+unfolding upTo
+loop-holds c = (omega arith, refl, refl)
 
 loop-again : tie.Need-loop-again Inv-loop μ-loop
 unfolding queueAt
 loop-again c =
     let at = c .before .before .before .loop in
-    let args = c .before .before .before .before .args in
-    let queues = args .queues .now in
-    let k = 16 * args .link + 2 * at .p in (
+    let args = c .before .before .before .before .before .args in
+    let table = args .table .now in
+    let read = c .queue-at .ensures .0 in
+    let entry = c .before .entry-at .ensures .0 in (
       omega arith,
-      length-set (at .thresholds) (at .p) (record { 0 = getD queues k 0 }) ∙ at .inv .1,
-      length-set (at .buffers) (at .p) (record { 0 = getD queues (k + 1) 0 }) ∙ at .inv .2,
-      queues-next (at .thresholds) (at .buffers) (at .p) (record { 0 = getD queues k 0 }) (record { 0 = getD queues (k + 1) 0 }) (queueAt queues (args .link)) (omega (arith, at .inv .1)) (omega (arith, at .inv .2)) (at .inv .3) refl,
+      length-set (at .queues) (at .p) (c .queue-at .result) ∙ at .inv .1,
+      loaded-next queueOf (at .queues) (at .p) (c .queue-at .result) (queueAt table (args .link)) (omega (arith, at .inv .1)) (at .inv .2)
+          (λ t. record { threshold = (read .0 ∙ ap (thresholdAt table) entry) t; buffer = (read .1 ∙ ap (bufferAt table) entry) t }),
     )
 
 returns : tie.Need-returns Inv-loop μ-loop
 returns c =
     let at = c .before .loop in
-    let args = c .before .before .args in
-    let end : at .p ≡ 8 = omega (arith, at .inv .0, c .loop-test .left) in
-    ap₂ queuesOf (sym (take-all (at .p) (at .thresholds) (omega (arith, at .inv .1)))) (sym (take-all (at .p) (at .buffers) (omega (arith, at .inv .2))))
-    ∙ at .inv .3
-    ∙ ap (λ (n : ℕ). upTo n (queueAt (args .queues .now) (args .link))) end
+    let end : at .p ≡ levelsMost = omega (arith, at .inv .0, c .loop-test .left) in
+    ap queuesOf (sym (take-all (at .p) (at .queues) (omega (arith, at .inv .1)))) ∙ at .inv .2 ∙ rw end
 
 pub link-queues-spec : {M : Type 1} → statement M
-link-queues-spec =
-    tie.close
-    (tie.spec Inv-loop μ-loop loop-holds (λ c. search needs) (λ c. search needs) (λ c. search needs) (λ c. search needs) (λ c. search needs) cast-t14
-    (λ c. search needs) (λ c. search needs) (λ c. search needs) (λ c. search needs) (λ c. search needs) cast-t14-2 (λ c. search needs)
-    (λ c. search needs) (λ c. search needs) (λ c. search needs) loop-again returns)
+link-queues-spec = tie.close (tie.spec Inv-loop μ-loop loop-holds (λ c κs. search needs) (λ c κs. search needs) (λ c. search needs) (λ c. search needs) (λ c. search needs) (λ c. search needs) loop-again returns)

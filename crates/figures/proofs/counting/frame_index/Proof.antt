@@ -1,16 +1,17 @@
--- `figures::counting::frame_index` meets its contract: an entry is below 512.
+-- `figures::counting::frame_index` meets its contract: an entry names a queue.
 -- Assumes nothing.
 use borrow.Author.Needs.{needs}
 use Prim.Native.Nat.{_<_}
 use mathlib.Core.Path.{refl}
 use native.Mathlib.Omega.{arith}
 use lib.ListN.{getD}
+use Rattle.model.specs.Sizes.{queuesMost}
 use Rattle.model.specs.Laws.All.{all-getD}
 use Rattle.figures.proofs.counting.frame_index.Statement.{statement}
 use Rattle.figures.proofs.counting.frame_index.Tie as tie
 
-low : (c : tie.Start) → getD (c .args .entries .now) (c .args .i) 0 < 512
-low c = all-getD (λ e. e < 512) (c .args .entries .now) (c .args .i) 0 (c .pre .0) (c .pre .1)
+low : (c : tie.Start) → getD (c .args .entries .now) (c .args .i) 0 < queuesMost
+low c = all-getD (λ e. e < queuesMost) (c .args .entries .now) (c .args .i) 0 (c .pre .0) (c .pre .1)
 
 cast-result : tie.Need-cast-result
 cast-result c = omega (arith, low (c .before))

@@ -3,6 +3,7 @@
 use borrow.Author.Needs.{needs}
 use native.Mathlib.Omega.{arith}
 use lib.ListN.{length-set}
+use Rattle.units.specs.View.{aggregateOf}
 use Rattle.figures.specs.View.{figureAt}
 use Rattle.figures.proofs.RemoveLaws.{less-none, less-own, less-kept}
 use Rattle.figures.proofs.counting.remove_hop.Statement.{statement}
@@ -10,11 +11,11 @@ use Rattle.figures.proofs.counting.remove_hop.Tie as tie
 
 sub-rates : tie.Need-sub-rates
 unfolding figureAt
-sub-rates c = c .before .before .pre .1 .0
+sub-rates c = c .before .before .before .pre .1 .0
 
 sub-bursts : tie.Need-sub-bursts
 unfolding figureAt
-sub-bursts c = c .before .before .before .before .pre .1 .1
+sub-bursts c = c .before .before .before .before .before .pre .1 .1
 
 slice-write-sums-2 : tie.Need-slice-write-sums-2
 slice-write-sums-2 c = simp length-set (omega arith)
@@ -24,26 +25,23 @@ slice-write-sums-3 c = simp length-set (omega arith)
 
 returns : tie.Need-returns
 returns c =
-    let start = c .before .before .before .before .before .before in
-    less-none (start .args .sums .now) (start .args .e) (start .args .rate .0) (start .args .burst .0) (start .args .frame .0) (start .pre .1) (c .if1 .taken)
+    let start = c .before .before .before .before .before .before .before in
+    less-none (start .args .sums .now) (start .args .e) (aggregateOf (start .args .share)) (start .pre .1) (c .if1 .taken)
 
 returns-2 : tie.Need-returns-2
 returns-2 c =
-    let start = c .before .before .before .before .before .before .before .before in
-    less-kept (start .args .sums .now) (start .args .e) (start .args .rate .0) (start .args .burst .0) (start .args .frame .0) (start .pre .1) (c .if2 .taken)
+    let start = c .before .before .before .before .before .before .before .before .before in
+    less-kept (start .args .sums .now) (start .args .e) (aggregateOf (start .args .share)) (start .pre .1) (c .if2 .taken)
 
 slice-write-sums-4 : tie.Need-slice-write-sums-4
 slice-write-sums-4 c = simp length-set (omega arith)
 
 returns-3 : tie.Need-returns-3
 returns-3 c =
-    let start = c .before .before .before .before .before .before .before .before in
-    less-own (start .args .sums .now) (start .args .e) (start .args .rate .0) (start .args .burst .0) (start .args .frame .0) (start .pre .1)
+    let start = c .before .before .before .before .before .before .before .before .before in
+    less-own (start .args .sums .now) (start .args .e) (aggregateOf (start .args .share)) (start .pre .1)
 
 pub remove-hop-spec : {M : Type 1} → statement M
 remove-hop-spec =
     tie.close
-    (tie.spec (λ c. search needs) (λ c. search needs) (λ c. search needs) sub-rates (λ c. search needs) (λ c. search needs) (λ c. search needs)
-    sub-bursts (λ c. search needs) (λ c. search needs) (λ c. search needs) (λ c. search needs) (λ c. search needs) (λ c. search needs)
-    (λ c. search needs) slice-write-sums-2 (λ c. search needs) (λ c. search needs) slice-write-sums-3 (λ c. search needs) returns (λ c. search needs)
-    returns-2 (λ c. search needs) (λ c. search needs) slice-write-sums-4 (λ c. search needs) returns-3)
+    (tie.spec (λ c. search needs) (λ c. search needs) (λ c. search needs) sub-rates (λ c. search needs) (λ c. search needs) (λ c. search needs) sub-bursts (λ c. search needs) (λ c. search needs) (λ c. search needs) (λ c. search needs) (λ c. search needs) (λ c. search needs) (λ c. search needs) slice-write-sums-2 (λ c. search needs) (λ c. search needs) slice-write-sums-3 (λ c. search needs) returns (λ c. search needs) returns-2 (λ c. search needs) (λ c. search needs) slice-write-sums-4 (λ c. search needs) returns-3)

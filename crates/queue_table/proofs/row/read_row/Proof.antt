@@ -4,7 +4,7 @@ use borrow.Author.Needs.{needs}
 use mathlib.Core.Path.{_≡_, sym, _∙_, ap}
 use mathlib.Core.Option.{some}
 use borrow.Author.Tests.{eq-eqb, ne-eqb}
-use Rattle.columns.specs.Reading.{valueOf}
+use Rattle.columns.specs.View.{valueOf}
 use Rattle.model.specs.Columns.{fieldAt}
 use Rattle.model.specs.QueueTable.{row, rowFields}
 use Rattle.queue_table.proofs.row.read_row.Statement.{statement}

@@ -15,19 +15,31 @@ last-test : (a b c : Bool) → a ≡ true → b ≡ true → (a && b && c) ≡ c
 last-test a b c p q = simp (p, q)
 
 returns : tie.Need-returns
-returns c = λ queues. sym (same-none (c .before .args .links .now) queues (c .before .args .n) (numbersOf (c .before .args .r)) (c .if1 .taken))
+returns c = sym (same-none (c .before .before .args .table .now) (c .before .before .args .n) (numbersOf (c .before .before .args .r)) (c .if1 .taken))
 
 returns-2 : tie.Need-returns-2
-returns-2 c = λ queues. sym (same-at (c .before .before .before .args .links .now) queues (c .before .before .before .args .n) (numbersOf (c .before .before .before .args .r)) (omega arith) ∙ simp (ne-eqb _ _ (c .if2 .taken)))
+returns-2 c =
+    let args = c .before .before .before .before .before .args in
+    let link = c .before .before .link-at .ensures in
+    sym (same-at (args .table .now) (args .n) (numbersOf (args .r)) (omega arith) ∙ simp (ne-eqb _ _ (λ e. c .if2 .taken (e ∙ sym (link .0 .0)))))
 
 returns-3 : tie.Need-returns-3
-returns-3 c = λ queues. sym (same-at (c .before .before .before .before .before .args .links .now) queues (c .before .before .before .before .before .args .n) (numbersOf (c .before .before .before .before .before .args .r)) (omega arith) ∙ simp (eq-eqb _ _ (c .before .before .if2 .left), ne-eqb _ _ (c .if3 .taken)))
+returns-3 c =
+    let args = c .before .before .before .before .before .before .before .args in
+    let link = c .before .before .before .before .link-at .ensures in
+    sym
+    (same-at (args .table .now) (args .n) (numbersOf (args .r)) (omega arith)
+    ∙ simp (eq-eqb _ _ (c .before .before .if2 .left ∙ link .0 .0), ne-eqb _ _ (λ e. c .if3 .taken (e ∙ sym (link .0 .1)))))
 
 returns-4 : tie.Need-returns-4
-returns-4 c = λ queues. sym (same-at (c .before .before .before .before .before .before .args .links .now) queues (c .before .before .before .before .before .before .args .n) (numbersOf (c .before .before .before .before .before .before .args .r)) (omega arith) ∙ last-test _ _ _ (eq-eqb _ _ (c .before .before .before .if2 .left)) (eq-eqb _ _ (c .before .if3 .left)))
+returns-4 c =
+    let args = c .before .before .before .before .before .before .before .before .args in
+    let link = c .before .before .before .before .before .link-at .ensures in
+    rw (link .1 .0)
+    (sym (same-at (args .table .now) (args .n) (numbersOf (args .r)) (omega arith)
+    ∙ last-test _ _ _ (eq-eqb _ _ (c .before .before .before .if2 .left ∙ link .0 .0)) (eq-eqb _ _ (c .before .if3 .left ∙ link .0 .1))))
 
 pub same-link-spec : {M : Type 1} → statement M
 same-link-spec =
     tie.close
-    (tie.spec returns (λ c. search needs) (λ c. search needs) (λ c. search needs) (λ c. search needs) returns-2 (λ c. search needs)
-    (λ c. search needs) (λ c. search needs) returns-3 (λ c. search needs) (λ c. search needs) (λ c. search needs) returns-4)
+    (tie.spec returns (λ c. search needs) (λ c κs. search needs) returns-2 returns-3 returns-4)

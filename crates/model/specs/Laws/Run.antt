@@ -1,0 +1,19 @@
+-- The proof that no frame is late, and that runs exist, one file for each step.
+pub mod Windows
+pub mod OneLink
+pub mod EachFrame
+pub mod Workload
+pub mod LevelArrivals
+pub mod BusyPeriod
+pub mod InQueue
+pub mod ArrivalCurve
+pub mod BoundSums
+pub mod LevelBounds
+pub mod Jitter
+pub mod Conservation
+pub mod HopCurve
+pub mod QueueCurve
+pub mod LinkChecks
+pub mod NotLate
+pub mod Punctual
+pub mod Exists

@@ -1,0 +1,180 @@
+-- The network: while no frame has been late, a frame reaches a hop at most the thresholds of the earlier hops after its source sent it.
+-- Induction over instants, not over paths, so that cycles of links do no harm. Assumes nothing.
+use Prim.Native.Nat.{ℕ, zero, suc, _+_, _≤_, _<_}
+use mathlib.Core.Path.{_≡_, refl, sym, ap, _∙_}
+use mathlib.Core.Bool.{Bool, true, false, cond, false≢true}
+use mathlib.Core.List.{List, [], _∷_, map}
+use mathlib.Core.Option.{Option, none, some, Option·none-ne-some}
+use native.Mathlib.Omega.{arith}
+use lib.ListN.{getElem?}
+use Rattle.model.specs.Words.{All, andThen}
+use Rattle.model.specs.QueueTable.{Table}
+use Rattle.model.specs.Orders.{Hop, Flow}
+use Rattle.model.specs.Aggregates.{linkAt, queueAt, thresholdOf}
+use Rattle.model.specs.Laws.Aggregates.{same-hop}
+use Rattle.model.specs.Schedulable.{Named, FlowMeets, Schedulable}
+use Rattle.model.specs.Run.{Frame, LinkState, Sends, Run, hopOf, next, departed, moving, isAt, reaching, speedOf, inQueue}
+use Rattle.model.specs.Laws.All.{all-imp, all-append, map-all, all-at, all-perm}
+use Rattle.model.specs.Laws.Run.OneLink.{EachLevel, OnWire, Each}
+use Rattle.model.specs.Laws.Run.EachFrame.{interval-each, enter-each, empty-each, levels-both, wire-both}
+use Rattle.model.specs.Laws.Run.InQueue.{each-queue}
+
+-- The sum of the thresholds of a path's hops before index `i`.
+unfoldable pub upstream : Table → List Hop → (i : ℕ) → ℕ
+upstream t path zero = 0
+upstream t [] (suc i) = 0
+upstream t (h ∷ path) (suc i) = thresholdOf (queueAt t h) + upstream t path i
+
+-- A frame of a flow, which has come to its hop in time.
+pub record OnTime (t : Table) (fs : List Flow) (f : Frame) : Type 0 where
+  pub flow : Flow
+  pub known : getElem? fs (f .flow) ≡ some flow
+  pub long : 84 ≤ f .length
+  pub short : f .length ≤ flow .frame
+  pub jitter : f .since ≤ f .born + upstream t (flow .path) (f .hop)
+
+abbrev pub hop : (link level : ℕ) → Hop
+hop link level = record { link = link; level = level }
+
+-- It stands in queue (link, level), and at instant `x` it is not past its threshold.
+pub record Placed (t : Table) (fs : List Flow) (x link level : ℕ) (f : Frame) : Type 0 where
+  pub onTime : OnTime t fs f
+  pub here : hopOf fs f ≡ some (hop link level)
+  pub came : f .since ≤ x
+  pub soon : x ≤ f .since + thresholdOf (queueAt t (hop link level))
+
+-- What moves at instant `x` of a run.
+abbrev pub moved : {t : Table} {fs : List Flow} → Run t fs → ℕ → List Frame
+moved {t} r x = moving t (r .before x) x (r .sent x)
+
+-- No frame is late before instant `x`.
+abbrev pub NotLate : (t : Table) (fs : List Flow) → Run t fs → (x : ℕ) → Type 0
+NotLate t fs r x = (link level : ℕ) → All (λ f. x < f .since + thresholdOf (queueAt t (hop link level))) (inQueue level (r .before x link))
+
+upstream-next : (t : Table) (path : List Hop) (i : ℕ) (h : Hop) → getElem? path i ≡ some h →
+    upstream t path (suc i) ≡ upstream t path i + thresholdOf (queueAt t h)
+unfolding upstream
+upstream-next t [] i h e = absurd (Option·none-ne-some h e)
+upstream-next t (k ∷ path) zero h e =
+    let d : k ≡ h = cc in
+    omega (arith, ap (λ z. thresholdOf (queueAt t z)) d)
+upstream-next t (k ∷ path) (suc i) h e = omega (arith, upstream-next t path i h e)
+
+-- The path of its flow has a frame's hop.
+pub known-hop : (fs : List Flow) (f : Frame) (fl : Flow) → getElem? fs (f .flow) ≡ some fl → hopOf fs f ≡ getElem? (fl .path) (f .hop)
+unfolding hopOf
+known-hop fs f fl e = ap (λ o. andThen o (λ fl. getElem? (fl .path) (f .hop))) e
+
+at-hop : (q : Hop) (o : Option Hop) → isAt q o ≡ true → o ≡ some q
+at-hop q none e = absurd (false≢true e)
+at-hop q (some h) e = ap some (sym (same-hop q h e))
+
+module _ (t : Table) (fs : List Flow) (sch : Schedulable t fs) (r : Run t fs) where
+  pub meets : (f : Frame) → (o : OnTime t fs f) → FlowMeets t fs (o .flow)
+  meets f o = all-at (FlowMeets t fs) fs (f .flow) (o .flow) (sch .flows) (o .known)
+
+  pub named : (f : Frame) (o : OnTime t fs f) (h : Hop) → hopOf fs f ≡ some h → Named t h
+  named f o h e = all-at (Named t) (o .flow .path) (f .hop) h (meets f o .queues) (sym (known-hop fs f (o .flow) (o .known)) ∙ e)
+
+  positive : (f : Frame) (o : OnTime t fs f) (h : Hop) → hopOf fs f ≡ some h → 1 ≤ thresholdOf (queueAt t h)
+  unfolding thresholdOf
+  positive f o h e =
+      let n = named f o h e in
+      rw (n .found) (sch .thresholds h (n .queue) (n .found))
+
+  -- A frame that leaves a queue in time reaches the next hop in time.
+  leaves : (x n level : ℕ) (f : Frame) → Placed t fs x n level f → OnTime t fs (next x f)
+  unfolding next
+  leaves x n level f p =
+      let o = p .onTime in
+      record {
+        flow = o .flow;
+        known = o .known;
+        long = o .long;
+        short = o .short;
+        jitter =
+            omega (
+              arith,
+              o .jitter,
+              p .soon,
+              upstream-next t (o .flow .path) (f .hop) (hop n level) (sym (known-hop fs f (o .flow) (o .known)) ∙ p .here),
+            );
+      }
+
+  added : (x : ℕ) (f : Frame) → Sends fs x f → OnTime t fs f
+  added x f s =
+      record { flow = s .flow; known = s .known; long = s .least; short = s .most; jitter = omega (arith, s .since, s .born) }
+
+  departed-all : (P : Frame → Type 0) (links : ℕ → LinkState) → ((n : ℕ) → All P (links n .left)) → (n : ℕ) (ks : Table) → All P (departed links n ks)
+  unfolding departed
+  departed-all P links h n [] = tt
+  departed-all P links h n (k ∷ ks) = all-append P (links n .left) (departed links (suc n) ks) (h n) (departed-all P links h (suc n) ks)
+
+  moved-on-time : (x : ℕ) → ((n : ℕ) → Each (Placed t fs x n) (r .before x n)) → All (λ f. OnTime t fs f × (f .since ≡ x)) (moved r x)
+  unfolding moving next
+  moved-on-time x each =
+      all-append (λ f. OnTime t fs f × (f .since ≡ x)) (map (next x) (departed (r .before x) 1 t)) (r .sent x)
+      (map-all (λ f. OnTime t fs f × (f .since ≡ x)) (next x) (departed (r .before x) 1 t)
+      (departed-all (λ f. OnTime t fs (next x f) × (next x f .since ≡ x)) (r .before x) left 1 t))
+      (all-imp (r .sent x) (λ f s. (added x f s, s .since)) (r .sends x))
+    where
+      left : (n : ℕ) → All (λ f. OnTime t fs (next x f) × (next x f .since ≡ x)) (r .before x n .left)
+      left n =
+          all-imp (r .before x n .left)
+          (λ f p. (leaves x n (p .0) f (p .1), refl)) (each n .left)
+
+  -- What reaches a queue at instant `x`.
+  abbrev pub Arrived : (x link level : ℕ) → Frame → Type 0
+  Arrived x link level f = OnTime t fs f × (f .since ≡ x) × (hopOf fs f ≡ some (hop link level))
+
+  reaching-all : (x : ℕ) (q : Hop) (l : List Frame) → All (λ f. OnTime t fs f × (f .since ≡ x)) l → All (Arrived x (q .link) (q .level)) (reaching fs q l)
+  unfolding reaching
+  reaching-all x q [] h = tt
+  reaching-all x q (f ∷ l) h = go (isAt q (hopOf fs f)) refl (reaching-all x q l (h .1))
+    where
+      go : (b : Bool) → isAt q (hopOf fs f) ≡ b → All (Arrived x (q .link) (q .level)) (reaching fs q l) →
+          All (Arrived x (q .link) (q .level)) (cond b (f ∷ reaching fs q l) (reaching fs q l))
+      go true e k = ((h .0 .0, h .0 .1, at-hop q (hopOf fs f) e), k)
+      go false e k = k
+
+  pub arrived : (x : ℕ) → All (λ f. OnTime t fs f × (f .since ≡ x)) (moved r x) → (n level : ℕ) → All (Arrived x n level) (r .arrivals x n level)
+  arrived x h n level = all-perm (Arrived x n level) (r .anyOrder x (hop n level)) (reaching-all x (hop n level) (moved r x) h)
+
+  pub after-placed : (x : ℕ) → NotLate t fs r x → ((n : ℕ) → Each (Placed t fs x n) (r .before x n)) → (n : ℕ) → Each (Placed t fs (suc x) n) (r .after x n)
+  after-placed x ok each n =
+      rw (r .enters x n)
+      (enter-each (Placed t fs (suc x) n) (r .arrivals x n) (r .before x n) new
+      (wire-both (Placed t fs x n) Soon (Placed t fs (suc x) n) stays (r .before x n .wire) (each n .wire) (queues .0))
+      (levels-both (Placed t fs x n) Soon (Placed t fs (suc x) n) stays 1 (r .before x n .levels) (each n .levels) (queues .1)))
+    where
+      Soon : ℕ → Frame → Type 0
+      Soon level f = x < f .since + thresholdOf (queueAt t (hop n level))
+
+      queues : OnWire Soon (r .before x n .wire) × EachLevel Soon 1 (r .before x n .levels)
+      queues = each-queue Soon (r .before x n) (ok n)
+
+      stays : (level : ℕ) (f : Frame) → Placed t fs x n level f → Soon level f → Placed t fs (suc x) n level f
+      stays level f p s = record { onTime = p .onTime; here = p .here; came = omega (arith, p .came); soon = s }
+
+      new : (level : ℕ) → All (Placed t fs (suc x) n level) (r .arrivals x n level)
+      new level =
+          all-imp (r .arrivals x n level)
+          (λ f a.
+          record {
+            onTime = a .0;
+            here = a .2;
+            came = omega (arith, a .1);
+            soon = omega (arith, a .1, positive f (a .0) (hop n level) (a .2));
+          })
+          (arrived x (moved-on-time x each) n level)
+
+  pub placed : (x : ℕ) → ((m : ℕ) → m < x → NotLate t fs r m) → (n : ℕ) → Each (Placed t fs x n) (r .before x n)
+  placed zero ok n = rw (r .starts n) (empty-each (Placed t fs 0 n) (linkAt t n))
+  placed (suc x) ok n =
+      rw (r .serves x n)
+      (interval-each (Placed t fs (suc x) n) (speedOf (linkAt t n)) (r .after x n)
+      (after-placed x (ok x (omega arith)) (placed x (λ m u. ok m (omega arith))) n))
+
+  -- All that moves up to the instant after those with no late frame is on time.
+  pub moves : (x : ℕ) → ((m : ℕ) → m < x → NotLate t fs r m) → All (λ f. OnTime t fs f × (f .since ≡ x)) (moved r x)
+  moves x ok = moved-on-time x (placed x ok)

@@ -1,0 +1,180 @@
+-- One link: what a bit slot, an interval and the arrivals of an instant do to the weight of its frames, to what holds of each of them, and to their order.
+-- Each law is shown for taking a frame and for sending a bit, for any weight and any property. Assumes nothing.
+use Prim.Native.Nat.{ℕ, zero, suc, _+_, _≤_}
+use mathlib.Core.Path.{_≡_, refl, ap}
+use mathlib.Core.List.{List, [], _∷_}
+use mathlib.Core.Option.{Option, none, some}
+use native.Mathlib.Omega.{arith}
+use lib.ListN.{length}
+use Rattle.model.specs.Words.{All}
+use Rattle.model.specs.Total.{total}
+use Rattle.model.specs.QueueTable.{Queue, Link}
+use Rattle.model.specs.Run.{Frame, Wire, idle, sending, LinkState, Pick, pastEmpty, pick, start, take, send, bitSlot, interval, append, enter, emptyLevels, emptyLink, window}
+use Rattle.model.specs.Laws.All.{member-all}
+use Rattle.model.specs.Laws.Total.{total-append, total-zero, total-each}
+use Rattle.model.specs.Laws.Run.Windows.{window-front}
+
+-- A weight reads a frame and the level it is at. What waits, at the levels from number `n` on:
+unfoldable pub waiting : (ℕ → Frame → ℕ) → (n : ℕ) → List (List Frame) → ℕ
+waiting m n [] = 0
+waiting m n (q ∷ qs) = total (m n) q + waiting m (suc n) qs
+
+unfoldable pub underWay : (ℕ → Frame → ℕ) → Wire → ℕ
+underWay m idle = 0
+underWay m (sending n f more) = m n f
+
+-- What is in the queues of a link, waiting or under way.
+unfoldable pub held : (ℕ → Frame → ℕ) → LinkState → ℕ
+held m l = underWay m (l .wire) + waiting m 1 (l .levels)
+
+abbrev pub EachLevel : (ℕ → Frame → Type 0) → ℕ → List (List Frame) → Type 0
+EachLevel P n [] = Unit {0}
+EachLevel P n (q ∷ qs) = All (P n) q × EachLevel P (suc n) qs
+
+abbrev pub OnWire : (ℕ → Frame → Type 0) → Wire → Type 0
+OnWire P idle = Unit {0}
+OnWire P (sending n f more) = P n f
+
+-- What holds of each frame of a link and its level, of those that have left too.
+pub record Each (P : ℕ → Frame → Type 0) (l : LinkState) : Type 0 where
+  pub wire : OnWire P (l .wire)
+  pub levels : EachLevel P 1 (l .levels)
+  pub left : All (λ f. (n : ℕ) × P n f) (l .left)
+
+-- A frame has something to send.
+abbrev pub Long : ℕ → Frame → Type 0
+Long n f = 1 ≤ f .length
+
+-- Frames stand in the order in which they came.
+abbrev pub Rising : List Frame → Type 0
+Rising [] = Unit {0}
+Rising (f ∷ q) = All (λ g. f .since ≤ g .since) q × Rising q
+
+abbrev pub link : Wire → List (List Frame) → List Frame → LinkState
+link w qs d = record { wire = w; levels = qs; left = d }
+
+-- What taking a frame and sending a bit keep, an interval keeps.
+pub interval-keeps : (K : LinkState → Type 0) → ((l : LinkState) → K l → K (take l)) → ((l : LinkState) → K l → K (send l)) →
+    (n : ℕ) (l : LinkState) → K l → K (interval n l)
+unfolding interval bitSlot
+interval-keeps K t s zero l h = h
+interval-keeps K t s (suc n) l h = s (take (interval n l)) (t (interval n l) (interval-keeps K t s n l h))
+
+-- The weight of the frames.
+module _ (m : ℕ → Frame → ℕ) where
+  abbrev pub PickWeighs : ℕ → List (List Frame) → Option Pick → Type 0
+  PickWeighs n qs none = waiting m n qs ≡ 0
+  PickWeighs n qs (some p) = waiting m n qs ≡ m (p .level) (p .frame) + waiting m n (p .rest)
+
+  pub pick-weighs : (n : ℕ) (qs : List (List Frame)) → PickWeighs n qs (pick n qs)
+  unfolding pick pastEmpty waiting total
+  pick-weighs n [] = refl
+  pick-weighs n ([] ∷ qs) = go (pick (suc n) qs) (pick-weighs (suc n) qs)
+    where
+      go : (o : Option Pick) → PickWeighs (suc n) qs o → PickWeighs n ([] ∷ qs) (pastEmpty o)
+      go none h = omega arith
+      go (some p) h = omega arith
+  pick-weighs n ((f ∷ q) ∷ qs) = omega arith
+
+  take-held : (w : Wire) (qs : List (List Frame)) (d : List Frame) → held m (take (link w qs d)) ≡ held m (link w qs d)
+  unfolding take start held underWay
+  take-held idle qs d = go (pick 1 qs) (pick-weighs 1 qs)
+    where
+      go : (o : Option Pick) → PickWeighs 1 qs o → held m (start o (link idle qs d)) ≡ held m (link idle qs d)
+      go none h = refl
+      go (some p) h = omega arith
+  take-held (sending n f more) qs d = refl
+
+  send-held : (w : Wire) (qs : List (List Frame)) (d : List Frame) → held m (send (link w qs d)) ≤ held m (link w qs d)
+  unfolding send held underWay
+  send-held idle qs d = omega arith
+  send-held (sending n f zero) qs d = omega arith
+  send-held (sending n f (suc more)) qs d = omega arith
+
+  pub slot-held : (l : LinkState) → held m (bitSlot l) ≤ held m l
+  unfolding bitSlot
+  slot-held l =
+      let k = take l in
+      omega (arith, take-held (l .wire) (l .levels) (l .left), send-held (k .wire) (k .levels) (k .left))
+
+  pub interval-held : (n : ℕ) (l : LinkState) → held m (interval n l) ≤ held m l
+  interval-held n l =
+      interval-keeps (λ k. held m k ≤ held m l) (λ k h. omega (arith, take-held (k .wire) (k .levels) (k .left)))
+      (λ k h. omega (arith, send-held (k .wire) (k .levels) (k .left))) n l (omega arith)
+
+  -- Arrivals add their own weight.
+  pub append-waiting : (new : ℕ → List Frame) (n : ℕ) (qs : List (List Frame)) →
+      waiting m n (append new n qs) ≡ waiting m n qs + window (λ k. total (m k) (new k)) n (length qs)
+  unfolding append waiting window
+  append-waiting new n [] = refl
+  append-waiting new n (q ∷ qs) =
+      omega (arith, append-waiting new (suc n) qs, total-append (m n) q (new n), window-front (λ k. total (m k) (new k)) n (length qs))
+
+  pub enter-held : (new : ℕ → List Frame) (l : LinkState) →
+      held m (enter new l) ≡ held m l + window (λ k. total (m k) (new k)) 1 (length (l .levels))
+  unfolding enter held
+  enter-held new l = omega (arith, append-waiting new 1 (l .levels))
+
+  -- A weight that is 0 at these levels.
+  pub waiting-zero : (n : ℕ) (qs : List (List Frame)) → ((k : ℕ) (f : Frame) → n ≤ k → m k f ≡ 0) → waiting m n qs ≡ 0
+  unfolding waiting
+  waiting-zero n [] z = refl
+  waiting-zero n (q ∷ qs) z =
+      omega (
+        arith,
+        total-zero (m n) q (member-all (λ f. m n f ≡ 0) q (λ f k. z n f (omega arith))),
+        waiting-zero (suc n) qs (λ k f u. z k f (omega arith)),
+      )
+
+  empty-waiting : (n : ℕ) (qs : List Queue) → waiting m n (emptyLevels qs) ≡ 0
+  unfolding waiting emptyLevels total
+  empty-waiting n [] = refl
+  empty-waiting n (q ∷ qs) = omega (arith, empty-waiting (suc n) qs)
+
+  pub empty-held : (k : Option Link) → held m (emptyLink k) ≡ 0
+  unfolding held underWay waiting emptyLink
+  empty-held none = refl
+  empty-held (some k) = omega (arith, empty-waiting 1 (k .levels))
+
+module _ (m k : ℕ → Frame → ℕ) (le : (n : ℕ) (f : Frame) → m n f ≤ k n f) where
+  pub waiting-le : (n : ℕ) (qs : List (List Frame)) → waiting m n qs ≤ waiting k n qs
+  unfolding waiting
+  waiting-le n [] = omega arith
+  waiting-le n (q ∷ qs) =
+      omega (arith, total-each (λ f. Unit {0}) (m n) (k n) q (λ f u. le n f) (member-all (λ f. Unit {0}) q (λ f m. tt)), waiting-le (suc n) qs)
+
+  wire-le : (w : Wire) → underWay m w ≤ underWay k w
+  unfolding underWay
+  wire-le idle = omega arith
+  wire-le (sending n f more) = le n f
+
+  pub held-le : (l : LinkState) → held m l ≤ held k l
+  unfolding held
+  held-le l = omega (arith, wire-le (l .wire), waiting-le 1 (l .levels))
+
+-- Frames that have left count on: an interval keeps the weight of all.
+module _ (m : Frame → ℕ) where
+  unfoldable pub all : LinkState → ℕ
+  all l = held (λ n. m) l + total m (l .left)
+
+  take-left : (w : Wire) (qs : List (List Frame)) (d : List Frame) → take (link w qs d) .left ≡ d
+  unfolding take start
+  take-left idle qs d = go (pick 1 qs)
+    where
+      go : (o : Option Pick) → start o (link idle qs d) .left ≡ d
+      go none = refl
+      go (some p) = refl
+  take-left (sending n f more) qs d = refl
+
+  send-all : (w : Wire) (qs : List (List Frame)) (d : List Frame) → all (send (link w qs d)) ≡ all (link w qs d)
+  unfolding send all held underWay total
+  send-all idle qs d = refl
+  send-all (sending n f zero) qs d = omega (arith, total-append m d (f ∷ []))
+  send-all (sending n f (suc more)) qs d = refl
+
+  pub interval-all : (n : ℕ) (l : LinkState) → all (interval n l) ≡ all l
+  unfolding all
+  interval-all n l =
+      interval-keeps (λ k. all k ≡ all l)
+      (λ k h. omega (arith, take-held (λ n. m) (k .wire) (k .levels) (k .left), ap (total m) (take-left (k .wire) (k .levels) (k .left))))
+      (λ k h. omega (arith, send-all (k .wire) (k .levels) (k .left))) n l refl

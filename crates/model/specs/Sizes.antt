@@ -1,0 +1,55 @@
+-- Document 01's sizes: how many of each there are at the most, and what follows from that.
+use Prim.Native.Nat.{ℕ, _+_, _*_}
+
+-- Links of a table, levels of a link, and so queues.
+abbrev pub linksMost : ℕ
+linksMost = 64
+
+abbrev pub levelsMost : ℕ
+levelsMost = 8
+
+abbrev pub queuesMost : ℕ
+queuesMost = linksMost * levelsMost
+
+-- Hops of a path; and µs that the thresholds along one sum to, each at most 100,000.
+abbrev pub hopsMost : ℕ
+hopsMost = 12
+
+abbrev pub thresholdsMost : ℕ
+thresholdsMost = hopsMost * 100000
+
+-- Slots (document 01: places), and hop entries for all flows together.
+abbrev pub slotCount : ℕ
+slotCount = 256
+
+abbrev pub hopEntries : ℕ
+hopEntries = 1024
+
+-- Columns of a table line; bytes of a table text, whose lines end in LF: 18,944.
+abbrev pub rowColumns : ℕ
+rowColumns = 36
+
+abbrev pub tableBytes : ℕ
+tableBytes = queuesMost * (rowColumns + 1)
+
+-- Columns of a registration before its hops, and of each hop.
+abbrev pub headColumns : ℕ
+headColumns = 41
+
+abbrev pub hopColumns : ℕ
+hopColumns = 6
+
+-- Columns of the longest order line.
+abbrev pub orderColumns : ℕ
+orderColumns = headColumns + hopColumns * hopsMost
+
+-- Bytes and lines of an order text.
+abbrev pub orderBytes : ℕ
+orderBytes = 60000
+
+abbrev pub orderLines : ℕ
+orderLines = 2000
+
+-- Bytes of an answer line, with its LF.
+abbrev pub answerBytes : ℕ
+answerBytes = 20
