@@ -3,6 +3,7 @@
 use Prim.Native.Nat.{ℕ, _+_, _*_, _-_, _≤_, _<_, max}
 use mathlib.Core.Path.{_≡_, refl, sym, ap, subst, _∙_}
 use mathlib.Core.Bool.{Bool, true, false, true≢false}
+use mathlib.Core.Logic.{_⊎_, ⊎-elim}
 use mathlib.Core.List.{List, _∷_}
 use native.Mathlib.Omega.{arith}
 use native.Mathlib.Decide.{ℕ-discrete}
@@ -18,7 +19,7 @@ use Rattle.model.specs.Laws.All.{all-getD}
 use Rattle.model.specs.Laws.Aggregates.{hop-same}
 use Rattle.model.specs.Laws.Figures.{sharesAt, shares-nothing, shares-other, shares-here, shares-carried, aggregate-alone, aggregate-more}
 use Rattle.queue_table.specs.View.{tableOf, hopAt, AllQueues}
-use Rattle.figures.specs.View.{sumNumbers, figureAt, growthAt, figureStored, FlowOf, Figures, PathCounted, Carried, FrameLeft, no-flow, unknown, another, HopRemoved, PathRemoved, Near}
+use Rattle.figures.specs.View.{sumNumbers, figureAt, growthAt, figureStored, FlowOf, Figures, PathCounted, Carried, FrameLeft, no-flow, unknown, another, HopRemoved, Once, PathRemoved, Near}
 use Rattle.figures.proofs.FigureLaws.{stored-length, stored-here, stored-other, frame-stored, frame-kept}
 use Rattle.figures.proofs.EntryLaws.{other-entry, shares-next, shares-end}
 
@@ -49,13 +50,17 @@ module _ (sums : List ℕ) (e : ℕ) (share : Aggregate) (counted : (share .rate
       }
 
   pub less-none : rates ≡ 0 → HopRemoved share sums e (set sumsLess (3 * e + 2) 0) false
-  less-none z = less 0 (frame-stored sums e rates bursts 0) (no-flow z refl)
+  less-none z = less 0 (frame-stored sums e rates bursts 0) (no-flow refl z refl)
 
-  pub less-own : HopRemoved share sums e (set sumsLess (3 * e + 2) 0) true
-  less-own = less 0 (frame-stored sums e rates bursts 0) (unknown refl refl)
+  pub less-own : (rates ≡ 0 → ⊥) → getD sums (3 * e + 2) 0 ≤ share .frame → HopRemoved share sums e (set sumsLess (3 * e + 2) 0) true
+  less-own some le = less 0 (frame-stored sums e rates bursts 0) (unknown refl (omega (arith, some)) le refl)
 
-  pub less-kept : share .frame < getD sums (3 * e + 2) 0 → HopRemoved share sums e sumsLess false
-  less-kept lt = less (getD sums (3 * e + 2) 0) (frame-kept sums e rates bursts) (another lt refl)
+  pub less-kept : (rates ≡ 0 → ⊥) → share .frame < getD sums (3 * e + 2) 0 → HopRemoved share sums e sumsLess false
+  less-kept some lt = less (getD sums (3 * e + 2) 0) (frame-kept sums e rates bursts) (another refl (omega (arith, some)) lt refl)
+
+-- The queue at this index of the path has flows left, and its largest frame must be raised.
+abbrev MustRaise : (entries sums : List ℕ) (j : ℕ) → Type 0
+MustRaise entries sums j = (j < length entries) × (1 ≤ figureAt sums (getD entries j 0) .rate) × (figureAt sums (getD entries j 0) .frame ≡ 0)
 
 -- The figures so far, `sums`, with the hops from `i` on left, before which S is `sum`.
 pub record Removing (share : Aggregate) (table entries before sums : List ℕ) (sum i : ℕ) (again : Bool) : Type 0 where
@@ -66,6 +71,9 @@ pub record Removing (share : Aggregate) (table entries before sums : List ℕ) (
       → Near ((1 ≤ share .rate) × Carried (tableOf table) fs × (again ≡ false)) (figureAt sums e)
       (together (sharesAt (hopAt e) (model.shares (tableOf table) f sum (drop i (f .path)))) (model.aggregateAt (tableOf table) fs (hopAt e)))
   pub others : (e : ℕ) → All (λ x. e ≡ x → ⊥) entries → figureAt sums e ≡ figureAt before e
+  pub kept : (e : ℕ) → 1 ≤ figureAt sums e .rate → share .frame < figureAt before e .frame → figureAt sums e .frame ≡ figureAt before e .frame
+  pub must : again ≡ true → Once entries
+      → (j : ℕ) × (j < i) × MustRaise entries sums j
 
 near-same : {sure : Type 0} {a b : Aggregate} → a ≡ b → Near sure a b
 near-same {a = a} {b = b} e = record { rate = rates; burst = ap (λ (x : Aggregate). x .burst) e; low = omega (arith, frames); frame = λ s. frames }
@@ -86,15 +94,15 @@ module _ {sure sure′ : Type 0} (share a a′ rest b : Aggregate) {own : Bool}
     (known : sure′ → sure × (own ≡ false) × (rest .rate + b .rate ≡ 0 → max (rest .frame) (b .frame) ≡ 0)) where
   frame-low : FrameLeft (a′ .rate) (share .frame) (a .frame) (a′ .frame) own → a′ .frame ≤ max (rest .frame) (b .frame)
   unfolding together
-  frame-low (no-flow z l) = omega arith
-  frame-low (unknown o l) = omega arith
-  frame-low (another lt l) = omega (arith, near .low)
+  frame-low (no-flow o z l) = omega arith
+  frame-low (unknown o some le l) = omega arith
+  frame-low (another o some lt l) = omega (arith, near .low)
 
   frame-same : FrameLeft (a′ .rate) (share .frame) (a .frame) (a′ .frame) own → sure′ → a′ .frame ≡ max (rest .frame) (b .frame)
   unfolding together
-  frame-same (no-flow z l) s = l ∙ sym (known s .2 (omega (arith, rate-left, near .rate)))
-  frame-same (unknown o l) s = absurd (true≢false (sym o ∙ known s .1))
-  frame-same (another lt l) s = omega (arith, near .frame (known s .0))
+  frame-same (no-flow o z l) s = l ∙ sym (known s .2 (omega (arith, rate-left, near .rate)))
+  frame-same (unknown o some le l) s = absurd (true≢false (sym o ∙ known s .1))
+  frame-same (another o some lt l) s = omega (arith, near .frame (known s .0))
 
   taken-out : FrameLeft (a′ .rate) (share .frame) (a .frame) (a′ .frame) own → Near sure′ a′ (together rest b)
   unfolding together
@@ -119,6 +127,8 @@ module _ (share : Aggregate) (table entries before : List ℕ) where
             near-same
             (figures .same e lt ∙ aggregate-more t f fs (hopAt e) ∙ ap (λ a. together a (model.aggregateAt t fs (hopAt e))) (aggregate-alone t f (hopAt e)));
         others = λ e off. refl;
+        kept = λ e some lt. refl;
+        must = λ again once. absurd (true≢false (sym again));
       }
 
   module _ {sums : List ℕ} {sum i : ℕ} {again : Bool} (so-far : Removing share table entries before sums sum i again) where
@@ -132,6 +142,8 @@ module _ (share : Aggregate) (table entries before : List ℕ) where
               let near = subst (Near ((1 ≤ share .rate) × Carried t fs × (again ≡ false)) (figureAt sums e)) nothing (so-far .left f fs named is figures e lt) in
               record { rate = near .rate; burst = near .burst; low = near .low; frame = λ known. near .frame (one, carried, known) };
           others = so-far .others;
+          kept = so-far .kept;
+          must = λ raise once. let (j, lt, there) = so-far .must raise once in (j, there .0, there .1, there .2);
         }
 
     module _ (more : i < length entries) (e₁ : getD entries i 0 < queuesMost) where
@@ -195,13 +207,49 @@ module _ (share : Aggregate) (table entries before : List ℕ) where
       removing-room counted own-is =
           rw own-is (here-room (counted .f) (counted .fs) (counted .named) (counted .is) (counted .figures))
 
+      module _ {sums′ : List ℕ} {own : Bool} (removed : HopRemoved there sums x sums′ own) where
+        abbrev left : Aggregate
+        left = removed .left
+
+        at-hop : figureAt sums′ x ≡ left
+        at-hop = ap (λ l. figureAt l x) (removed .stored) ∙ stored-here sums x left (omega (arith, so-far .long))
+
+        elsewhere : (e : ℕ) → (e ≡ x → ⊥) → figureAt sums′ e ≡ figureAt sums e
+        elsewhere e other = ap (λ l. figureAt l e) (removed .stored) ∙ stored-other sums x left e other
+
+        hop-kept : FrameLeft (left .rate) (share .frame) (figureAt sums x .frame) (left .frame) own
+            → 1 ≤ left .rate → share .frame < figureAt before x .frame → left .frame ≡ figureAt before x .frame
+        hop-kept (no-flow o z l) some lt = absurd (omega (arith, z))
+        hop-kept (another o some₁ lt₁ l) some lt = l ∙ so-far .kept x (omega (arith, removed .rate-left)) lt
+        hop-kept (unknown o some₁ le l) some lt = absurd (omega (arith, le, so-far .kept x (omega (arith, removed .rate-left)) lt))
+
+        step-kept : (e : ℕ) → Dec (e ≡ x) → 1 ≤ figureAt sums′ e .rate → share .frame < figureAt before e .frame → figureAt sums′ e .frame ≡ figureAt before e .frame
+        step-kept e (yes same) some lt =
+            rw (same, at-hop) (hop-kept (removed .frame-left) (rw (same, at-hop) at some) (rw same at lt))
+        step-kept e (no other) some lt = rw (elsewhere e other) (so-far .kept e (rw (elsewhere e other) at some) lt)
+
+        hop-must : FrameLeft (left .rate) (share .frame) (figureAt sums x .frame) (left .frame) own → own ≡ true → MustRaise entries sums′ i
+        hop-must (no-flow o z l) raise = absurd (true≢false (sym raise ∙ o))
+        hop-must (another o some lt l) raise = absurd (true≢false (sym raise ∙ o))
+        hop-must (unknown o some le l) raise = rw at-hop (more, some, l)
+
+        step-must : {again′ : Bool} → (again′ ≡ true → (again ≡ true) ⊎ (own ≡ true)) → again′ ≡ true → Once entries → (j : ℕ) × (j < i + 1) × MustRaise entries sums′ j
+        step-must from raise once =
+            ⊎-elim
+            (λ earlier.
+            let (j, lt, there) = so-far .must earlier once in
+            (j, omega (arith, lt), rw (elsewhere (getD entries j 0) (once j i lt more)) there))
+            (λ here. (i, omega arith, hop-must (removed .frame-left) here))
+            (from raise)
+
       -- The flow is taken out at the hop.
       pub removing-next : (low : growthAt table x ≤ 100000) {share′ : Aggregate} {past : ℕ} {sums′ : List ℕ} {own again′ : Bool}
           → share′ ≡ there → past ≡ sum + growthAt table x
           → HopRemoved share′ sums x sums′ own
           → (again′ ≡ false → (again ≡ false) × (own ≡ false))
+          → (again′ ≡ true → (again ≡ true) ⊎ (own ≡ true))
           → Removing share table entries before sums′ past (i + 1) again′
-      removing-next low {sums′ = sums′} {own = own} same past-is removed both =
+      removing-next low {sums′ = sums′} {own = own} same past-is removed both from =
           let now = subst (λ (a : Aggregate). HopRemoved a sums x sums′ own) same removed in
           rw past-is
           (record {
@@ -212,4 +260,6 @@ module _ (share : Aggregate) (table entries before : List ℕ) where
                 ap (λ l. figureAt l e) (removed .stored)
                 ∙ stored-other sums x (removed .left) e (all-getD (λ d. e ≡ d → ⊥) entries i 0 off more)
                 ∙ so-far .others e off;
+            kept = λ e. step-kept now e (ℕ-discrete e x);
+            must = step-must now from;
           })

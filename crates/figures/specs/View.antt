@@ -95,11 +95,11 @@ abbrev pub Carried : Table → List Flow → Type 0
 Carried t fs = (q : Hop) → aggregateAt t fs q .rate ≡ 0 → aggregateAt t fs q .frame ≡ 0
 
 -- What a queue's largest frame becomes once a flow with the frame `frame` is taken out there and the rate sum is `rate`: 0
--- where no flow is left and where the flow's own may have been the largest, which `again` says.
+-- where no flow is left; as it was where it isn't the flow's own; else 0, and `again` says that it must be raised.
 pub data FrameLeft (rate frame largest left : ℕ) (again : Bool) : Type 0 where
-  no-flow : rate ≡ 0 → left ≡ 0 → FrameLeft rate frame largest left again
-  unknown : again ≡ true → left ≡ 0 → FrameLeft rate frame largest left again
-  another : frame < largest → left ≡ largest → FrameLeft rate frame largest left again
+  no-flow : again ≡ false → rate ≡ 0 → left ≡ 0 → FrameLeft rate frame largest left again
+  another : again ≡ false → 1 ≤ rate → frame < largest → left ≡ largest → FrameLeft rate frame largest left again
+  unknown : again ≡ true → 1 ≤ rate → largest ≤ frame → left ≡ 0 → FrameLeft rate frame largest left again
 
 -- A flow is taken out at queue `e`, with its share there.
 pub record HopRemoved (share : Aggregate) (sums : List ℕ) (e : ℕ) (sums′ : List ℕ) (again : Bool) : Type 0 where
@@ -116,14 +116,22 @@ pub record Near (sure : Type 0) (a b : Aggregate) : Type 0 where
   pub low : a .frame ≤ b .frame
   pub frame : sure → a .frame ≡ b .frame
 
+-- A path that names no queue twice.
+abbrev pub Once : (entries : List ℕ) → Type 0
+Once entries = (j k : ℕ) → j < k → k < length entries → getD entries j 0 ≡ getD entries k 0 → ⊥
+
 -- What the path added at each queue is taken out, where a rate sum of 0 says that no flow is left (`Carried`). Figures off the path
--- stay.
+-- stay, and so does a largest frame that isn't the flow's own where flows are left. `again` only where a queue of the path has flows left
+-- and its largest frame must be raised.
 pub record PathRemoved (share : Aggregate) (table entries sums sums′ : List ℕ) (again : Bool) : Type 0 where
   pub long : length sums′ ≡ sumNumbers
   pub left : (f : Flow) (fs : List Flow) → AllQueues table entries → FlowOf share entries f
       → Figures (tableOf table) (f ∷ fs) sums → 1 ≤ share .rate → Carried (tableOf table) fs
       → (e : ℕ) → e < queuesMost → Near (again ≡ false) (figureAt sums′ e) (aggregateAt (tableOf table) fs (hopAt e))
   pub others : (e : ℕ) → All (λ x. e ≡ x → ⊥) entries → figureAt sums′ e ≡ figureAt sums e
+  pub kept : (e : ℕ) → 1 ≤ figureAt sums′ e .rate → share .frame < figureAt sums e .frame → figureAt sums′ e .frame ≡ figureAt sums e .frame
+  pub must : again ≡ true → Once entries
+      → (j : ℕ) × (j < length entries) × (1 ≤ figureAt sums′ (getD entries j 0) .rate) × (figureAt sums′ (getD entries j 0) .frame ≡ 0)
 
 -- Figures with a largest frame of at least this.
 unfoldable pub raised : Aggregate → (frame : ℕ) → Aggregate

@@ -23,6 +23,8 @@ pub mod Schedulable
 pub mod Carries
 pub mod Levels
 pub mod Admissible
+pub mod Decided
+pub mod Codes
 pub mod Path
 pub mod Figures
 pub mod Bounds

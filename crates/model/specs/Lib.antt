@@ -11,6 +11,7 @@ pub mod Aggregates
 pub mod HandSums
 pub mod Schedulable
 pub mod Reference
+pub mod Codes
 pub mod Answers
 pub mod Batch
 pub mod WorkedBatch

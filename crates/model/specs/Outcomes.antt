@@ -1,14 +1,16 @@
--- What is said of one order on the reference model: refused, admitted, released, lacking room.
+-- What is said of one order on the reference model: refused, admitted, released, decided as the mission's second line has it; lacking room.
 use Prim.Native.Nat.{ℕ, suc, _+_, _<_}
 use mathlib.Core.Path.{_≡_}
-use mathlib.Core.Logic.{_⊎_}
+use mathlib.Core.Logic.{_⊎_, _↔_}
 use mathlib.Core.List.{List, [], _∷_, _++_}
 use mathlib.Core.Option.{Option, none, some}
-use lib.ListN.{length, getD}
+use lib.ListN.{length, getD, set}
 use Rattle.model.specs.Words.{All}
 use Rattle.model.specs.Sizes.{slotCount, hopEntries}
-use Rattle.model.specs.Orders.{Flow, Order}
-use Rattle.model.specs.Reference.{Slot, State, Cause, Outcome, heldFlows, heldHops, numberFinding, lineFindings, deadlineFinding, roomFindings, findings, refuse, apply}
+use Rattle.model.specs.Orders as orders
+use Rattle.model.specs.Orders.{Flow, Order, register}
+use Rattle.model.specs.Reference.{Slot, State, Cause, Outcome, heldFlows, heldHops, numberFinding, lineFindings, deadlineFinding, roomFindings, findings, refuse}
+use Rattle.model.specs.Admissible.{Admissible}
 
 -- None of the findings applies.
 abbrev pub NoneApplies : List (Option Cause) → Type 0
@@ -21,42 +23,52 @@ pub record First (l : List (Option Cause)) (c : Cause) : Type 0 where
   pub listed : l ≡ earlier ++ some c ∷ later
   pub passed : NoneApplies earlier
 
--- A refused order: its cause comes first, is answered, and nothing changes.
-pub record Refused (s : State) (o : Order) : Type 0 where
+-- A refused order: the listed cause that comes first is answered, and nothing changes.
+pub record Refused (s : State) (o : Order) (out : Outcome) : Type 0 where
   pub cause : Cause
   pub first : First (findings s o) cause
-  pub outcome : apply s o ≡ refuse s cause
+  pub outcome : out ≡ refuse s cause
 
--- One slot has new contents; no other slot and nothing of the table changes.
-pub record Replaced (s : State) (index : ℕ) (contents : Slot) (s′ : State) : Type 0 where
-  pub inside : index < length (s .slots)
-  pub filled : getD (s′ .slots) index none ≡ contents
-  pub others : (j : ℕ) → (j ≡ index → ⊥) → getD (s′ .slots) j none ≡ getD (s .slots) j none
-  pub size : length (s′ .slots) ≡ length (s .slots)
-  pub table : s′ .table ≡ s .table
+-- The slot at an index, counted from 0, with new contents; every other slot and the table as they were.
+abbrev pub withSlot : State → (index : ℕ) (contents : Slot) → State
+withSlot s index contents = record { table = s .table; slots = set (s .slots) index contents }
 
--- An admission: the flow, just as its line gives it, stands in the lowest free slot.
+-- An admission: the flow, just as its line gives it, stands in the lowest free slot, which is answered.
 pub record Admitted (s : State) (f : Flow) (out : Outcome) : Type 0 where
   pub index : ℕ
+  pub inside : index < length (s .slots)
   pub free : getD (s .slots) index none ≡ none
   pub lowest : (j : ℕ) → j < index → getD (s .slots) j none ≡ none → ⊥
   pub answer : out .answer ≡ record { code = 0; slot = suc index; link = 0; level = 0 }
-  pub next : Replaced s index (some f) (out .next)
+  pub next : out .next ≡ withSlot s index (some f)
 
--- A release: the slot that held the flow with this number is empty.
+-- A release: the slot that held the flow with this number is empty, and is answered.
 pub record Released (s : State) (n : ℕ) (out : Outcome) : Type 0 where
   pub index : ℕ
+  pub inside : index < length (s .slots)
   pub flow : Flow
   pub held : getD (s .slots) index none ≡ some flow
   pub number : flow .number ≡ n
   pub answer : out .answer ≡ record { code = 0; slot = suc index; link = 0; level = 0 }
-  pub next : Replaced s index none (out .next)
+  pub next : out .next ≡ withSlot s index none
+
+-- An order that answers 0 is a registration or a release, and was carried out.
+pub data Done (s : State) (o : Order) (out : Outcome) : Type 0 where
+  admission : (f : Flow) → o ≡ register f → Admitted s f out → Done s o out
+  release : (n : ℕ) → o ≡ orders.release n → Released s n out → Done s o out
 
 -- None of 12, 14 to 17, 30 and 31 against a registration.
 pub record NoneOthers (s : State) (f : Flow) : Type 0 where
   pub number : numberFinding (heldFlows (s .slots)) f ≡ none
   pub line : NoneApplies (lineFindings (s .table) f)
   pub room : NoneApplies (roomFindings (s .slots) f)
+
+-- Mission, line 2: the order `o` on the state `s` is answered, and leaves the state, as document 01 decides it. A registration with none of 10 to
+-- 17, 30 and 31 against it answers 0 if and only if the threshold-based model admits it; every other code than 0 is the cause that comes first.
+pub record Decided (s : State) (o : Order) (out : Outcome) : Type 0 where
+  pub exactly : (f : Flow) → o ≡ register f → NoneOthers s f → (out .answer .code ≡ 0) ↔ Admissible (s .table) (heldFlows (s .slots)) f
+  pub done : out .answer .code ≡ 0 → Done s o out
+  pub refused : (out .answer .code ≡ 0 → ⊥) → Refused s o out
 
 -- The causes before 30, after 10 and 11.
 unfoldable pub earlyFindings : State → Flow → List (Option Cause)

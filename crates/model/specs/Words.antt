@@ -10,6 +10,11 @@ abbrev pub All : {A : Type 0} → (A → Type 0) → List A → Type 0
 All P [] = Unit {0}
 All P (x ∷ xs) = P x × All P xs
 
+-- Two lists of the same length, compared element by element.
+pub data Pairs {A B : Type 0} (R : A → B → Type 0) : List A → List B → Type 0 where
+  ends : Pairs R [] []
+  pair : {x : A} {y : B} {l : List A} {m : List B} → R x y → Pairs R l m → Pairs R (x ∷ l) (y ∷ m)
+
 unfoldable pub every : {A : Type 0} → (A → Bool) → List A → Bool
 every test [] = true
 every test (x ∷ xs) = test x && every test xs

@@ -1,6 +1,7 @@
 -- The registry that a call builds anew holds what came of it.
 -- Assumes nothing.
 use Prim.Native.Nat.{ℕ}
+use mathlib.Core.Path.{refl}
 use mathlib.Core.List.{List}
 use Rattle.model.specs.Columns.{lines}
 use Rattle.model.specs.Orders.{Kind, kindNumber}
@@ -17,6 +18,7 @@ pub performs : (before : Registry) (kind : Kind) (bytes : List ℕ) (r : Answer)
 unfolding step callOrder
 performs before kind bytes r slots′ pool′ sums′ g =
     record {
+      table = refl;
       answer = λ k. g .done k .answer;
       next = λ k. g .done k .next;
       is-consistent = λ k. g .done k .kept;

@@ -4,17 +4,14 @@ use Prim.Native.Nat.{ℕ, _<_}
 use mathlib.Core.Path.{_≡_}
 use mathlib.Core.Logic.{_↔_}
 use mathlib.Core.List.{List, [], _∷_, map}
-use mathlib.Core.Option.{some}
 use Rattle.model.specs.Words.{All}
 use Rattle.model.specs.Sizes.{queuesMost}
-use Rattle.model.specs.QueueTable.{Queue}
-use Rattle.model.specs.Orders.{Hop, Flow, register, registering}
-use Rattle.model.specs.Aggregates.{queueAt, aggregateAt}
+use Rattle.model.specs.Orders.{Flow, register, registering}
+use Rattle.model.specs.Aggregates.{aggregateAt}
 use Rattle.model.specs.Reference as model
 use Rattle.model.specs.Reference.{State, Call, heldFlows, callOrder, opened, final}
 use Rattle.model.specs.Outcomes.{NoneApplies, earlyFindings, NoRoom, Full}
-use Rattle.model.specs.Run.{Run, Conforming}
-use Rattle.model.specs.Punctual.{Punctual}
+use Rattle.model.specs.Punctual.{Timely}
 use Rattle.queue_table.specs.View.{hopAt}
 use Rattle.figures.specs.View.{figureAt}
 use Rattle.admission.specs.declared.Answer.{Answer}
@@ -49,9 +46,7 @@ pub record Claimed (text : List ℕ) (calls : List Call) (answers : List Answer)
   pub state : stateIn last ≡ after text calls
   pub figures : (e : ℕ) → e < queuesMost → figureAt (last .sums) e ≡ aggregateAt (after text calls .table) (flowsAfter text calls) (hopAt e)
   -- No frame is late and no queue holds more than its buffer, in any run of conforming sources and at any instant.
-  pub punctual : (r : Run (after text calls .table) (flowsAfter text calls)) → Conforming (flowsAfter text calls) (r .sent)
-      → (n : ℕ) (h : Hop) (q : Queue) → queueAt (after text calls .table) h ≡ some q
-      → Punctual (after text calls .table) (flowsAfter text calls) r n h q
+  pub timely : Timely (after text calls .table) (flowsAfter text calls)
   -- A further registration with none of the causes before 30 against it lacks room exactly when every slot is held or the hop entries don't suffice.
   pub room : (bytes : List ℕ) (f : Flow) (called : Called) → Performs last (callOf registering bytes) called
       → callOrder (callOf registering bytes) ≡ register f → NoneApplies (earlyFindings (after text calls) f)

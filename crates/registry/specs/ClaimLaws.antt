@@ -11,7 +11,7 @@ use Rattle.model.specs.Reference as model
 use Rattle.model.specs.Reference.{State, Call, heldFlows, final}
 use Rattle.model.specs.Outcomes.{NoRoom, Full}
 use Rattle.model.specs.Laws.Reference.{never-spoilt}
-use Rattle.model.specs.Results.{reached-consistent, reached-punctual, room-exactly}
+use Rattle.model.specs.Results.{reached-consistent, reached-timely, room-exactly}
 use Rattle.queue_table.specs.View.{hopAt}
 use Rattle.figures.specs.View.{figureAt}
 use Rattle.admission.specs.declared.Answer.{Answer}
@@ -34,7 +34,7 @@ claim text o opens calls answers last chain =
       state = state;
       figures = λ e h.
           subst (λ (s : State). figureAt (last .sums) e ≡ aggregateAt (s .table) (heldFlows (s .slots)) (hopAt e)) state (kept .figures .same e h);
-      punctual = reached-punctual text calls;
+      timely = reached-timely text calls;
       room = λ bytes f called p e early.
           subst (λ a. NoRoom (a .code) ↔ Full (after text calls) f)
           (sym (p .answer kept ∙ ap (λ s. model.step s (callOf registering bytes) .answer) state))

@@ -1,3 +1,5 @@
 pub mod View
+pub mod Decision
+pub mod DecisionLaws
 pub mod Claim
 pub mod ClaimLaws

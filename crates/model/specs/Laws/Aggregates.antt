@@ -7,10 +7,10 @@ use mathlib.Core.List.{List, [], _∷_, _++_}
 use native.Mathlib.Omega.{arith}
 use lib.Dec.{eqb}
 use borrow.Author.Tests.{eqb-true, eqb-false, eq-eqb, ne-eqb}
-use Rattle.model.specs.Words.{All}
+use Rattle.model.specs.Words.{Pairs, ends, pair, All}
 use Rattle.model.specs.Total.{total, largest}
 use Rattle.model.specs.Part.{Part}
-use Rattle.model.specs.Laws.Total.{Pairs, none, pair, total-append, largest-append, total-part, largest-part, total-zero, largest-zero}
+use Rattle.model.specs.Laws.Total.{total-append, largest-append, total-part, largest-part, total-zero, largest-zero}
 use Rattle.model.specs.Formula.{Aggregate}
 use Rattle.model.specs.Laws.Formula.{AtMost}
 use Rattle.model.specs.QueueTable.{Queue, Table}
@@ -58,7 +58,7 @@ module _ (t : Table) where
       → (n : ℕ) (qs : List Queue)
       → Pairs AtMost (levelAggregates t fs link n qs) (levelAggregates t fs′ link n qs)
   unfolding levelAggregates
-  level-pairs fs fs′ link h n [] = none
+  level-pairs fs fs′ link h n [] = ends
   level-pairs fs fs′ link h n (q ∷ qs) = pair (h n) (level-pairs fs fs′ link h (suc n) qs)
 
   module _ (f : Flow) (link p : ℕ) (m : Aggregate → ℕ) where

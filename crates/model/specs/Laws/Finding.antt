@@ -1,4 +1,4 @@
--- The first finding that applies: all before it don't, and there is none exactly when none applies. Which codes a finding can have.
+-- The first finding that applies: all before it don't, and there is none exactly when none applies. What holds of each cause.
 -- By induction on the list of findings. Assumes nothing.
 use Prim.Native.Nat.{ℕ}
 use mathlib.Core.Path.{_≡_, refl, ap}
@@ -48,32 +48,34 @@ unfolding isNone
 is-none none e = refl
 is-none (some a) e = absurd (false≢true e)
 
--- Where a finding applies its code has the property.
-abbrev pub Coded : (ℕ → Type 0) → Option Cause → Type 0
-Coded P none = Unit {0}
-Coded P (some c) = P (c .code)
+-- Where a finding applies its cause has the property.
+abbrev pub Caused : (Cause → Type 0) → Option Cause → Type 0
+Caused P none = Unit {0}
+Caused P (some c) = P c
 
-module _ (P : ℕ → Type 0) where
-  pub whole-coded : (code : ℕ) (b : Bool) → P code → Coded P (whole code b)
+module _ (P : Cause → Type 0) where
+  pub whole-caused : (code : ℕ) (b : Bool) → P (record { code = code; link = 0; level = 0 }) → Caused P (whole code b)
   unfolding whole
-  whole-coded code true p = p
-  whole-coded code false p = tt
+  whole-caused code true p = p
+  whole-caused code false p = tt
 
-  pub hop-coded : (code : ℕ) (test : List Hop → Hop → Bool) (earlier path : List Hop) → P code → Coded P (atHop code test earlier path)
+  pub hop-caused : (code : ℕ) (test : List Hop → Hop → Bool) (earlier path : List Hop)
+      → All (λ h. P (record { code = code; link = h .link; level = h .level })) path
+      → Caused P (atHop code test earlier path)
   unfolding atHop
-  hop-coded code test earlier [] p = tt
-  hop-coded code test earlier (h ∷ path) p = go (test earlier h) (hop-coded code test (h ∷ earlier) path p)
+  hop-caused code test earlier [] p = tt
+  hop-caused code test earlier (h ∷ path) p = go (test earlier h) (hop-caused code test (h ∷ earlier) path (p .1))
     where
-      go : (b : Bool) → Coded P (atHop code test (h ∷ earlier) path)
-          → Coded P (cond b (some (record { code = code; link = h .link; level = h .level })) (atHop code test (h ∷ earlier) path))
-      go true r = p
+      go : (b : Bool) → Caused P (atHop code test (h ∷ earlier) path)
+          → Caused P (cond b (some (record { code = code; link = h .link; level = h .level })) (atHop code test (h ∷ earlier) path))
+      go true r = p .0
       go false r = r
 
-  pub first-coded : (l : List (Option Cause)) → All (Coded P) l → Coded P (firstCause l)
+  pub first-caused : (l : List (Option Cause)) → All (Caused P) l → Caused P (firstCause l)
   unfolding firstCause
-  first-coded [] a = tt
-  first-coded (none ∷ l) a = first-coded l (a .1)
-  first-coded (some c ∷ l) a = a .0
+  first-caused [] a = tt
+  first-caused (none ∷ l) a = first-caused l (a .1)
+  first-caused (some c ∷ l) a = a .0
 
 -- Whether a test finds its cause.
 pub whole-none : (code : ℕ) (b : Bool) → whole code b ≡ none → b ≡ false

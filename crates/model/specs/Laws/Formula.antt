@@ -4,8 +4,9 @@ use Prim.Native.Nat.{ℕ, suc, _+_, _-_, _*_, _≤_, _<_}
 use mathlib.Core.List.{List}
 use native.Mathlib.Nat.{div-lt-iff-lt-mul, mul-le-mul, mul-le-mul-left, le-mul-of-pos-right, le-refl, le-of-suc-le-suc}
 use native.Mathlib.Omega.{arith}
+use Rattle.model.specs.Words.{Pairs}
 use Rattle.model.specs.Total.{total}
-use Rattle.model.specs.Laws.Total.{Pairs, total-mono, largest-mono}
+use Rattle.model.specs.Laws.Total.{total-mono, largest-mono}
 use Rattle.model.specs.Formula.{Aggregate, ceilDiv, residual, delayBound, backlogBound, interference, levelResidual, delay, backlog}
 
 -- Rounded up to at most `c`.

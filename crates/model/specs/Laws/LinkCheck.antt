@@ -1,19 +1,22 @@
 -- A link with no finding, said plainly: the rate rule, and eq. 15 at each level that carries a flow. It stays so when the aggregates grow smaller.
 -- By induction on the levels, for any number of them. Assumes nothing.
 use Prim.Native.Nat.{ℕ, suc, _+_, _*_, _≤_, _<_}
-use mathlib.Core.Path.{_≡_, refl}
+use mathlib.Core.Path.{_≡_, refl, subst}
 use mathlib.Core.Bool.{Bool, true, false, cond}
 use mathlib.Core.List.{List, [], _∷_}
+use mathlib.Core.Option.{some}
 use native.Mathlib.Nat.{le-trans}
 use native.Mathlib.Omega.{arith}
+use lib.ListN.{getElem?}
 use lib.Dec.{leb, eqb}
 use borrow.Author.Tests.{eqb-true, eqb-false, leb-true, le-leb, ltb-true, lt-ltb, ne-eqb, eq-eqb}
+use Rattle.model.specs.Words.{All, Pairs, ends, pair}
 use Rattle.model.specs.Total.{total}
-use Rattle.model.specs.Laws.Test.{cond-at-most, cond-zero}
-use Rattle.model.specs.Laws.Total.{Pairs, none, pair}
+use Rattle.model.specs.Laws.Test.{cond-zero}
 use Rattle.model.specs.Formula.{Aggregate, withinRate, delay, backlog}
 use Rattle.model.specs.Laws.Formula.{AtMost, rate-mono, delay-mono, backlog-mono}
 use Rattle.model.specs.QueueTable.{Queue}
+use Rattle.model.specs.Codes.{queueCodes}
 use Rattle.model.specs.LinkCheck.{Finding, isEmpty, levelCode, orElse, levelsFinding, rateCode, linkFinding}
 
 -- Eq. 15 at a level that carries a flow: its largest frame isn't 0.
@@ -109,7 +112,7 @@ module _ (speed : ℕ) where
       → LevelsMeet speed above qs own
   unfolding total
   levels-mono [] ups owns left m = tt
-  levels-mono (q ∷ qs) ups none left m = tt
+  levels-mono (q ∷ qs) ups ends left m = tt
   levels-mono (q ∷ qs) ups (pair r owns) left m = (
     record {
       threshold = λ h. le-trans (delay-mono speed ups r owns (omega arith)) (m .0 .threshold (omega (arith, r .frame)));
@@ -124,42 +127,49 @@ module _ (speed : ℕ) where
   unfolding total
   link-mono qs {levels} {levels′} p e =
       let (rate, m) = link-meets qs levels′ e in
-      meets-link qs levels (omega (arith, rate-mono p)) (levels-mono qs none p (omega arith) m)
+      meets-link qs levels (omega (arith, rate-mono p)) (levels-mono qs ends p (omega arith) m)
 
--- The codes are 0 and 21 to 23.
-orElse-at-most : (a b : Finding) → a .code ≤ 23 → b .code ≤ 23 → orElse a b .code ≤ 23
-unfolding orElse
-orElse-at-most a b ha hb = go (eqb (a .code) 0)
-  where
-    go : (t : Bool) → cond t b a .code ≤ 23
-    go true = hb
-    go false = ha
+-- What a link's finding can be: none, 21 with level 0, or 22 or 23 with one of the levels.
+module _ (P : Finding → Type 0) (zero : (level : ℕ) → P (record { code = 0; level = level })) where
+  orElse-either : (a b : Finding) → P a → P b → P (orElse a b)
+  unfolding orElse
+  orElse-either a b pa pb = go (eqb (a .code) 0)
+    where
+      go : (t : Bool) → P (cond t b a)
+      go true = pb
+      go false = pa
 
-level-at-most : (speed : ℕ) (q : Queue) (above : List Aggregate) (own : Aggregate) (below : List Aggregate)
-    → levelCode speed q above own below ≤ 23
-unfolding levelCode
-level-at-most speed q above own below =
-    cond-at-most (isEmpty own) (omega arith)
-    (cond-at-most (leb (delay speed above own below) (q .threshold))
-    (cond-at-most (leb (backlog speed above own below) (q .buffer)) (omega arith) (omega arith)) (omega arith))
+  abbrev Failing : (level : ℕ) → Type 0
+  Failing level = All (λ code. P (record { code = code; level = level })) queueCodes
 
-levels-at-most : (speed n : ℕ) (above : List Aggregate) (qs : List Queue) (own : List Aggregate)
-    → levelsFinding speed n above qs own .code ≤ 23
-unfolding levelsFinding
-levels-at-most speed n above [] own = omega arith
-levels-at-most speed n above (q ∷ qs) [] = omega arith
-levels-at-most speed n above (q ∷ qs) (a ∷ below) =
-    orElse-at-most
-    (record { code = levelCode speed q above a below; level = n })
-    (levelsFinding speed (suc n) (a ∷ above) qs below)
-    (level-at-most speed q above a below)
-    (levels-at-most speed (suc n) (a ∷ above) qs below)
+  level-finds : (speed : ℕ) (q : Queue) (above : List Aggregate) (own : Aggregate) (below : List Aggregate) (n : ℕ) → Failing n
+      → P (record { code = levelCode speed q above own below; level = n })
+  unfolding levelCode
+  level-finds speed q above own below n f = go (isEmpty own) (leb (delay speed above own below) (q .threshold)) (leb (backlog speed above own below) (q .buffer))
+    where
+      go : (e d b : Bool) → P (record { code = cond e 0 (cond d (cond b 0 23) 22); level = n })
+      go true d b = zero n
+      go false true true = zero n
+      go false true false = f .1 .0
+      go false false b = f .0
 
-pub code-at-most : (speed : ℕ) (qs : List Queue) (levels : List Aggregate) → linkFinding speed qs levels .code ≤ 23
-unfolding linkFinding rateCode
-code-at-most speed qs levels =
-    orElse-at-most
-    (record { code = rateCode speed levels; level = 0 })
-    (levelsFinding speed 1 [] qs levels)
-    (cond-at-most (withinRate speed (total (λ a. a .rate) levels)) (omega arith) (omega arith))
-    (levels-at-most speed 1 [] qs levels)
+  levels-find : (speed n : ℕ) (above : List Aggregate) (qs : List Queue) (own : List Aggregate)
+      → ((i : ℕ) (q : Queue) → getElem? qs i ≡ some q → Failing (n + i))
+      → P (levelsFinding speed n above qs own)
+  unfolding levelsFinding
+  levels-find speed n above [] own f = zero 0
+  levels-find speed n above (q ∷ qs) [] f = zero 0
+  levels-find speed n above (q ∷ qs) (a ∷ below) f =
+      orElse-either _ _ (level-finds speed q above a below n (subst Failing (omega arith) (f 0 q refl)))
+      (levels-find speed (suc n) (a ∷ above) qs below (λ i r e. subst Failing (omega arith) (f (suc i) r e)))
+
+  pub link-finds : (speed : ℕ) (qs : List Queue) (levels : List Aggregate) → P (record { code = 21; level = 0 })
+      → ((i : ℕ) (q : Queue) → getElem? qs i ≡ some q → Failing (suc i))
+      → P (linkFinding speed qs levels)
+  unfolding linkFinding rateCode
+  link-finds speed qs levels rate f = orElse-either _ _ (go (withinRate speed (total (λ a. a .rate) levels)))
+      (levels-find speed 1 [] qs levels (λ i q e. subst Failing (omega arith) (f i q e)))
+    where
+      go : (b : Bool) → P (record { code = cond b 0 21; level = 0 })
+      go true = zero 0
+      go false = rate

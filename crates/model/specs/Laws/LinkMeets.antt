@@ -1,26 +1,26 @@
 -- A link that meets 21 to 23 still does with a part of the flows, and with a flow more that doesn't cross it. No finding along a path says that
 -- each of its links meets them. By the monotone bounds of Laws/LinkCheck. Assumes nothing.
-use Prim.Native.Nat.{ℕ, _≤_}
-use mathlib.Core.Path.{_≡_, refl}
+use Prim.Native.Nat.{ℕ, suc}
+use mathlib.Core.Path.{_≡_, refl, ap, _∙_}
 use mathlib.Core.Bool.{Bool, true, false, cond}
 use mathlib.Core.List.{List, _∷_}
 use mathlib.Core.Option.{Option, none, some, Option·some-ne-none}
-use native.Mathlib.Omega.{arith}
-use lib.Dec.{eqb}
-use borrow.Author.Tests.{eqb-true, eqb-false, eq-eqb}
-use Rattle.model.specs.Words.{All}
+use lib.ListN.{getElem?}
+use borrow.Author.Tests.{eqb-true, eq-eqb}
+use Rattle.model.specs.Words.{All, andThen, nth}
 use Rattle.model.specs.Part.{Part}
-use Rattle.model.specs.QueueTable.{Link, Table}
+use Rattle.model.specs.QueueTable.{Queue, Link, Table}
 use Rattle.model.specs.Orders.{Hop, Flow}
 use Rattle.model.specs.LinkCheck.{Finding}
-use Rattle.model.specs.Laws.LinkCheck.{link-mono, code-at-most}
-use Rattle.model.specs.Aggregates.{linkAt}
+use Rattle.model.specs.Laws.LinkCheck.{link-mono, link-finds}
+use Rattle.model.specs.Aggregates.{linkAt, queueAt, levelAggregates}
 use Rattle.model.specs.Laws.Aggregates.{aggregate-part, aggregate-off, level-pairs}
 use Rattle.model.specs.Schedulable.{LinkMeets}
 use Rattle.model.specs.Reference.{Cause, crosses, linkCause, causeAt, linkFindings}
+use Rattle.model.specs.Codes.{queueCodes}
 use Rattle.model.specs.Laws.All.{map-all, all-map, all-imp, member-all}
 use Rattle.model.specs.Outcomes.{NoneApplies}
-use Rattle.model.specs.Laws.Finding.{Coded}
+use Rattle.model.specs.Laws.Finding.{Caused}
 
 module _ (t : Table) where
   pub meets-part : {part fs : List Flow} → Part part fs → (n : ℕ) → LinkMeets t fs n → LinkMeets t part n
@@ -42,10 +42,6 @@ unless-none : (b : Bool) (c : Cause) → cond b none (some c) ≡ none → b ≡
 unless-none true c e = refl
 unless-none false c e = absurd (Option·some-ne-none c e)
 
-unless-coded : (P : ℕ → Type 0) (b : Bool) (c : Cause) → (b ≡ false → P (c .code)) → Coded P (cond b none (some c))
-unless-coded P true c h = tt
-unless-coded P false c h = h refl
-
 cause-code : (n : ℕ) (w : Finding) → linkCause n w ≡ none → w .code ≡ 0
 unfolding linkCause
 cause-code n w z = eqb-true _ _ (unless-none _ _ z)
@@ -53,10 +49,6 @@ cause-code n w z = eqb-true _ _ (unless-none _ _ z)
 code-cause : (n : ℕ) (w : Finding) → w .code ≡ 0 → linkCause n w ≡ none
 unfolding linkCause
 code-cause n w z = rw (eq-eqb (w .code) 0 z)
-
-cause-coded : (P : ℕ → Type 0) (n : ℕ) (w : Finding) → (1 ≤ w .code → P (w .code)) → Coded P (linkCause n w)
-unfolding linkCause
-cause-coded P n w h = unless-coded P (eqb (w .code) 0) _ (λ e. h (omega (arith, eqb-false (w .code) 0 e)))
 
 module _ (t : Table) (fs : List Flow) where
   pub cause-meets : (n : ℕ) → causeAt t fs n (linkAt t n) ≡ none → LinkMeets t fs n
@@ -79,11 +71,21 @@ module _ (t : Table) (fs : List Flow) where
   unfolding linkFindings
   meet-findings path a = map-all (λ x. x ≡ none) _ path (all-imp path (λ h. meets-cause (h .link)) a)
 
-  -- Its codes are 21 to 23.
-  pub findings-coded : (P : ℕ → Type 0) → ((n : ℕ) → 1 ≤ n → n ≤ 23 → P n) → (path : List Hop) → All (Coded P) (linkFindings t fs path)
-  unfolding linkFindings causeAt
-  findings-coded P h path = map-all (Coded P) _ path (member-all _ path (λ hop m. go (hop .link) (linkAt t (hop .link))))
+  -- What is found along a path: 21 with a link of the table, 22 or 23 with one of its queues.
+  pub findings-caused : (P : Cause → Type 0)
+      → ((n : ℕ) (k : Link) → linkAt t n ≡ some k → P (record { code = 21; link = n; level = 0 }))
+      → ((h : Hop) (q : Queue) → queueAt t h ≡ some q → All (λ code. P (record { code = code; link = h .link; level = h .level })) queueCodes)
+      → (path : List Hop)
+      → All (Caused P) (linkFindings t fs path)
+  unfolding linkFindings causeAt linkCause queueAt nth
+  findings-caused P rate level path = map-all (Caused P) _ path (member-all _ path (λ hop m. go (hop .link) (linkAt t (hop .link)) refl))
     where
-      go : (n : ℕ) (o : Option Link) → Coded P (causeAt t fs n o)
-      go n none = tt
-      go n (some k) = cause-coded P n _ (λ low. h _ low (code-at-most (k .speed) (k .levels) _))
+      at : (n i : ℕ) (k : Link) (q : Queue) → linkAt t n ≡ some k → getElem? (k .levels) i ≡ some q
+          → queueAt t (record { link = n; level = suc i }) ≡ some q
+      at n i k q e f = ap (λ o. andThen o (λ l. getElem? (l .levels) i)) e ∙ f
+
+      go : (n : ℕ) (o : Option Link) → linkAt t n ≡ o → Caused P (causeAt t fs n o)
+      go n none e = tt
+      go n (some k) e =
+          link-finds (λ w. Caused P (linkCause n w)) (λ level. tt) (k .speed) (k .levels) (levelAggregates t fs n 1 (k .levels)) (rate n k e)
+          (λ i q f. level (record { link = n; level = suc i }) q (at n i k q e f))

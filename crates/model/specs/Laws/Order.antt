@@ -11,7 +11,7 @@ use lib.Dec.{eqb}
 use borrow.Author.Tests.{eqb-true}
 use Rattle.model.specs.Sizes.{headColumns, hopColumns}
 use Rattle.model.specs.Columns.{Line, ended, unended, lines, fieldAt}
-use Rattle.model.specs.Orders.{Hop, Order, register, release, rejected, Head, headFields, hopField, hopFields, pathFields, numberInRange, hopsInRange, headInRange, flowOf, withPath, registration, registrationOf, releaseOf, releaseLine, registering, releasing, kindNumber, kindOfNumber, kindOrder, orderOfKind, readOrder}
+use Rattle.model.specs.Orders.{Hop, Order, register, release, rejected, Head, headFields, hopField, hopFields, pathFields, numberInRange, hopsInRange, headInRange, flowOf, withPath, registration, registrationOf, releaseOf, releaseLine, registering, releasing, kindNumber, kindOfNumber, kindOrder, orderOfKind, readOrder, orderLine}
 use Rattle.model.specs.Reference.{Call, lineOfKind, onlyLine, callOrder}
 use Rattle.model.specs.Consistent.{headOf, flowInRange}
 use Rattle.model.specs.Laws.Test.{both-and, and-then}
@@ -103,10 +103,19 @@ ranged kind (rejected code) r = tt
 pub call-ranged : (kind : ℕ) (l : List Line) → Ranged (onlyLine kind l)
 call-ranged kind l = ranged kind (onlyLine kind l) (only-line kind l)
 
-pub line-ranged : (line : List ℕ) → Ranged (readOrder line)
+-- A line of a text gives an order of its own kind, or 10 or 11.
+order-readable : (line : List ℕ) → (kind : ℕ) × Readable kind (readOrder line)
 unfolding readOrder orderOfKind
-line-ranged line = go (fieldAt 1 2 line)
+order-readable line = go (fieldAt 1 2 line)
   where
-    go : (o : Option ℕ) → Ranged (orderOfKind line o)
-    go none = tt
-    go (some kind) = ranged kind (orderOfKind line (some kind)) (kind-readable kind line)
+    go : (o : Option ℕ) → (kind : ℕ) × Readable kind (orderOfKind line o)
+    go none = (0, inl refl)
+    go (some kind) = (kind, kind-readable kind line)
+
+pub line-readable : (l : Line) → (kind : ℕ) × Readable kind (orderLine l)
+unfolding orderLine
+line-readable unended = (0, inl refl)
+line-readable (ended line) = order-readable line
+
+pub line-ranged : (line : List ℕ) → Ranged (readOrder line)
+line-ranged line = let (kind, r) = order-readable line in ranged kind (readOrder line) r

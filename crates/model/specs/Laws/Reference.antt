@@ -2,30 +2,34 @@
 -- the slot of the named flow. By cases on the first cause, whose code is never 0. Assumes nothing.
 use Prim.Native.Nat.{ℕ, _+_, _≤_, _<_}
 use mathlib.Core.Path.{_≡_, refl, ap, sym, _∙_, subst}
-use mathlib.Core.Bool.{true, false, true≢false, false≢true}
+use mathlib.Core.Bool.{Bool, true, false, not, true≢false, false≢true}
 use mathlib.Core.Logic.{⊎-elim}
 use mathlib.Core.List.{List, [], _∷_, _++_}
 use mathlib.Core.Option.{Option, none, some, Option·some-ne-none}
 use native.Mathlib.Omega.{arith}
-use lib.ListN.{length, length-set}
-use lib.Seq.{getD-set-same, getD-set-other}
-use borrow.Author.Tests.{eqb-true, eqb-false, ltb-false, leb-false}
+use lib.ListN.{length, getElem?}
+use lib.Dec.{eqb}
+use borrow.Author.Tests.{eqb-true, eqb-false, ltb-false, leb-false, not-true}
 use Rattle.model.specs.Words.{All, every, firstIndex, isNone}
-use Rattle.model.specs.Orders.{Flow, Order, register, release, rejected, registering, releasing, kindNumber}
+use Rattle.model.specs.QueueTable.{Table}
+use Rattle.model.specs.Orders.{Hop, Flow, Order, register, release, rejected, kindNumber}
 use Rattle.model.specs.Sizes.{hopEntries}
 use Rattle.model.specs.Reference.{Slot, State, Cause, heldFlows, heldHops, withNumber, isHeld, holds, firstCause, whole, numberFinding, lineFindings, deadlineFinding, roomFindings, linkFindings, registerFindings, findings, refuse, fill, perform, decide, apply, Call, callOrder, step}
-use Rattle.model.specs.Laws.All.{all-append, append-all}
-use Rattle.model.specs.Outcomes.{NoneApplies, NoneOthers, Refused, Replaced, Admitted, Released}
-use Rattle.model.specs.Laws.Finding.{first-listed, none-applies, applies-none, Coded, whole-coded, hop-coded, first-coded, whole-none, is-none}
-use Rattle.model.specs.Laws.LinkMeets.{findings-coded}
+use Rattle.model.specs.Codes.{plainCodes, hopCodes, linkCodes, queueCodes, causeCodes, orderCodes, pathOf, Names, nothing, hop, link, queue}
+use Rattle.model.specs.Outcomes as Outcomes
+use Rattle.model.specs.Outcomes.{NoneApplies, NoneOthers, Refused, Admitted, Released, Done, admission}
+use Rattle.model.specs.Laws.Test.{every-all}
+use Rattle.model.specs.Laws.All.{member-at, member-all, all-member, all-append, append-all}
+use Rattle.model.specs.Laws.Finding.{first-listed, none-applies, applies-none, Caused, whole-caused, hop-caused, first-caused, whole-none, is-none}
+use Rattle.model.specs.Laws.LinkMeets.{findings-caused}
 use Rattle.model.specs.Laws.Slot.{index-below, index-found, index-first, number-found}
 use Rattle.model.specs.Laws.Order.{Readable, call-readable}
 
-pub refused : (s : State) (o : Order) → (apply s o .answer .code ≡ 0 → ⊥) → Refused s o
+pub refused : (s : State) (o : Order) → (apply s o .answer .code ≡ 0 → ⊥) → Refused s o (apply s o)
 unfolding apply decide perform fill findings firstCause whole
 refused s o h = go o (firstCause (findings s o)) refl h
   where
-    go : (o : Order) (x : Option Cause) → firstCause (findings s o) ≡ x → (decide s o x .answer .code ≡ 0 → ⊥) → Refused s o
+    go : (o : Order) (x : Option Cause) → firstCause (findings s o) ≡ x → (decide s o x .answer .code ≡ 0 → ⊥) → Refused s o (apply s o)
     go o (some c) e h = record { cause = c; first = first-listed (findings s o) e; outcome = ap (decide s o) e }
     go (register f) none e h = absurd (h refl)
     go (release n) none e h = absurd (h refl)
@@ -36,67 +40,94 @@ pub performed : (s : State) (o : Order) → NoneApplies (findings s o) → apply
 unfolding apply decide
 performed s o a = ap (decide s o) (applies-none (findings s o) a)
 
--- Every cause has a code from 1 to 31.
-register-coded : (P : ℕ → Type 0) → ((n : ℕ) → 1 ≤ n → n ≤ 31 → P n) → (s : State) (f : Flow) → All (Coded P) (registerFindings s f)
-unfolding registerFindings numberFinding lineFindings deadlineFinding roomFindings
-register-coded P h s f = (
-  whole-coded P 12 _ (h 12 (omega arith) (omega arith)),
-  (
-    whole-coded P 17 _ (h 17 (omega arith) (omega arith)),
-    (
-      hop-coded P 14 _ [] (f .path) (h 14 (omega arith) (omega arith)),
+-- Every cause against an order names what is listed for its code.
+module _ (t : Table) (path : List Hop) where
+  plain : (i : ℕ) {code : ℕ} → getElem? plainCodes i ≡ some code → Names t path (record { code = code; link = 0; level = 0 })
+  plain i e = nothing (member-at plainCodes i e) refl refl
+
+  at-hop : (i : ℕ) {code : ℕ} → getElem? hopCodes i ≡ some code
+      → All (λ h. Names t path (record { code = code; link = h .link; level = h .level })) path
+  at-hop i e = member-all _ path (λ h on. hop (member-at hopCodes i e) on)
+
+  links-named : (fs : List Flow) (over : List Hop) → All (Caused (Names t path)) (linkFindings t fs over)
+  links-named fs =
+      findings-caused t fs (Names t path) (λ n k e. link (member-at linkCodes 0 refl) k e refl)
+      (λ h q e. (queue (member-at queueCodes 0 refl) q e, (queue (member-at queueCodes 1 refl) q e, tt)))
+
+  -- What holds of each listed code holds of a cause's.
+  pub named-coded : (P : ℕ → Type 0) → All P causeCodes → (c : Cause) → Names t path c → P (c .code)
+  named-coded P all c n =
+      let (others, queues) = append-all P (plainCodes ++ hopCodes ++ linkCodes) queueCodes all in
+      let (unlinked, links) = append-all P (plainCodes ++ hopCodes) linkCodes others in
+      let (plains, hops) = append-all P plainCodes hopCodes unlinked in
+      elim n [
+        | nothing m e₁ e₂ ↦ all-member P plains m
+        | hop m on ↦ all-member P hops m
+        | link m k e₁ e₂ ↦ all-member P links m
+        | queue m q e ↦ all-member P queues m
+      ]
+
+pub order-named : (s : State) (o : Order) (kind : ℕ) → Readable kind o → All (Caused (Names (s .table) (pathOf o))) (findings s o)
+unfolding findings registerFindings numberFinding lineFindings deadlineFinding roomFindings pathOf
+order-named s (register f) kind r =
+    let t = s .table in
+    let path = f .path in
+    let P = Names t path in (
+      whole-caused P 12 _ (plain t path 2 refl),
       (
-        hop-coded P 16 _ [] (f .path) (h 16 (omega arith) (omega arith)),
+        whole-caused P 17 _ (plain t path 4 refl),
         (
-          hop-coded P 15 _ [] (f .path) (h 15 (omega arith) (omega arith)),
+          hop-caused P 14 _ [] path (at-hop t path 0 refl),
           (
-            whole-coded P 20 _ (h 20 (omega arith) (omega arith)),
+            hop-caused P 16 _ [] path (at-hop t path 2 refl),
             (
-              whole-coded P 30 _ (h 30 (omega arith) (omega arith)),
+              hop-caused P 15 _ [] path (at-hop t path 1 refl),
               (
-                whole-coded P 31 _ (h 31 (omega arith) (omega arith)),
-                findings-coded (s .table) _ P (λ n low high. h n low (omega arith)) (f .path),
+                whole-caused P 20 _ (plain t path 5 refl),
+                (whole-caused P 30 _ (plain t path 6 refl), (whole-caused P 31 _ (plain t path 7 refl), links-named t path _ path)),
               ),
             ),
           ),
         ),
       ),
-    ),
-  ),
-)
+    )
+order-named s (release n) kind r = (whole-caused (Names (s .table) []) 13 _ (plain (s .table) [] 3 refl), tt)
+order-named s (rejected code) kind r =
+    let P = Names (s .table) [] in
+    (whole-caused P code true (⊎-elim (λ e. rw e (plain (s .table) [] 0 refl)) (λ e. rw e (plain (s .table) [] 1 refl)) r), tt)
 
-order-coded : (P : ℕ → Type 0) → ((n : ℕ) → 1 ≤ n → n ≤ 31 → P n) → (s : State) (o : Order) (kind : ℕ) → Readable kind o
-    → All (Coded P) (findings s o)
-unfolding findings
-order-coded P h s (register f) kind r = register-coded P h s f
-order-coded P h s (release n) kind r = (whole-coded P 13 _ (h 13 (omega arith) (omega arith)), tt)
-order-coded P h s (rejected code) kind r =
-    (whole-coded P code true (⊎-elim (λ e. h code (omega arith) (omega arith)) (λ e. h code (omega arith) (omega arith)) r), tt)
+-- What holds of 0 and of each listed code holds of every answer, on any state.
+order-coded : (P : ℕ → Type 0) → All P orderCodes → (s : State) (o : Order) (kind : ℕ) → Readable kind o → P (apply s o .answer .code)
+unfolding apply decide perform refuse fill findings firstCause whole
+order-coded P all s o kind r = go o (firstCause (findings s o)) refl (first-caused _ (findings s o) (order-named s o kind r))
+  where
+    go : (o : Order) (x : Option Cause) → firstCause (findings s o) ≡ x → Caused (Names (s .table) (pathOf o)) x → P (decide s o x .answer .code)
+    go o (some c) e n = named-coded (s .table) (pathOf o) P (all .1) c n
+    go (register f) none e n = all .0
+    go (release k) none e n = all .0
+    go (rejected code) none e n = absurd (Option·some-ne-none _ e)
+
+abbrev isOther : (k n : ℕ) → Bool
+isOther k n = not (eqb n k)
+
+other-code : (k n : ℕ) → isOther k n ≡ true → n ≡ k → ⊥
+other-code k n e = eqb-false n k (not-true (eqb n k) e)
 
 pub no-cause : (s : State) (o : Order) (kind : ℕ) → Readable kind o → apply s o .answer .code ≡ 0 → NoneApplies (findings s o)
-unfolding apply decide refuse
-no-cause s o kind r z =
-    go (firstCause (findings s o)) refl (first-coded (λ n. 1 ≤ n) (findings s o) (order-coded (λ n. 1 ≤ n) (λ n low high. low) s o kind r)) z
+unfolding apply decide refuse every
+no-cause s o kind r z = go (firstCause (findings s o)) refl (first-caused _ (findings s o) (order-named s o kind r)) z
   where
-    go : (x : Option Cause) → firstCause (findings s o) ≡ x → Coded (λ n. 1 ≤ n) x → decide s o x .answer .code ≡ 0 → NoneApplies (findings s o)
+    go : (x : Option Cause) → firstCause (findings s o) ≡ x → Caused (Names (s .table) (pathOf o)) x → decide s o x .answer .code ≡ 0
+        → NoneApplies (findings s o)
     go none e c z = none-applies (findings s o) e
-    go (some cause) e c z = absurd (omega arith)
-
-code-at-most : (s : State) (o : Order) (kind : ℕ) → Readable kind o → apply s o .answer .code ≤ 31
-unfolding apply decide perform refuse fill
-code-at-most s o kind r =
-    go o r (firstCause (findings s o)) (first-coded (λ n. n ≤ 31) (findings s o) (order-coded (λ n. n ≤ 31) (λ n low high. high) s o kind r))
-  where
-    go : (o : Order) → Readable kind o → (x : Option Cause) → Coded (λ n. n ≤ 31) x → decide s o x .answer .code ≤ 31
-    go o r (some cause) c = c
-    go (register f) r none c = omega arith
-    go (release n) r none c = omega arith
-    go (rejected code) r none c = ⊎-elim (λ e. omega arith) (λ e. omega arith) r
+    go (some cause) e c z =
+        absurd (other-code 0 (cause .code) (named-coded (s .table) (pathOf o) (λ n. isOther 0 n ≡ true) (every-all (isOther 0) causeCodes refl) cause c) z)
 
 -- 42 isn't among its answers, on any state.
 pub never-spoilt : (s : State) (c : Call) → step s c .answer .code ≡ 42 → ⊥
-unfolding step
-never-spoilt s c e = omega (arith, code-at-most s (callOrder c) (kindNumber (c .kind)) (call-readable c))
+unfolding step every
+never-spoilt s c =
+    other-code 42 _ (order-coded (λ n. isOther 42 n ≡ true) (every-all (isOther 42) orderCodes refl) s (callOrder c) (kindNumber (c .kind)) (call-readable c))
 
 -- No cause against a registration, group by group.
 pub record RegisterRules (s : State) (f : Flow) : Type 0 where
@@ -136,27 +167,17 @@ pub hops-free : (slots : List Slot) (f : Flow) → NoneApplies (roomFindings slo
 unfolding roomFindings
 hops-free slots f a = ltb-false _ _ (whole-none 31 _ (a .1 .0))
 
-replaced : (s : State) (i : ℕ) (contents : Slot) → i < length (s .slots) → Replaced s i contents (fill s i contents .next)
-unfolding fill
-replaced s i contents h =
-    record {
-      inside = h;
-      filled = getD-set-same (s .slots) i contents none h;
-      others = λ j n. getD-set-other (s .slots) i j contents none n;
-      size = length-set (s .slots) i contents;
-      table = refl;
-    }
-
 admitted : (s : State) (f : Flow) → RegisterRules s f → Admitted s f (perform s (register f))
 unfolding perform fill isHeld isNone
 admitted s f r =
     let h : firstIndex isNone (s .slots) < length (s .slots) = index-below isNone (s .slots) (slot-free (s .slots) f (r .others .room)) in
     record {
       index = firstIndex isNone (s .slots);
+      inside = h;
       free = is-none _ (index-found isNone none (s .slots) h);
       lowest = λ j low e. true≢false (sym (ap isNone e) ∙ index-first isNone none (s .slots) j low);
       answer = refl;
-      next = replaced s (firstIndex isNone (s .slots)) (some f) h;
+      next = refl;
     }
 
 held-there : (n : ℕ) (x : Slot) → holds n x ≡ true → (f : Flow) × (x ≡ some f) × (f .number ≡ n)
@@ -172,32 +193,34 @@ released s n a =
     let (flow, held, number) = held-there n _ (index-found (holds n) none (s .slots) h) in
     record {
       index = firstIndex (holds n) (s .slots);
+      inside = h;
       flow = flow;
       held = held;
       number = number;
       answer = refl;
-      next = replaced s (firstIndex (holds n) (s .slots)) none h;
+      next = refl;
     }
 
--- What an order that answers 0 has done, by the kind of its line.
-not-rejected : (s : State) (code : ℕ) → NoneApplies (findings s (rejected code)) → ⊥
+-- An order that answers 0 was carried out.
+pub done : (s : State) (o : Order) (kind : ℕ) → Readable kind o → apply s o .answer .code ≡ 0 → Done s o (apply s o)
 unfolding findings whole
-not-rejected s code a = Option·some-ne-none _ (a .0)
+done s o kind r z = subst (Done s o) (sym (performed s o none)) (go o none)
+  where
+    none : NoneApplies (findings s o)
+    none = no-cause s o kind r z
 
-pub order-admitted : (s : State) (o : Order) → Readable (kindNumber registering) o → apply s o .answer .code ≡ 0
-    → (f : Flow) × (o ≡ register f) × Admitted s f (apply s o)
-unfolding findings kindNumber
-order-admitted s (register f) r z =
-    let a = no-cause s (register f) _ r z in
-    (f, refl, subst (Admitted s f) (sym (performed s (register f) a)) (admitted s f (register-rules s f a)))
-order-admitted s (release n) r z = absurd (omega (arith, r .0))
-order-admitted s (rejected code) r z = absurd (not-rejected s code (no-cause s (rejected code) (kindNumber registering) r z))
+    go : (o : Order) → NoneApplies (findings s o) → Done s o (perform s o)
+    go (register f) a = admission f refl (admitted s f (register-rules s f a))
+    go (release n) a = Outcomes.release n refl (released s n a)
+    go (rejected code) a = absurd (Option·some-ne-none _ (a .0))
 
-pub order-released : (s : State) (o : Order) → Readable (kindNumber releasing) o → apply s o .answer .code ≡ 0
-    → (n : ℕ) × (o ≡ release n) × Released s n (apply s o)
-unfolding kindNumber
-order-released s (register f) r z = absurd (omega (arith, r .0))
-order-released s (release n) r z =
-    let a = no-cause s (release n) _ r z in
-    (n, refl, subst (Released s n) (sym (performed s (release n) a)) (released s n a))
-order-released s (rejected code) r z = absurd (not-rejected s code (no-cause s (rejected code) (kindNumber releasing) r z))
+-- No order changes the table.
+pub same-table : (s : State) (o : Order) → apply s o .next .table ≡ s .table
+unfolding apply decide perform refuse fill
+same-table s o = go o (firstCause (findings s o))
+  where
+    go : (o : Order) (x : Option Cause) → decide s o x .next .table ≡ s .table
+    go o (some c) = refl
+    go (register f) none = refl
+    go (release n) none = refl
+    go (rejected code) none = refl

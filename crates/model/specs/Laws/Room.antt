@@ -15,9 +15,13 @@ use Rattle.model.specs.Orders.{Flow, register}
 use Rattle.model.specs.Sizes.{slotCount, hopEntries}
 use Rattle.model.specs.Reference.{State, Cause, heldFlows, heldHops, isHeld, firstCause, whole, lineFindings, roomFindings, linkFindings, registerFindings, findings, refuse, fill, perform, decide, apply}
 use Rattle.model.specs.Outcomes.{NoneApplies, earlyFindings, NoRoom, Full}
-use Rattle.model.specs.Laws.Finding.{Coded, first-coded, skip-none}
-use Rattle.model.specs.Laws.LinkMeets.{findings-coded}
+use Rattle.model.specs.Laws.Finding.{Caused, first-caused, skip-none}
+use Rattle.model.specs.Laws.LinkMeets.{findings-caused}
 use Rattle.model.specs.Laws.Slot.{all-held, not-all-held}
+
+-- What the links' causes have in common.
+abbrev Low : Cause → Type 0
+Low c = c .code ≤ 23
 
 module _ (s : State) (f : Flow) where
   code : List (Option Cause) → ℕ
@@ -30,15 +34,15 @@ module _ (s : State) (f : Flow) where
   unfolding apply findings registerFindings earlyFindings lineFindings roomFindings code
   late-code a = ap (λ x. decide s (register f) x .answer .code) (skip-none (earlyFindings s f) _ a)
 
-  links-code : (l : List (Option Cause)) → All (Coded (λ n. n ≤ 23)) l → code l ≤ 23
+  links-code : (l : List (Option Cause)) → All (Caused Low) l → code l ≤ 23
   unfolding code decide perform fill refuse
-  links-code l a = go (firstCause l) (first-coded (λ n. n ≤ 23) l a)
+  links-code l a = go (firstCause l) (first-caused Low l a)
     where
-      go : (x : Option Cause) → Coded (λ n. n ≤ 23) x → decide s (register f) x .answer .code ≤ 23
+      go : (x : Option Cause) → Caused Low x → decide s (register f) x .answer .code ≤ 23
       go none c = omega arith
       go (some cause) c = c
 
-  module _ (l : List (Option Cause)) (low : All (Coded (λ n. n ≤ 23)) l) where
+  module _ (l : List (Option Cause)) (low : All (Caused Low) l) where
     room-tests : (b c : Bool) → NoRoom (code (whole 30 b ∷ whole 31 c ∷ l)) → (b ≡ true) ⊎ (c ≡ true)
     unfolding code decide firstCause whole refuse
     room-tests true c n = inl refl
@@ -72,8 +76,8 @@ module _ (s : State) (f : Flow) where
       links : List (Option Cause)
       links = linkFindings (s .table) (f ∷ heldFlows (s .slots)) (f .path)
 
-      low : All (Coded (λ n. n ≤ 23)) links
-      low = findings-coded (s .table) (f ∷ heldFlows (s .slots)) (λ n. n ≤ 23) (λ n _ h. h) (f .path)
+      low : All (Caused Low) links
+      low = findings-caused (s .table) (f ∷ heldFlows (s .slots)) Low (λ n k e. omega arith) (λ h q e. (omega arith, (omega arith, tt))) (f .path)
 
       hops : Bool
       hops = ltb hopEntries (heldHops (heldFlows (s .slots)) + length (f .path))

@@ -8,15 +8,10 @@ use native.Mathlib.Nat.{le-trans, zero-add}
 use lib.ListN.{length, drop}
 use lib.Seq.{drop-nil}
 use native.Mathlib.Omega.{arith}
-use Rattle.model.specs.Words.{All}
+use Rattle.model.specs.Words.{All, Pairs, ends, pair}
 use Rattle.model.specs.Total.{total, largest}
 use Rattle.model.specs.Part.{Part, empty, skip, keep, swap, both}
 use Rattle.model.specs.Laws.All.{member-all}
-
--- Two lists compared element by element.
-pub data Pairs {A : Type 0} (R : A → A → Type 0) : List A → List A → Type 0 where
-  none : Pairs R [] []
-  pair : {x y : A} {l m : List A} → R x y → Pairs R l m → Pairs R (x ∷ l) (y ∷ m)
 
 module _ {A : Type 0} where
   pub part-refl : (l : List A) → Part l l
@@ -144,10 +139,10 @@ module _ {A : Type 0} where
   module _ (R : A → A → Type 0) (f : A → ℕ) (mono : (x y : A) → R x y → f x ≤ f y) where
     pub total-mono : {l m : List A} → Pairs R l m → total f l ≤ total f m
     unfolding total
-    total-mono none = zero-le
+    total-mono ends = zero-le
     total-mono (pair {x = x} {y = y} r p) = omega (arith, mono x y r, total-mono p)
 
     pub largest-mono : {l m : List A} → Pairs R l m → largest f l ≤ largest f m
     unfolding largest
-    largest-mono none = zero-le
+    largest-mono ends = zero-le
     largest-mono (pair {x = x} {y = y} r p) = omega (arith, mono x y r, largest-mono p)

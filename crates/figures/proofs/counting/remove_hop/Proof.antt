@@ -31,7 +31,7 @@ returns c =
 returns-2 : tie.Need-returns-2
 returns-2 c =
     let start = c .before .before .before .before .before .before .before .before .before in
-    less-kept (start .args .sums .now) (start .args .e) (aggregateOf (start .args .share)) (start .pre .1) (c .if2 .taken)
+    less-kept (start .args .sums .now) (start .args .e) (aggregateOf (start .args .share)) (start .pre .1) (c .before .before .if1 .left) (c .if2 .taken)
 
 slice-write-sums-4 : tie.Need-slice-write-sums-4
 slice-write-sums-4 c = simp length-set (omega arith)
@@ -39,7 +39,7 @@ slice-write-sums-4 c = simp length-set (omega arith)
 returns-3 : tie.Need-returns-3
 returns-3 c =
     let start = c .before .before .before .before .before .before .before .before .before in
-    less-own (start .args .sums .now) (start .args .e) (aggregateOf (start .args .share)) (start .pre .1)
+    less-own (start .args .sums .now) (start .args .e) (aggregateOf (start .args .share)) (start .pre .1) (c .before .before .if1 .left) (c .if2 .left)
 
 pub remove-hop-spec : {M : Type 1} → statement M
 remove-hop-spec =

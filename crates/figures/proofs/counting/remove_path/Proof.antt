@@ -4,6 +4,7 @@ use borrow.Author.Needs.{needs}
 use Prim.Native.Nat.{_-_}
 use mathlib.Core.Path.{sym, _∙_}
 use mathlib.Core.Bool.{true≢false}
+use mathlib.Core.Logic.{inl, inr}
 use native.Mathlib.Omega.{arith}
 use lib.ListN.{length}
 use Rattle.units.specs.View.{aggregateOf}
@@ -45,14 +46,14 @@ loop-again c =
     let at = c .before .before .before .before .before .before .before .before in
     let worked = c .before .before .before .before .before .before .share-at .ensures in
     removing-next _ _ _ _ (at .before .loop .inv) (at .loop-test .taken) (hop at .0) (hop at .1) (worked .0) (worked .1) (c .before .before .before .before .remove-hop .ensures)
-    (λ no. absurd (true≢false no))
+    (λ no. absurd (true≢false no)) (λ raise. inr (c .if1 .taken))
 
 loop-again-2 : tie.Need-loop-again-2 Inv-loop μ-loop
 loop-again-2 c =
     let at = c .before .before .before .before .before .before .before .before in
     let worked = c .before .before .before .before .before .before .share-at .ensures in
     removing-next _ _ _ _ (at .before .loop .inv) (at .loop-test .taken) (hop at .0) (hop at .1) (worked .0) (worked .1) (c .before .before .before .before .remove-hop .ensures)
-    (λ no. (no, c .if1 .left))
+    (λ no. (no, c .if1 .left)) inl
 
 same-length : tie.Need-same-length Inv-loop μ-loop
 same-length c = c .before .loop .inv .long ∙ sym (c .before .before .before .before .before .pre .1 .1 .figures .long)

@@ -1,0 +1,41 @@
+-- The mission's second and third lines of a batch, over what `devvonur_batch` promises, for every input that it accepts.
+-- That they hold is `claim` in `ClaimLaws`.
+use Prim.Native.Nat.{ℕ, _*_}
+use mathlib.Core.Path.{_≡_}
+use mathlib.Core.Bool.{true}
+use mathlib.Core.List.{List, [], _∷_, _++_}
+use lib.ListN.{length, drop}
+use Rattle.model.specs.Sizes.{answerBytes}
+use Rattle.model.specs.Columns.{Line, lines}
+use Rattle.model.specs.QueueTable.{Table, accepted, readTable}
+use Rattle.model.specs.Orders.{orderLine}
+use Rattle.model.specs.Reference.{State, Answer, heldFlows, opened}
+use Rattle.model.specs.Consistent.{consistent}
+use Rattle.model.specs.Outcomes.{Decided}
+use Rattle.model.specs.Punctual.{Timely}
+use Rattle.model.specs.Batch.{answerText}
+use Rattle.batch.specs.declared.BatchResult.{BatchResult}
+
+-- What holds of the state between two lines: the flows then held are consistent, and in no run over them is a frame late.
+pub record Sound (s : State) : Type 0 where
+  pub is-consistent : consistent s ≡ true
+  pub timely : Timely (s .table) (heldFlows (s .slots))
+
+-- Line after line, each on the state that the one before left: its answer, and the state that it leaves, are those of the mission's second line.
+pub data LineByLine : State → List Line → List Answer → Type 0 where
+  end : {s : State} → Sound s → LineByLine s [] []
+  line : {s next : State} {l : Line} {answer : Answer} {ls : List Line} {answers : List Answer}
+      → Sound s
+      → Decided s (orderLine l) (record { answer = answer; next = next })
+      → LineByLine next ls answers
+      → LineByLine s (l ∷ ls) (answer ∷ answers)
+
+-- An accepted batch: its table text was accepted, and the lines of its orders are answered one after the other from the registry just opened on it.
+-- The answers stand in the area, 20 bytes each, and the bytes past them are as they were.
+pub record Claimed (table orders area area′ : List ℕ) (r : BatchResult) : Type 0 where
+  pub links : Table
+  pub read : readTable table ≡ accepted links
+  pub count : r .line ≡ length (lines orders)
+  pub answers : List Answer
+  pub written : area′ ≡ answerText 1 answers ++ drop (answerBytes * length (lines orders)) area
+  pub each : LineByLine (opened table) (lines orders) answers

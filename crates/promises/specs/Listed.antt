@@ -1,0 +1,55 @@
+-- The mission's first line over what the contracts promise: every input ends in an answer that document 01 lists, and what is refused changes
+-- nothing. The lists stand in `model`'s `Codes`. That it holds is `open-listed`, `call-listed` and `batch-listed` in `ListedLaws`.
+use Prim.Native.Nat.{ℕ, _*_, _<_}
+use mathlib.Core.Path.{_≡_}
+use mathlib.Core.List.{List, _++_, List·Memᴰ}
+use lib.ListN.{length, drop}
+use Rattle.model.specs.Words.{Pairs}
+use Rattle.model.specs.Sizes.{queuesMost, answerBytes}
+use Rattle.model.specs.Columns.{Line, lines}
+use Rattle.model.specs.QueueTable.{Table}
+use Rattle.model.specs.Orders.{orderLine}
+use Rattle.model.specs.Reference.{Answer, Call, callOrder, opened}
+use Rattle.model.specs.Codes.{openCodes, batchCodes, orderCodes, callCodes, pathOf, Listed, TextListed, textCode, BatchListed}
+use Rattle.model.specs.Batch.{answerText}
+use Rattle.queue_table.specs.View.{tableOf, textOf}
+use Rattle.figures.specs.View.{figureAt}
+use Rattle.admission.specs.View.{answerOf}
+use Rattle.batch.specs.declared.BatchResult.{BatchResult}
+use Rattle.registry.specs.declared.Registry.{Registry}
+use Rattle.registry.specs.declared.Opened.{Opened}
+use Rattle.registry.specs.declared.Called.{Called}
+use Rattle.registry.specs.View.{stateIn, Consistent}
+
+-- A registry opened on any text.
+pub record OpenListed (text : List ℕ) (o : Opened) : Type 0 where
+  pub code : List·Memᴰ (textCode (textOf (o .verdict) (tableOf (o .registry .table)))) openCodes
+  pub listed : TextListed text (textOf (o .verdict) (tableOf (o .registry .table)))
+
+-- A call of any kind with any bytes on any registry whatever.
+pub record CallListed (before : Registry) (c : Call) (called : Called) : Type 0 where
+  pub code : List·Memᴰ (answerOf (called .answer) .code) callCodes
+  -- On a consistent registry: an answer line's, and with another code than 0 neither flows nor figures change.
+  pub listed : Consistent before → Listed (stateIn before .table) (pathOf (callOrder c)) (answerOf (called .answer))
+  pub unchanged : Consistent before → (answerOf (called .answer) .code ≡ 0 → ⊥)
+      → (stateIn (called .registry) ≡ stateIn before) × ((e : ℕ) → e < queuesMost → figureAt (called .registry .sums) e ≡ figureAt (before .sums) e)
+  -- On another: 42, which names nothing, and the registry as it was.
+  pub spoilt : (Consistent before → ⊥)
+      → (answerOf (called .answer) ≡ record { code = 42; slot = 0; link = 0; level = 0 }) × (called .registry ≡ before)
+
+-- An answer line of a batch, to a line of its orders.
+pub record LineListed (t : Table) (l : Line) (a : Answer) : Type 0 where
+  pub code : List·Memᴰ (a .code) orderCodes
+  pub listed : Listed t (pathOf (orderLine l)) a
+
+-- A batch over any three areas.
+pub record BatchAnswers (table orders area area′ : List ℕ) (r : BatchResult) : Type 0 where
+  pub code : List·Memᴰ (r .code) batchCodes
+  pub listed : BatchListed table orders (r .code) (r .line)
+  -- Refused, it leaves every byte of the area.
+  pub unwritten : (r .code ≡ 0 → ⊥) → area′ ≡ area
+  -- Accepted, it writes an answer line for each line of the orders.
+  pub answered : r .code ≡ 0
+      → (answers : List Answer)
+      × (area′ ≡ answerText 1 answers ++ drop (answerBytes * length (lines orders)) area)
+      × Pairs (LineListed (opened table .table)) (lines orders) answers

@@ -1,0 +1,1 @@
+// Theorems only: what the promises of the entry points amount to together. There is no code here.
