@@ -20,6 +20,7 @@ pub mod Outcomes
 pub mod Part
 pub mod Run
 pub mod Punctual
+pub mod Delivery
 pub mod WorkedRun
 pub mod Laws
 pub mod Results

@@ -18,11 +18,11 @@ use Rattle.model.specs.Answers.{answerColumns, answerLine}
 use Rattle.model.specs.Batch.{Batch, lineAnswers, answerText, refusedBatch, doneBatch, tooLong, tooShort, afterTable, batch}
 
 -- The bytes of a text in ASCII.
-bytesFrom : (place count : ℕ) → String → List ℕ
+unfoldable pub bytesFrom : (place count : ℕ) → String → List ℕ
 bytesFrom place zero text = []
 bytesFrom place (suc n) text = code (charAt text place) ∷ bytesFrom (suc place) n text
 
-bytes : String → List ℕ
+unfoldable pub bytes : String → List ℕ
 bytes text = bytesFrom 0 (len text) text
 
 -- What is worked out, and what document 01 gives for it.

@@ -24,7 +24,8 @@ use Rattle.model.specs.Laws.Run.EachFrame.{each-up}
 use Rattle.model.specs.Laws.Run.BusyPeriod.{Sound, Served}
 use Rattle.model.specs.Laws.Run.InQueue.{queue-each}
 use Rattle.model.specs.Laws.Run.LevelBounds.{not-late, fits}
-use Rattle.model.specs.Laws.Run.Jitter.{OnTime, Placed, NotLate, hop, known-hop, meets, named, arrived, moves, placed, after-placed}
+use Rattle.model.specs.Laws.Run.Jitter.{OnTime, Placed, NotLate, meets, named, arrived, moves, placed, after-placed}
+use Rattle.model.specs.Laws.Run.Standing.{hop, known-hop}
 use Rattle.model.specs.Laws.Run.QueueCurve.{queue-curve}
 use Rattle.model.specs.Laws.Run.LinkChecks.{at, Passes, passes}
 
@@ -111,7 +112,7 @@ module _ (t : Table) (fs : List Flow) (sch : Schedulable t fs) (r : Run t fs) (c
               (placed t fs sch r y (before-ok y u) n);
           news = λ y u level.
               all-imp (r .arrivals y n level)
-              (λ f a. (record { long = omega (arith, a .0 .long); short = in-lim n l e level f (a .0) (a .2); came = omega (arith, a .1) }, a .1))
+              (λ f a. (record { long = omega (arith, a .0 .0 .long); short = in-lim n l e level f (a .0 .0) (a .1); came = omega (arith, a .0 .1) }, a .0 .1))
               (arrived t fs sch r y (moves t fs sch r y (before-ok y u)) n level);
         }
 
@@ -166,7 +167,7 @@ module _ (t : Table) (fs : List Flow) (sch : Schedulable t fs) (r : Run t fs) (c
             (λ g u. omega (arith, threshold-is (hop n (suc i)) (k .queue) (k .isFound)))
             (rw e at (level-not-late n i f (p .0 .onTime) (p .0 .here)))
 
-  earlier : (x m : ℕ) → m < x → NotLate t fs r m
+  pub earlier : (x m : ℕ) → m < x → NotLate t fs r m
   earlier zero m u = absurd (omega arith)
   earlier (suc x) m u = go (eqb m x) refl (earlier x)
     where
