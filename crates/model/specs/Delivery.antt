@@ -24,12 +24,12 @@ pub record InTime (t : Table) (fs : List Flow) (x : ℕ) (f : Frame) : Type 0 wh
   pub thresholds : x ≤ f .born + thresholdSum t (flow .path)
   pub deadline : x ≤ f .born + flow .deadline
 
--- A weight reads of a frame what the network never changes, the instant its source sent it and its bytes: these count frames that are alike, and bytes.
+-- A weight reads of a frame what the network never changes, the instant its source sent it and its bytes. These count the frames that are alike in both, and bytes.
 unfoldable pub alike : (born length : ℕ) → ℕ → ℕ → ℕ
 alike born length b n = cond (eqb b born && eqb n length) 1 0
 
-unfoldable pub bytes : ℕ → ℕ → ℕ
-bytes born length = length
+abbrev pub anyBirth : ℕ → ℕ → ℕ
+anyBirth born length = length
 
 -- The weight of a frame, if it is of flow `j`.
 unfoldable pub ofFlow : (weight : ℕ → ℕ → ℕ) → (j : ℕ) → Frame → ℕ
@@ -44,15 +44,27 @@ unfoldable pub alongPath : (weight : ℕ → ℕ → ℕ) → (j : ℕ) → (ℕ
 alongPath weight j links i [] = 0
 alongPath weight j links i (h ∷ path) = total (atHop weight j i) (inQueue (h .level) (links (h .link))) + alongPath weight j links (suc i) path
 
--- What the source of flow `j` has sent up to instant `x` is, after the arrivals of `x`, in the queues of its path, or it has been delivered.
+-- What of flow `j` has been delivered in instants 0 to `x`.
+unfoldable pub deliveredUpTo : {t : Table} {fs : List Flow} → Run t fs → (weight : ℕ → ℕ → ℕ) → (j x : ℕ) → ℕ
+deliveredUpTo r weight j x = window (λ y. total (ofFlow weight j) (delivered r y)) 0 (suc x)
+
+-- What the source of flow `j` has sent in instants 0 to `x` is, after the arrivals of `x`, in the queues of its path, or it has been delivered.
 abbrev pub Conserved : {t : Table} {fs : List Flow} → Run t fs → (x j : ℕ) → Flow → (weight : ℕ → ℕ → ℕ) → Type 0
 Conserved r x j flow weight =
-    window (λ y. total (ofFlow weight j) (r .sent y)) 0 (suc x)
-    ≡ alongPath weight j (r .after x) 0 (flow .path) + window (λ y. total (ofFlow weight j) (delivered r y)) 0 (suc x)
+    window (λ y. total (ofFlow weight j) (r .sent y)) 0 (suc x) ≡ alongPath weight j (r .after x) 0 (flow .path) + deliveredUpTo r weight j x
 
 -- Up to instant `x` no frame is lost, none comes twice, and none strays: each flow has its frames, so many of each birth and length, and its bytes;
--- and a queue, `h`, has only frames whose hop it is.
+-- and the queue that `h` names has only frames whose hop it is.
 pub record NoneLost {t : Table} {fs : List Flow} (r : Run t fs) (x : ℕ) : Type 0 where
   pub frames : (j : ℕ) (flow : Flow) → getElem? fs j ≡ some flow → (born length : ℕ) → Conserved r x j flow (alike born length)
-  pub inBytes : (j : ℕ) (flow : Flow) → getElem? fs j ≡ some flow → Conserved r x j flow bytes
+  pub bytes : (j : ℕ) (flow : Flow) → getElem? fs j ≡ some flow → Conserved r x j flow anyBirth
   pub inPlace : (h : Hop) → All (λ f. hopOf fs f ≡ some h) (inQueue (h .level) (r .after x (h .link)))
+
+-- All that the source of flow `j` sent at instant `born` has been delivered in instants 0 to `x`: so many frames of each length.
+abbrev pub AllDelivered : {t : Table} {fs : List Flow} → Run t fs → (j born x : ℕ) → Type 0
+AllDelivered r j born x = (length : ℕ) → total (ofFlow (alike born length) j) (r .sent born) ≡ deliveredUpTo r (alike born length) j x
+
+-- Every frame of flow `j` arrives, within the sum of its path's thresholds, and within its deadline.
+pub record Arrives {t : Table} {fs : List Flow} (r : Run t fs) (j : ℕ) (flow : Flow) : Type 0 where
+  pub thresholds : (born x : ℕ) → born + thresholdSum t (flow .path) ≤ x → AllDelivered r j born x
+  pub deadline : (born x : ℕ) → born + flow .deadline ≤ x → AllDelivered r j born x

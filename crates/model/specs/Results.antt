@@ -1,4 +1,4 @@
--- The headline facts in a page: what one call on the reference model (document 01: the plain book) does, when a registration is admitted, when room lacks, and that no frame is late or lost.
+-- The headline facts in a page: what one call on the reference model (document 01: the plain book) does, when a registration is admitted, when room lacks, and that no frame is late or lost and every one arrives.
 -- Each is a fact of another file, said again in the paper's terms. Assumes nothing.
 use Prim.Native.Nat.{ℕ}
 use mathlib.Core.Path.{_≡_, ap, subst}
@@ -6,15 +6,16 @@ use mathlib.Core.Bool.{true}
 use mathlib.Core.Logic.{_↔_}
 use mathlib.Core.List.{List}
 use mathlib.Core.Option.{some}
+use lib.ListN.{getElem?}
+use Rattle.model.specs.Words.{All}
 use Rattle.model.specs.QueueTable.{Queue, Table}
 use Rattle.model.specs.Orders.{Hop, Flow, register, release, Kind, registering, releasing, kindNumber}
 use Rattle.model.specs.Aggregates.{queueAt}
 use Rattle.model.specs.Run.{Run, Conforming}
 use Rattle.model.specs.Punctual.{Punctual}
 use Rattle.model.specs.Laws.Run.Punctual.{punctual}
-use Rattle.model.specs.Delivery.{delivered, InTime, NoneLost}
-use Rattle.model.specs.Laws.Run.Delivery.{in-time, none-lost}
-use Rattle.model.specs.Words.{All}
+use Rattle.model.specs.Delivery.{delivered, InTime, NoneLost, Arrives}
+use Rattle.model.specs.Laws.Run.Delivery.{in-time, none-lost, arrives}
 use Rattle.model.specs.Reference.{State, Call, heldFlows, refuse, callOrder, step, opened, final}
 use Rattle.model.specs.Consistent.{flowsConsistent, consistent}
 use Rattle.model.specs.Admissible.{Admissible}
@@ -74,9 +75,15 @@ module _ (s : State) (ok : consistent s ≡ true) where
   end-to-end = in-time (s .table) (heldFlows (s .slots)) (schedulable s (state-rules s ok))
 
   -- No frame is lost: in every run, whether its sources conform or not, at every instant the frames that they have sent so far are, each once, in the
-  -- queue of a hop of their path or past the last one.
+  -- queue of a hop of their path, waiting or under way, or past the last one.
   pub no-frame-lost : (r : Run (s .table) (heldFlows (s .slots))) (x : ℕ) → NoneLost r x
   no-frame-lost r x = none-lost (s .table) (heldFlows (s .slots)) (schedulable s (state-rules s ok)) r x
+
+  -- Every frame arrives: in every run of conforming sources, once the sum of its path's thresholds has passed since it was sent, or its deadline, it has
+  -- left the last queue of its path.
+  pub every-frame-arrives : (r : Run (s .table) (heldFlows (s .slots))) → Conforming (heldFlows (s .slots)) (r .sent)
+      → (j : ℕ) (flow : Flow) → getElem? (heldFlows (s .slots)) j ≡ some flow → Arrives r j flow
+  every-frame-arrives = arrives (s .table) (heldFlows (s .slots)) (schedulable s (state-rules s ok))
 
   -- A registration with none of 10 to 17, 30 and 31 against it answers 0 if and only if the threshold-based model admits it.
   pub admitted-exactly : (c : Call) (f : Flow) → callOrder c ≡ register f → NoneOthers s f
@@ -101,7 +108,7 @@ pub reached-punctual : (text : List ℕ) (calls : List Call) → let s = final (
     → (n : ℕ) (h : Hop) (q : Queue) → queueAt (s .table) h ≡ some q → Punctual (s .table) (heldFlows (s .slots)) r n h q
 reached-punctual text calls = no-frame-late (final (opened text) calls) (reached-consistent text calls)
 
--- Nor is a frame that has left the last queue of its path past its deadline, and none is lost.
+-- Nor has a frame been longer on its way than its deadline, none is lost, and every one arrives.
 pub reached-end-to-end : (text : List ℕ) (calls : List Call) → let s = final (opened text) calls in
     (r : Run (s .table) (heldFlows (s .slots))) → Conforming (heldFlows (s .slots)) (r .sent)
     → (x : ℕ) → All (InTime (s .table) (heldFlows (s .slots)) x) (delivered r x)
@@ -110,3 +117,8 @@ reached-end-to-end text calls = end-to-end (final (opened text) calls) (reached-
 pub reached-none-lost : (text : List ℕ) (calls : List Call) → let s = final (opened text) calls in
     (r : Run (s .table) (heldFlows (s .slots))) (x : ℕ) → NoneLost r x
 reached-none-lost text calls = no-frame-lost (final (opened text) calls) (reached-consistent text calls)
+
+pub reached-arrives : (text : List ℕ) (calls : List Call) → let s = final (opened text) calls in
+    (r : Run (s .table) (heldFlows (s .slots))) → Conforming (heldFlows (s .slots)) (r .sent)
+    → (j : ℕ) (flow : Flow) → getElem? (heldFlows (s .slots)) j ≡ some flow → Arrives r j flow
+reached-arrives text calls = every-frame-arrives (final (opened text) calls) (reached-consistent text calls)

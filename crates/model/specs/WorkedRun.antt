@@ -4,7 +4,6 @@
 use Prim.Native.Nat.{ℕ, zero, suc, _+_, _*_, _≤_}
 use Prim.Native.String.{String}
 use mathlib.Core.Path.{_≡_, refl, ap, subst}
-use mathlib.Core.Bool.{true}
 use mathlib.Core.List.{List, [], _∷_, _++_, map, Permᴰ·refl}
 use mathlib.Core.Option.{some, Option·none-ne-some, Option·some-injective}
 use native.Mathlib.Omega.{arith}
@@ -24,10 +23,9 @@ use Rattle.model.specs.Run.{Frame, Sends, Run, window, bytesOf, Conformi
 use Rattle.model.specs.Laws.Run.Windows.{window-join, window-within}
 use Rattle.model.specs.Laws.Run.Exists.{coming, states, runOf}
 use Rattle.model.specs.Punctual.{Punctual}
-use Rattle.model.specs.Delivery.{delivered, InTime, NoneLost}
+use Rattle.model.specs.Delivery.{delivered, InTime, NoneLost, Arrives}
 use Rattle.model.specs.WorkedBatch.{bytesFrom, bytes}
-use Rattle.model.specs.Consistent.{consistent}
-use Rattle.model.specs.Results.{reached-consistent, no-frame-late, end-to-end, no-frame-lost}
+use Rattle.model.specs.Results.{reached-punctual, reached-end-to-end, reached-none-lost, reached-arrives}
 
 -- Link 1 has two levels, link 2 goes on from where it ends.
 pub text : String
@@ -162,18 +160,24 @@ conforming = record { bound = bound }
     bound j f e s n = omega (arith, in-all j s (suc n), bursts j f e)
 
 -- So the theorems speak of this run.
-abbrev Shown : (t : Table) (fs : List Flow) → Type 0
-Shown t fs = (r : Run t fs) → Conforming fs (r .sent) → (x : ℕ)
-    → ((h : Hop) (q : Queue) → queueAt t h ≡ some q → Punctual t fs r x h q) × All (InTime t fs x) (delivered r x) × NoneLost r x
+pub record Shown (t : Table) (fs : List Flow) (r : Run t fs) : Type 0 where
+  pub punctual : (x : ℕ) (h : Hop) (q : Queue) → queueAt t h ≡ some q → Punctual t fs r x h q
+  pub inTime : (x : ℕ) → All (InTime t fs x) (delivered r x)
+  pub noneLost : (x : ℕ) → NoneLost r x
+  pub arrive : (j : ℕ) (flow : Flow) → getElem? fs j ≡ some flow → Arrives r j flow
 
-shown : Shown table flows
-shown =
-    subst (λ t. Shown t flows) (the-state .0)
-    (subst (Shown (state .table)) (the-state .1) (λ r c x. (no-frame-late state ok r c x, end-to-end state ok r c x, no-frame-lost state ok r x)))
-  where
-    ok : consistent state ≡ true
-    ok = reached-consistent (bytes text) calls
+on-any : (r : Run table flows) → Conforming flows (r .sent) → Shown table flows r
+on-any =
+    subst (λ t. (r : Run t flows) → Conforming flows (r .sent) → Shown t flows r) (the-state .0)
+    (subst (λ fs. (r : Run (state .table) fs) → Conforming fs (r .sent) → Shown (state .table) fs r) (the-state .1)
+    (λ r c.
+    record {
+      punctual = reached-punctual (bytes text) calls r c;
+      inTime = reached-end-to-end (bytes text) calls r c;
+      noneLost = reached-none-lost (bytes text) calls r;
+      arrive = reached-arrives (bytes text) calls r c;
+    }))
 
-pub on-time : (x : ℕ) → ((h : Hop) (q : Queue) → queueAt table h ≡ some q → Punctual table flows worked x h q) × All (InTime table flows x) (delivered worked x) × NoneLost worked x
+pub shown : Shown table flows worked
 unfolding runOf
-on-time = shown worked conforming
+shown = on-any worked conforming

@@ -15,7 +15,7 @@ use Rattle.model.specs.QueueTable.{Table}
 use Rattle.model.specs.Orders.{Flow}
 use Rattle.model.specs.Schedulable.{Schedulable}
 use Rattle.model.specs.Run.{Frame, Sends, Run, Conforming, bytesOf, window}
-use Rattle.model.specs.Delivery.{ofFlow, atHop}
+use Rattle.model.specs.Delivery.{anyBirth, ofFlow, atHop}
 use Rattle.model.specs.Laws.Run.BoundSums.{burst-covers}
 use Rattle.model.specs.Laws.Total.{total-each, total-cond}
 use Rattle.model.specs.Laws.Test.{cond-le}
@@ -25,10 +25,7 @@ use Rattle.model.specs.Laws.Run.Standing.{moved}
 use Rattle.model.specs.Laws.Run.Jitter.{upstream, OnTime, NotLate, moves}
 use Rattle.model.specs.Laws.Run.Conservation.{reached, source, conserved}
 
--- Bytes, of whichever birth; and bytes of frames that were sent at instant `c` or later.
-abbrev pub anyBirth : ℕ → ℕ → ℕ
-anyBirth born length = length
-
+-- Bytes of frames that were sent at instant `c` or later.
 abbrev bornFrom : ℕ → ℕ → ℕ → ℕ
 bornFrom c born length = cond (leb c born) length 0
 

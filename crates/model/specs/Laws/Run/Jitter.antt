@@ -66,7 +66,7 @@ module _ (t : Table) (fs : List Flow) (sch : Schedulable t fs) (r : Run t fs) wh
       rw (n .found) (sch .thresholds h (n .queue) (n .found))
 
   -- A frame that leaves a queue in time reaches the next hop in time.
-  leaves : (x n level : ℕ) (f : Frame) → Placed t fs x n level f → OnTime t fs (next x f)
+  pub leaves : (x n level : ℕ) (f : Frame) → Placed t fs x n level f → OnTime t fs (next x f)
   unfolding next
   leaves x n level f p =
       let o = p .onTime in

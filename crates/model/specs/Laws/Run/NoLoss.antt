@@ -17,7 +17,7 @@ use Rattle.model.specs.Orders.{Hop, Flow}
 use Rattle.model.specs.Aggregates.{linkAt, queueAt}
 use Rattle.model.specs.Schedulable.{Named}
 use Rattle.model.specs.Run.{Frame, LinkState, Run, hopOf, next, departed, moving, emptyLevels, emptyLink, window, inQueue}
-use Rattle.model.specs.Delivery.{delivered, ofFlow, atHop, alongPath, Conserved}
+use Rattle.model.specs.Delivery.{delivered, ofFlow, atHop, alongPath, deliveredUpTo, Conserved}
 use Rattle.model.specs.Laws.All.{all-imp, all-append, map-all}
 use Rattle.model.specs.Laws.Total.{total-filter, total-below, total-same, total-cond}
 use Rattle.model.specs.Laws.Test.{cond-le, cond-same, and-then}
@@ -184,8 +184,8 @@ module _ (t : Table) (fs : List Flow) (r : Run t fs) (w : ℕ → ℕ → ℕ) (
   from-hop : (x i : ℕ) (rest : List Hop) → ((k : ℕ) → getElem? (fl .path) (i + k) ≡ getElem? rest k) → i + length rest ≡ length (fl .path)
       → All (Named t) rest
       → window (reached t fs r (atHop w j i)) 0 (suc x)
-      ≡ alongPath w j (r .after x) i rest + window (λ y. total (ofFlow w j) (delivered r y)) 0 (suc x)
-  unfolding alongPath
+      ≡ alongPath w j (r .after x) i rest + deliveredUpTo r w j x
+  unfolding alongPath deliveredUpTo
   from-hop x i [] e n a =
       let last : i ≡ length (fl .path) = omega (arith, n) in
       omega (

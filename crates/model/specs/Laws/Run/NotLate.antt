@@ -181,11 +181,16 @@ module _ (t : Table) (fs : List Flow) (sch : Schedulable t fs) (r : Run t fs) (c
       (λ f u. omega (arith, threshold-is h q e))
       (now x (earlier x) (h .link) (h .level))
 
+  -- The frames of a queue after the arrivals of an instant.
+  pub queue-placed : (x link level : ℕ) → All (Placed t fs (suc x) link level) (inQueue level (r .after x link))
+  queue-placed x n level =
+      queue-each (Placed t fs (suc x) n) level (r .after x n) (after-placed t fs sch r x (now x (earlier x)) (placed t fs sch r x (earlier x)) n)
+
   pub always-fits : (x : ℕ) (h : Hop) (q : Queue) → queueAt t h ≡ some q → total (λ f. f .length) (inQueue (h .level) (r .after x (h .link))) ≤ q .buffer
   unfolding total
   always-fits x h q e =
       go (h .level) e (inQueue (h .level) (r .after x (h .link))) refl
-      (queue-each (Placed t fs (suc x) n) (h .level) (r .after x n) (after-placed t fs sch r x (now x (earlier x)) (placed t fs sch r x (earlier x)) n))
+      (queue-placed x n (h .level))
     where
       n : ℕ
       n = h .link

@@ -15,7 +15,7 @@ use Rattle.model.specs.Orders.{Hop, Flow}
 use Rattle.model.specs.Aggregates.{queueAt, thresholdOf, Share, shares, allShares, sameHop, addsAt, aggregateAt}
 use Rattle.model.specs.Schedulable.{Schedulable}
 use Rattle.model.specs.Run.{Frame, Run, Conforming, hopOf, isAt}
-use Rattle.model.specs.Delivery.{ofFlow, atHop}
+use Rattle.model.specs.Delivery.{anyBirth, ofFlow, atHop}
 use Rattle.model.specs.Laws.Total.{total-append, total-add, total-zeros, total-cond, total-each, total-perm}
 use Rattle.model.specs.Laws.Run.Windows.{window-ext, window-add}
 use Rattle.model.specs.Laws.Run.ArrivalCurve.{Curve, curve-zero, curve-le, curve-add, curve-cond}
@@ -23,7 +23,7 @@ use Rattle.model.specs.Laws.Run.LevelArrivals.{bytes}
 use Rattle.model.specs.Laws.Run.Standing.{moved, known-hop}
 use Rattle.model.specs.Laws.Run.Jitter.{upstream, OnTime, NotLate, moves}
 use Rattle.model.specs.Laws.Run.Conservation.{reached, reaching-total}
-use Rattle.model.specs.Laws.Run.HopCurve.{anyBirth, hop-curve}
+use Rattle.model.specs.Laws.Run.HopCurve.{hop-curve}
 
 -- What a frame brings to queue `q` at one of the hops of flow `j`, which are those from index `i` on;
 -- and at a hop of one of the flows, which are those from index `j` on.
