@@ -12,7 +12,7 @@ use Rattle.model.specs.Orders.{orderLine}
 use Rattle.model.specs.Reference.{State, Answer, heldFlows, opened}
 use Rattle.model.specs.Consistent.{consistent}
 use Rattle.model.specs.Outcomes.{Decided}
-use Rattle.model.specs.Punctual.{Timely}
+use Rattle.model.specs.Timely.{Timely}
 use Rattle.model.specs.Batch.{answerText}
 use Rattle.batch.specs.declared.BatchResult.{BatchResult}
 

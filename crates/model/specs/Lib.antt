@@ -21,6 +21,8 @@ pub mod Outcomes
 pub mod Part
 pub mod Run
 pub mod Punctual
+pub mod Delivery
+pub mod Timely
 pub mod WorkedRun
 pub mod Laws
 pub mod Results

@@ -1,4 +1,4 @@
--- The headline facts in a page: what one call on the reference model (document 01: the plain book) does, when a registration is admitted, when room lacks, and that no frame is late.
+-- The headline facts in a page: what one call on the reference model (document 01: the plain book) does, when a registration is admitted, when room lacks, and that no frame is late or lost and every one arrives.
 -- Each is a fact of another file, said again in the paper's terms. Assumes nothing.
 use Prim.Native.Nat.{ℕ}
 use mathlib.Core.Path.{_≡_}
@@ -8,8 +8,9 @@ use mathlib.Core.List.{List}
 use Rattle.model.specs.Columns.{Line}
 use Rattle.model.specs.QueueTable.{Table, readTable}
 use Rattle.model.specs.Orders.{Flow, register, kindNumber, orderLine}
-use Rattle.model.specs.Punctual.{Timely}
+use Rattle.model.specs.Timely.{Timely}
 use Rattle.model.specs.Laws.Run.Punctual.{punctual}
+use Rattle.model.specs.Laws.Run.Delivery.{in-time, none-lost, arrives}
 use Rattle.model.specs.Reference.{State, Call, heldFlows, callOrder, apply, step, opened, final}
 use Rattle.model.specs.Codes.{pathOf, Listed, TextListed, BatchListed}
 use Rattle.model.specs.Batch.{batch}
@@ -56,10 +57,13 @@ module _ (s : State) (ok : consistent s ≡ true) where
   pub line-listed : (l : Line) → Listed (s .table) (pathOf (orderLine l)) (apply s (orderLine l) .answer)
   line-listed l = let (kind, r) = line-readable l in listed s (state-rules s ok) (orderLine l) kind r
 
-  -- No frame is late: in every run of conforming sources over the held flows, at every instant and in every queue of the table, a frame that came as
-  -- many µs ago as the threshold, or more, has left, and the bytes in the queue are at most its buffer.
+  -- No frame is late, in a queue or end to end, none is lost, and every one arrives, in every run over the held flows.
   pub no-frame-late : Timely (s .table) (heldFlows (s .slots))
-  no-frame-late = record { punctual = punctual (s .table) (heldFlows (s .slots)) (schedulable s (state-rules s ok)) }
+  no-frame-late =
+      let t = s .table in
+      let fs = heldFlows (s .slots) in
+      let meets = schedulable s (state-rules s ok) in
+      record { punctual = punctual t fs meets; inTime = in-time t fs meets; noneLost = none-lost t fs meets; arrives = arrives t fs meets }
 
   -- A registration with no cause before 30 lacks room exactly when every slot is held or the held hops and its own exceed the hop entries.
   pub room-exactly : (c : Call) (f : Flow) → callOrder c ≡ register f → NoneApplies (earlyFindings s f)

@@ -7,13 +7,13 @@ use mathlib.Core.List.{List, [], _∷_, _++_, map, List·Permᴰ}
 use mathlib.Core.Option.{Option, none, some}
 use lib.ListN.{getElem?}
 use lib.Dec.{eqb}
-use Rattle.model.specs.Words.{All, andThen, nth}
+use Rattle.model.specs.Words.{All, filter, andThen, nth}
 use Rattle.model.specs.Total.{total}
 use Rattle.model.specs.QueueTable.{Queue, Link, Table}
 use Rattle.model.specs.Orders.{Hop, Flow}
 use Rattle.model.specs.Aggregates.{linkAt, sameHop}
 
--- A frame: its flow, the hop it is at, its bytes, the instant it reached this queue, and the instant its source sent it (which nothing here reads).
+-- A frame: its flow, the hop it is at, its bytes, the instant it reached this queue, and the instant its source sent it (which nothing here reads; `Delivery` does).
 pub record Frame : Type 0 where
   pub flow : ℕ
   pub hop : ℕ
@@ -105,8 +105,7 @@ isAt q (some h) = sameHop q h
 
 -- Those of the frames that reach queue `q`.
 unfoldable pub reaching : List Flow → (q : Hop) → List Frame → List Frame
-reaching fs q [] = []
-reaching fs q (f ∷ l) = cond (isAt q (hopOf fs f)) (f ∷ reaching fs q l) (reaching fs q l)
+reaching fs q = filter λ f. isAt q (hopOf fs f)
 
 -- Each level, from number `n` on, gets its new frames behind those that wait.
 unfoldable pub append : (ℕ → List Frame) → (n : ℕ) → List (List Frame) → List (List Frame)

@@ -23,6 +23,11 @@ unfoldable pub isNone : {A : Type 0} → Option A → Bool
 isNone none = true
 isNone (some a) = false
 
+-- The elements that the test finds, in their order.
+unfoldable pub filter : {A : Type 0} → (A → Bool) → List A → List A
+filter test [] = []
+filter test (x ∷ xs) = cond (test x) (x ∷ filter test xs) (filter test xs)
+
 -- The index of the first element that the test finds, the length where it finds none.
 unfoldable pub firstIndex : {A : Type 0} → (A → Bool) → List A → ℕ
 firstIndex test [] = 0

@@ -18,11 +18,11 @@ use Rattle.model.specs.Answers.{answerColumns, answerLine}
 use Rattle.model.specs.Batch.{Batch, lineAnswers, answerText, refusedBatch, doneBatch, tooLong, tooShort, afterTable, batch}
 
 -- The bytes of a text in ASCII.
-bytesFrom : (place count : ℕ) → String → List ℕ
+unfoldable pub bytesFrom : (place count : ℕ) → String → List ℕ
 bytesFrom place zero text = []
 bytesFrom place (suc n) text = code (charAt text place) ∷ bytesFrom (suc place) n text
 
-bytes : String → List ℕ
+unfoldable pub bytes : String → List ℕ
 bytes text = bytesFrom 0 (len text) text
 
 -- What is worked out, and what document 01 gives for it.
@@ -50,6 +50,15 @@ workedBatches =
     ∷ worked "" "?" "..................." 40 0 "..................."
     -- the table's refusal comes before 40
     ∷ worked "?" "?" "" 1 1 ""
+    -- two hops: admitted just within its deadline; past it (20); a link that starts elsewhere (15); a link met earlier (16);
+    -- a flow of one hop that the first one's burst, grown by one byte at the second link, makes too late there (22)
+    ∷ worked
+    "   1   1   2   448 1      6      169\n   2   2   3   448 1      6      254\n"
+    " 1     1     1000     168   84      12  2   1 1   2 1\n 1     2     1000      84   84      11  2   1 1   2 1\n 1     3     1000      84   84      12  2   2 1   1 1\n 1     4     1000      84   84      12  2   1 1   1 1\n 1     5     1000      84   84       6  1   2 1\n"
+    "...................................................................................................."
+    0
+    5
+    "     1  0   1   0 0\n     2 20   0   0 0\n     3 15   0   1 1\n     4 16   0   1 1\n     5 22   0   2 1\n"
     ∷ []
 
 pub worked-batches : map (λ w. w .worked) workedBatches ≡ map (λ w. w .given) workedBatches

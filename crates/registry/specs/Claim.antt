@@ -11,7 +11,7 @@ use Rattle.model.specs.Aggregates.{aggregateAt}
 use Rattle.model.specs.Reference as model
 use Rattle.model.specs.Reference.{State, Call, heldFlows, callOrder, opened, final}
 use Rattle.model.specs.Outcomes.{NoneApplies, earlyFindings, NoRoom, Full}
-use Rattle.model.specs.Punctual.{Timely}
+use Rattle.model.specs.Timely.{Timely}
 use Rattle.queue_table.specs.View.{hopAt}
 use Rattle.figures.specs.View.{figureAt}
 use Rattle.admission.specs.declared.Answer.{Answer}

@@ -56,7 +56,7 @@ frame-range f e =
     between-true 84 1542 (f .frame) (and-both (numberInRange (f .number) && between 1 10000000 (f .rate) && between 84 1000000 (f .burst)) _ e₁ .1)
 
 -- The deadline's finding and eq. 14.
-deadline-met : (t : Table) (f : Flow) → (deadlineFinding t f ≡ none) ↔ (thresholdSum t (f .path) ≤ f .deadline)
+pub deadline-met : (t : Table) (f : Flow) → (deadlineFinding t f ≡ none) ↔ (thresholdSum t (f .path) ≤ f .deadline)
 unfolding deadlineFinding
 deadline-met t f = (λ e. ltb-false _ _ (whole-none 20 _ e), λ h. none-whole 20 _ (le-ltb _ _ h))
 

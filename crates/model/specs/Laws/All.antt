@@ -1,8 +1,9 @@
 -- What holds of each element of lists joined, mapped, reversed or in another order, and of one of them, by membership or index.
 -- By induction on the list. Assumes nothing.
-use Rattle.model.specs.Words.{All}
+use Rattle.model.specs.Words.{All, filter}
 use Prim.Native.Nat.{ℕ, zero, suc, _<_}
 use mathlib.Core.Path.{_≡_, refl, subst, sym}
+use mathlib.Core.Bool.{Bool, true, false, cond}
 use mathlib.Core.List.{List, [], _∷_, _++_, map, reverse, reverseAux, List·Memᴰ, List·Memᴰ·head, List·Memᴰ·tail, List·Permᴰ, List·Permᴰ·nil, List·Permᴰ·cons, List·Permᴰ·swap, List·Permᴰ·trans}
 use mathlib.Core.Option.{some, Option·none-ne-some, Option·some-injective}
 use native.Mathlib.Omega.{arith}
@@ -58,6 +59,16 @@ module _ {A : Type 0} (P : A → Type 0) where
   pub all-map : {B : Type 0} (f : B → A) (l : List B) → All P (map f l) → All (λ b. P (f b)) l
   all-map f [] a = tt
   all-map f (x ∷ l) a = (a .0, all-map f l (a .1))
+
+-- What a test finds.
+pub filter-all : {A : Type 0} (P : A → Type 0) (test : A → Bool) (l : List A) → All P l → All (λ x. P x × (test x ≡ true)) (filter test l)
+unfolding filter
+filter-all P test [] a = tt
+filter-all P test (x ∷ l) a = go (test x) refl (filter-all P test l (a .1))
+  where
+    go : (b : Bool) → test x ≡ b → All (λ x. P x × (test x ≡ true)) (filter test l) → All (λ x. P x × (test x ≡ true)) (cond b (x ∷ filter test l) (filter test l))
+    go true e r = ((a .0, e), r)
+    go false e r = r
 
 pub all-imp : {A : Type 0} {P Q : A → Type 0} (l : List A) → ((x : A) → P x → Q x) → All P l → All Q l
 all-imp [] h a = tt

@@ -1,10 +1,13 @@
 -- Lists by index: an element that is there, one replaced, and what holds at each place so far. Assumes nothing.
-use Prim.Native.Nat.{ℕ, zero, suc, _+_, _<_}
-use mathlib.Core.Path.{_≡_, subst, ap₂, _∙_}
+use Prim.Native.Nat.{ℕ, zero, suc, _+_, _≤_, _<_}
+use mathlib.Core.Path.{_≡_, subst, sym, ap₂, _∙_}
 use mathlib.Core.List.{List, [], _∷_}
 use mathlib.Core.Option.{some, Option·none-ne-some}
 use native.Mathlib.Omega.{arith}
 use native.Mathlib.Decide.{decLt}
+use lib.Dec.{eqb, eqb·suc-suc, eqb·zero-suc}
+use borrow.Author.Tests.{eq-eqb}
+use Rattle.model.specs.Words.{isNone}
 use lib.ListN.{length, set, drop, getElem?}
 use lib.Seq.{drop-cons, drop-set-lt, getD-set-same, lt-length-set}
 
@@ -13,6 +16,13 @@ module _ {A : Type 0} where
   index-below [] i x e = absurd (Option·none-ne-some x e)
   index-below (y ∷ l) zero x e = omega arith
   index-below (y ∷ l) (suc i) x e = omega (arith, index-below l i x e)
+
+  -- Whether there is none, at an index of the list or just past it.
+  pub none-past : (l : List A) (i : ℕ) → i ≤ length l → isNone (getElem? l i) ≡ eqb i (length l)
+  unfolding isNone
+  none-past [] i h = sym (eq-eqb i 0 (omega arith))
+  none-past (x ∷ l) zero h = sym (eqb·zero-suc (length l))
+  none-past (x ∷ l) (suc i) h = none-past l i (omega arith) ∙ sym (eqb·suc-suc i (length l))
 
   pub drop-set : (l : List A) (i : ℕ) (x : A) → i < length l → drop i (set l i x) ≡ x ∷ drop (suc i) l
   drop-set l i x h =

@@ -1,4 +1,4 @@
--- The proof that no frame is late, and that runs exist, one file for each step.
+-- The proofs that no frame is late or lost, and that runs exist, one file for each step.
 pub mod Windows
 pub mod OneLink
 pub mod EachFrame
@@ -9,11 +9,14 @@ pub mod InQueue
 pub mod ArrivalCurve
 pub mod BoundSums
 pub mod LevelBounds
+pub mod Standing
 pub mod Jitter
 pub mod Conservation
+pub mod NoLoss
 pub mod HopCurve
 pub mod QueueCurve
 pub mod LinkChecks
 pub mod NotLate
 pub mod Punctual
+pub mod Delivery
 pub mod Exists

@@ -20,6 +20,7 @@ use Rattle.model.specs.Consistent.{rowOf, linkConsistent, tableConsisten
 use Rattle.model.specs.Laws.Consistent.{FlowRules}
 use Rattle.model.specs.Laws.Table.{LinkRules, link-rules}
 use Rattle.model.specs.Laws.Reached.{StateRules}
+use Rattle.model.specs.Laws.Admissible.{deadline-met}
 
 -- What holds of each element holds of the one with a number.
 all-nth : {A : Type 0} (P : A → Type 0) (l : List A) (n : ℕ) {x : A} → All P l → nth l n ≡ some x → P x
@@ -92,4 +93,9 @@ schedulable s r =
     }
   where
     meets : (f : Flow) → FlowRules (s .table) (heldFlows (s .slots)) f → FlowMeets (s .table) (heldFlows (s .slots)) f
-    meets f m = record { queues = named (s .table) [] (f .path) (m .line .1 .0); links = m .links }
+    meets f m =
+        record {
+          queues = named (s .table) [] (f .path) (m .line .1 .0);
+          links = m .links;
+          deadline = deadline-met (s .table) f .0 (m .deadline);
+        }

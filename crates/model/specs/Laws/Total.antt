@@ -8,7 +8,7 @@ use native.Mathlib.Nat.{le-trans, zero-add}
 use lib.ListN.{length, drop}
 use lib.Seq.{drop-nil}
 use native.Mathlib.Omega.{arith}
-use Rattle.model.specs.Words.{All, Pairs, ends, pair}
+use Rattle.model.specs.Words.{All, Pairs, ends, pair, filter}
 use Rattle.model.specs.Total.{total, largest}
 use Rattle.model.specs.Part.{Part, empty, skip, keep, swap, both}
 use Rattle.model.specs.Laws.All.{member-all}
@@ -53,6 +53,16 @@ module _ {A : Type 0} where
   unfolding total
   total-map g f [] = refl
   total-map g f (x ∷ l) = omega (arith, total-map g f l)
+
+  pub total-filter : (f : A → ℕ) (test : A → Bool) (l : List A) → total f (filter test l) ≡ total (λ x. cond (test x) (f x) 0) l
+  unfolding filter total
+  total-filter f test [] = refl
+  total-filter f test (x ∷ l) = go (test x) (total-filter f test l)
+    where
+      go : (b : Bool) → total f (filter test l) ≡ total (λ x. cond (test x) (f x) 0) l
+          → total f (cond b (x ∷ filter test l) (filter test l)) ≡ cond b (f x) 0 + total (λ x. cond (test x) (f x) 0) l
+      go true e = omega arith
+      go false e = omega arith
 
   pub total-perm : (f : A → ℕ) {l m : List A} → List·Permᴰ l m → total f l ≡ total f m
   unfolding total
@@ -124,6 +134,14 @@ module _ {A : Type 0} where
   unfolding total
   total-each P f g [] h a = zero-le
   total-each P f g (x ∷ l) h a = omega (arith, h x (a .0), total-each P f g l h (a .1))
+
+  pub total-below : (f g : A → ℕ) (l : List A) → ((x : A) → f x ≤ g x) → total f l ≤ total g l
+  total-below f g l h = total-each (λ x. Unit {0}) f g l (λ x u. h x) (member-all (λ x. Unit {0}) l (λ x m. tt))
+
+  pub total-same : (P : A → Type 0) (f g : A → ℕ) (l : List A) → ((x : A) → P x → f x ≡ g x) → All P l → total f l ≡ total g l
+  unfolding total
+  total-same P f g [] h a = refl
+  total-same P f g (x ∷ l) h a = omega (arith, h x (a .0), total-same P f g l h (a .1))
 
   -- A bound for each element.
   pub total-le : (f : A → ℕ) (k : ℕ) (l : List A) → All (λ x. f x ≤ k) l → total f l ≤ length l * k

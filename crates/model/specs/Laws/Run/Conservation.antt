@@ -1,33 +1,34 @@
--- The network: what has reached a hop of a flow has reached the hop before, so it is at most what the source has sent.
+-- The network: what has come to a hop of a flow is still there or has come to the next one, so it is at most what the source has sent.
 -- By weights that read only flow, birth and length, summed over all links: no order of arrivals matters. Assumes nothing.
 use Prim.Native.Nat.{ℕ, zero, suc, _+_, _≤_}
 use mathlib.Core.Path.{_≡_, refl, ap, _∙_}
-use mathlib.Core.Bool.{Bool, true, false, cond, _&&_, and-false}
+use mathlib.Core.Bool.{cond, _&&_, and-false}
 use mathlib.Core.List.{List, [], _∷_, map}
 use mathlib.Core.Option.{Option, none, some}
 use native.Mathlib.Omega.{arith}
 use lib.ListN.{length}
 use lib.Dec.{eqb, eqb·suc-suc, eqb·suc-zero, eqb·zero-suc}
-use borrow.Author.Tests.{ne-eqb}
+use borrow.Author.Tests.{eq-eqb, ne-eqb}
 use Rattle.model.specs.Total.{total}
 use Rattle.model.specs.QueueTable.{Link, Table}
 use Rattle.model.specs.Orders.{Hop, Flow}
 use Rattle.model.specs.Aggregates.{linkAt, sameHop}
-use Rattle.model.specs.Run.{Frame, LinkState, Sends, Run, hopOf, next, departed, moving, isAt, reaching, interval, enter, emptyLink, speedOf, window}
-use Rattle.model.specs.Laws.All.{member-all}
-use Rattle.model.specs.Laws.Total.{total-ext, total-append, total-map, total-each, total-zeros, total-perm}
-use Rattle.model.specs.Laws.Test.{cond-le, cond-same}
-use Rattle.model.specs.Laws.Run.Windows.{window-ext, window-mono, window-add, window-zero, window-front, window-at, window-longer, window-total}
+use Rattle.model.specs.Run.{Frame, LinkState, Sends, Run, hopOf, next, departed, moving, isAt, reaching, enter, emptyLink, speedOf, window}
+use Rattle.model.specs.Delivery.{ofFlow, atHop}
+use Rattle.model.specs.Laws.Aggregates.{hop-same}
+use Rattle.model.specs.Laws.Total.{total-ext, total-append, total-map, total-filter, total-below, total-same, total-zeros, total-perm}
+use Rattle.model.specs.Laws.Test.{cond-le}
+use Rattle.model.specs.Laws.Run.Windows.{window-ext, window-mono, window-add, window-zero, window-front, window-at, window-has, window-total}
 use Rattle.model.specs.Laws.Run.OneLink.{held, all, empty-held, enter-held, interval-all}
-use Rattle.model.specs.Laws.Run.Jitter.{hop, moved}
+use Rattle.model.specs.Laws.Run.Standing.{hop, moved}
 
--- What is at hop `i` of flow `j`, by a weight of birth and length.
-unfoldable pub atHop : (ℕ → ℕ → ℕ) → (j i : ℕ) → Frame → ℕ
-atHop w j i f = cond (eqb (f .flow) j) (cond (eqb (f .hop) i) (w (f .born) (f .length)) 0) 0
+-- What a frame on its way to `o` brings to the queues of the links, which have so many levels.
+unfoldable pub brings : (v : ℕ) (o : Option Hop) (levels : ℕ → ℕ) (links : ℕ) → ℕ
+brings v o levels links = window (λ n. window (λ k. cond (isAt (hop n k) o) v 0) 1 (levels n)) 1 links
 
 -- Each frame goes to one queue at most.
-once : (v : ℕ) (o : Option Hop) (levels : ℕ → ℕ) (links : ℕ) → window (λ n. window (λ k. cond (isAt (hop n k) o) v 0) 1 (levels n)) 1 links ≤ v
-unfolding sameHop
+once : (v : ℕ) (o : Option Hop) (levels : ℕ → ℕ) (links : ℕ) → brings v o levels links ≤ v
+unfolding brings sameHop
 once v none levels links =
     omega (arith, window-zero (λ n. window (λ k. 0) 1 (levels n)) 1 links (λ n a b. window-zero (λ k. 0) 1 (levels n) (λ k a b. refl)))
 once v (some h) levels links =
@@ -51,29 +52,36 @@ once v (some h) levels links =
     other-link : (n : ℕ) → (n ≡ h .link → ⊥) → link n ≡ 0
     other-link n d = window-zero (level n) 1 (levels n) (λ k a b. ap (λ b. cond (b && eqb k (h .level)) v 0) (ne-eqb n (h .link) d))
 
+-- To one that is there it goes whole.
+pub there : (v : ℕ) (h : Hop) (levels : ℕ → ℕ) (links : ℕ) → 1 ≤ h .link → h .link ≤ links → 1 ≤ h .level → h .level ≤ levels (h .link) →
+    v ≤ brings v (some h) levels links
+unfolding brings
+there v h levels links a b c d =
+    omega (
+      arith,
+      window-has (λ n. window (level n) 1 (levels n)) (h .link) 1 links a (omega arith),
+      window-has (level (h .link)) (h .level) 1 (levels (h .link)) c (omega arith),
+      ap (λ b. cond b v 0) (hop-same (hop (h .link) (h .level)) h refl),
+    )
+  where
+    level : ℕ → ℕ → ℕ
+    level n k = cond (sameHop (hop n k) h) v 0
+
 module _ (m : Frame → ℕ) (fs : List Flow) where
   pub reaching-total : (q : Hop) (l : List Frame) → total m (reaching fs q l) ≡ total (λ f. cond (isAt q (hopOf fs f)) (m f) 0) l
-  unfolding reaching total
-  reaching-total q [] = refl
-  reaching-total q (f ∷ l) = go (isAt q (hopOf fs f)) (reaching-total q l)
-    where
-      go : (b : Bool) → total m (reaching fs q l) ≡ total (λ f. cond (isAt q (hopOf fs f)) (m f) 0) l →
-          total m (cond b (f ∷ reaching fs q l) (reaching fs q l)) ≡ cond b (m f) 0 + total (λ f. cond (isAt q (hopOf fs f)) (m f) 0) l
-      go true e = omega arith
-      go false e = omega arith
+  unfolding reaching
+  reaching-total q l = total-filter m (λ f. isAt q (hopOf fs f)) l
 
-  reached-once : (l : List Frame) (levels : ℕ → ℕ) (links : ℕ) →
-      window (λ n. window (λ k. total m (reaching fs (hop n k) l)) 1 (levels n)) 1 links ≤ total m l
-  reached-once l levels links =
-      omega (
-        arith,
-        window-ext (λ n. window (λ k. total m (reaching fs (hop n k) l)) 1 (levels n)) (λ n. total (on n) l) 1 links
-            (λ n.
-            window-ext (λ k. total m (reaching fs (hop n k) l)) (λ k. total (at n k) l) 1 (levels n) (λ k. reaching-total (hop n k) l)
-            ∙ window-total (at n) l 1 (levels n)),
-        window-total on l 1 links,
-        total-each (λ f. Unit {0}) (λ f. window (λ n. on n f) 1 links) m l (λ f u. once (m f) (hopOf fs f) levels links) (member-all (λ f. Unit {0}) l (λ f m. tt)),
-      )
+  -- What reaches all queues, frame by frame.
+  frame-by-frame : (l : List Frame) (levels : ℕ → ℕ) (links : ℕ) →
+      window (λ n. window (λ k. total m (reaching fs (hop n k) l)) 1 (levels n)) 1 links ≡ total (λ f. brings (m f) (hopOf fs f) levels links) l
+  unfolding brings
+  frame-by-frame l levels links =
+      window-ext (λ n. window (λ k. total m (reaching fs (hop n k) l)) 1 (levels n)) (λ n. total (on n) l) 1 links
+      (λ n.
+      window-ext (λ k. total m (reaching fs (hop n k) l)) (λ k. total (at n k) l) 1 (levels n) (λ k. reaching-total (hop n k) l)
+      ∙ window-total (at n) l 1 (levels n))
+      ∙ window-total on l 1 links
     where
       at : ℕ → ℕ → Frame → ℕ
       at n k f = cond (isAt (hop n k) (hopOf fs f)) (m f) 0
@@ -94,115 +102,137 @@ departed-total m links n (k ∷ ks) =
     )
 
 module _ (t : Table) (fs : List Flow) (r : Run t fs) where
-  -- Over all links: what waits or is under way, and what has left, before an instant.
+  -- How many levels a link has at an instant.
+  abbrev pub levels : (x link : ℕ) → ℕ
+  levels x n = length (r .before x n .levels)
+
   module _ (m : Frame → ℕ) where
-    inside : ℕ → ℕ
-    inside x = window (λ n. held (λ k. m) (r .before x n)) 1 (length t)
-
-    out : ℕ → ℕ
-    out x = total m (departed (r .before x) 1 t)
-
-    -- What reaches any hop at an instant.
+    -- What moves at an instant, what of it reaches the queues of all links, and what has left a link.
     unfoldable pub reached : ℕ → ℕ
     reached x = total m (moved r x)
 
-    balance : (x n : ℕ) → held (λ k. m) (r .before (suc x) n) + total m (r .before (suc x) n .left)
-        ≡ held (λ k. m) (r .before x n) + window (λ k. total m (r .arrivals x n k)) 1 (length (r .before x n .levels))
-    unfolding all enter total
-    balance x n =
-        ap (all m) (r .serves x n ∙ ap (interval (speedOf (linkAt t n))) (r .enters x n))
-        ∙ interval-all m (speedOf (linkAt t n)) (enter (r .arrivals x n) (r .before x n))
-        ∙ omega (arith, enter-held (λ k. m) (r .arrivals x n) (r .before x n))
+    unfoldable pub coming : ℕ → ℕ
+    coming x = total (λ f. brings (m f) (hopOf fs f) (levels x) (length t)) (moved r x)
 
-    step : (x : ℕ) → inside (suc x) + out (suc x) ≤ inside x + reached x
-    unfolding inside out reached
+    unfoldable pub out : ℕ → ℕ
+    out x = total m (departed (r .before x) 1 t)
+
+    -- What waits or is under way on all links, after the arrivals of an instant.
+    unfoldable pub inside : ℕ → ℕ
+    inside x = window (λ n. held (λ k. m) (r .after x n)) 1 (length t)
+
+    pub coming-most : (x : ℕ) → coming x ≤ reached x
+    unfolding coming reached
+    coming-most x =
+        total-below (λ f. brings (m f) (hopOf fs f) (levels x) (length t)) m (moved r x) (λ f. once (m f) (hopOf fs f) (levels x) (length t))
+
+    abbrev new : (x n : ℕ) → ℕ
+    new x n = window (λ k. total m (r .arrivals x n k)) 1 (levels x n)
+
+    all-new : (x : ℕ) → window (new x) 1 (length t) ≡ coming x
+    unfolding coming
+    all-new x =
+        window-ext (new x) (λ n. window (λ k. total m (reaching fs (hop n k) (moved r x))) 1 (levels x n)) 1 (length t)
+        (λ n.
+        window-ext (λ k. total m (r .arrivals x n k)) (λ k. total m (reaching fs (hop n k) (moved r x))) 1 (levels x n)
+        (λ k. total-perm m (r .anyOrder x (hop n k))))
+        ∙ frame-by-frame m fs (moved r x) (levels x) (length t)
+
+    enters : (x n : ℕ) → held (λ k. m) (r .after x n) ≡ held (λ k. m) (r .before x n) + new x n
+    enters x n = rw (r .enters x n) (enter-held (λ k. m) (r .arrivals x n) (r .before x n))
+
+    serves : (x n : ℕ) → held (λ k. m) (r .before (suc x) n) + total m (r .before (suc x) n .left) ≡ held (λ k. m) (r .after x n)
+    unfolding all enter total
+    serves x n =
+        let gone : total m (r .after x n .left) ≡ 0 = ap (λ l. total m (l .left)) (r .enters x n) in
+        ap (all m) (r .serves x n) ∙ interval-all m (speedOf (linkAt t n)) (r .after x n) ∙ omega (arith, gone)
+
+    step : (x : ℕ) → inside (suc x) + out (suc x) ≡ inside x + coming (suc x)
+    unfolding inside out
     step x =
         omega (
           arith,
-          window-ext (λ n. held (λ k. m) (r .before (suc x) n) + total m (r .before (suc x) n .left))
-              (λ n. held (λ k. m) (r .before x n) + new n) 1 (length t) (balance x),
-          window-add (λ n. held (λ k. m) (r .before (suc x) n)) (λ n. total m (r .before (suc x) n .left)) 1 (length t),
-          window-add (λ n. held (λ k. m) (r .before x n)) new 1 (length t),
+          window-ext (λ n. held (λ k. m) (r .after (suc x) n) + total m (r .before (suc x) n .left)) (λ n. held (λ k. m) (r .after x n) + new (suc x) n) 1
+              (length t)
+              (λ n. omega (arith, enters (suc x) n, serves x n)),
+          window-add (λ n. held (λ k. m) (r .after (suc x) n)) (λ n. total m (r .before (suc x) n .left)) 1 (length t),
+          window-add (λ n. held (λ k. m) (r .after x n)) (new (suc x)) 1 (length t),
           departed-total m (r .before (suc x)) 1 t,
-          window-ext new (λ n. window (λ k. total m (reaching fs (hop n k) (moved r x))) 1 (length (r .before x n .levels))) 1 (length t)
-              (λ n.
-              window-ext (λ k. total m (r .arrivals x n k)) (λ k. total m (reaching fs (hop n k) (moved r x))) 1
-              (length (r .before x n .levels)) (λ k. total-perm m (r .anyOrder x (hop n k)))),
-          reached-once m fs (moved r x) (λ n. length (r .before x n .levels)) (length t),
+          all-new (suc x),
         )
-      where
-        new : ℕ → ℕ
-        new n = window (λ k. total m (r .arrivals x n k)) 1 (length (r .before x n .levels))
 
     empty-left : (k : Option Link) → total m (emptyLink k .left) ≡ 0
     unfolding emptyLink total
     empty-left none = refl
     empty-left (some k) = refl
 
-    none-at-first : (inside 0 ≡ 0) × (out 0 ≡ 0)
+    at-first : (inside 0 ≡ coming 0) × (out 0 ≡ 0)
     unfolding inside out
-    none-at-first = (
-      window-zero (λ n. held (λ k. m) (r .before 0 n)) 1 (length t) (λ n a b. rw (r .starts n) (empty-held (λ k. m) (linkAt t n))),
+    at-first = (
+      window-ext (λ n. held (λ k. m) (r .after 0 n)) (new 0) 1 (length t)
+          (λ n. omega (arith, enters 0 n, ap (held (λ k. m)) (r .starts n) ∙ empty-held (λ k. m) (linkAt t n)))
+          ∙ all-new 0,
       departed-total m (r .before 0) 1 t
           ∙ window-zero (λ n. total m (r .before 0 n .left)) 1 (length t) (λ n a b. rw (r .starts n) (empty-left (linkAt t n))),
     )
 
-    -- Up to instant `x`.
-    so-far : (x : ℕ) → window out 0 (suc x) + inside x ≤ window reached 0 x
+    -- What has come to a queue up to instant `x` has left its link, or is inside.
+    pub so-far : (x : ℕ) → window out 0 (suc x) + inside x ≡ window coming 0 (suc x)
     unfolding window
     so-far zero =
         let e : out (0 + 0) ≡ out 0 = ap out (omega arith) in
-        omega (arith, none-at-first)
+        let d : coming (0 + 0) ≡ coming 0 = ap coming (omega arith) in
+        omega (arith, at-first)
     so-far (suc x) =
         let e : out (0 + suc x) ≡ out (suc x) = ap out (omega arith) in
-        let d : reached (0 + x) ≡ reached x = ap reached (omega arith) in
+        let d : coming (0 + suc x) ≡ coming (suc x) = ap coming (omega arith) in
         omega (arith, so-far x, step x)
 
+    out-most : (x : ℕ) → window out 0 x ≤ window reached 0 x
+    unfolding window
+    out-most zero = omega arith
+    out-most (suc x) = omega (arith, so-far x, window-mono coming reached 0 (suc x) (λ y a b. coming-most y))
+
   module _ (w : ℕ → ℕ → ℕ) (j : ℕ) where
+    -- What the source sends at an instant.
     unfoldable pub source : ℕ → ℕ
-    source x = total (λ f. cond (eqb (f .flow) j) (w (f .born) (f .length)) 0) (r .sent x)
+    source x = total (ofFlow w j) (r .sent x)
 
     next-hop : (i x : ℕ) (f : Frame) → atHop w j (suc i) (next x f) ≡ atHop w j i f
-    unfolding atHop next
-    next-hop i x f = ap (λ b. cond (eqb (f .flow) j) (cond b (w (f .born) (f .length)) 0) 0) (eqb·suc-suc (f .hop) i)
+    unfolding atHop ofFlow next
+    next-hop i x f = ap (λ b. cond b (ofFlow w j f) 0) (eqb·suc-suc (f .hop) i)
 
     not-first : (x : ℕ) (f : Frame) → atHop w j 0 (next x f) ≡ 0
-    unfolding atHop next
-    not-first x f =
-        ap (λ b. cond (eqb (f .flow) j) (cond b (w (f .born) (f .length)) 0) 0) (eqb·suc-zero (f .hop)) ∙ cond-same (eqb (f .flow) j) 0
+    unfolding atHop ofFlow next
+    not-first x f = ap (λ b. cond b (ofFlow w j f) 0) (eqb·suc-zero (f .hop))
 
-    sent-later : (i x : ℕ) (f : Frame) → Sends fs x f → atHop w j (suc i) f ≤ 0
+    sent-later : (i x : ℕ) (f : Frame) → Sends fs x f → atHop w j (suc i) f ≡ 0
     unfolding atHop
-    sent-later i x f s =
-        rw (s .first) (omega (arith, ap (λ b. cond (eqb (f .flow) j) (cond b (w (f .born) (f .length)) 0) 0) (eqb·zero-suc i) ∙ cond-same (eqb (f .flow) j) 0))
+    sent-later i x f s = ap (λ h. cond (eqb h (suc i)) (ofFlow w j f) 0) (s .first) ∙ ap (λ b. cond b (ofFlow w j f) 0) (eqb·zero-suc i)
 
-    sent-first : (f : Frame) → atHop w j 0 f ≤ cond (eqb (f .flow) j) (w (f .born) (f .length)) 0
+    sent-first : (x : ℕ) (f : Frame) → Sends fs x f → atHop w j 0 f ≡ ofFlow w j f
     unfolding atHop
-    sent-first f = go (eqb (f .flow) j)
-      where
-        go : (b : Bool) → cond b (cond (eqb (f .hop) 0) (w (f .born) (f .length)) 0) 0 ≤ cond b (w (f .born) (f .length)) 0
-        go true = cond-le (eqb (f .hop) 0) (w (f .born) (f .length))
-        go false = omega arith
+    sent-first x f s = ap (λ b. cond b (ofFlow w j f) 0) (eq-eqb (f .hop) 0 (s .first))
 
-    -- What reaches a hop: from the links, and from the sources.
+    -- What moves to a hop: from the links, and from the sources.
     parts : (i x : ℕ) → reached (atHop w j i) x ≡ total (λ f. atHop w j i (next x f)) (departed (r .before x) 1 t) + total (atHop w j i) (r .sent x)
     unfolding reached moving
     parts i x =
         total-append (atHop w j i) (map (next x) (departed (r .before x) 1 t)) (r .sent x)
         ∙ ap (λ z. z + total (atHop w j i) (r .sent x)) (total-map (next x) (atHop w j i) (departed (r .before x) 1 t))
 
-    reach-next : (i x : ℕ) → reached (atHop w j (suc i)) x ≤ out (atHop w j i) x
+    pub reach-next : (i x : ℕ) → reached (atHop w j (suc i)) x ≡ out (atHop w j i) x
     unfolding out
     reach-next i x =
         omega (
           arith,
           parts (suc i) x,
           total-ext (λ f. atHop w j (suc i) (next x f)) (atHop w j i) (departed (r .before x) 1 t) (next-hop i x),
-          total-each (Sends fs x) (atHop w j (suc i)) (λ f. 0) (r .sent x) (sent-later i x) (r .sends x),
+          total-same (Sends fs x) (atHop w j (suc i)) (λ f. 0) (r .sent x) (sent-later i x) (r .sends x),
           total-zeros (r .sent x),
         )
 
-    reach-first : (x : ℕ) → reached (atHop w j 0) x ≤ source x
+    pub reach-first : (x : ℕ) → reached (atHop w j 0) x ≡ source x
     unfolding source
     reach-first x =
         omega (
@@ -210,16 +240,15 @@ module _ (t : Table) (fs : List Flow) (r : Run t fs) where
           parts 0 x,
           total-ext (λ f. atHop w j 0 (next x f)) (λ f. 0) (departed (r .before x) 1 t) (not-first x),
           total-zeros (departed (r .before x) 1 t),
-          total-each (Sends fs x) (atHop w j 0) (λ f. cond (eqb (f .flow) j) (w (f .born) (f .length)) 0) (r .sent x) (λ f s. sent-first f) (r .sends x),
+          total-same (Sends fs x) (atHop w j 0) (ofFlow w j) (r .sent x) (sent-first x) (r .sends x),
         )
 
     pub conserved : (i x : ℕ) → window (reached (atHop w j i)) 0 x ≤ window source 0 x
-    conserved zero x = window-mono (reached (atHop w j 0)) source 0 x (λ y a b. reach-first y)
+    conserved zero x = omega (arith, window-ext (reached (atHop w j 0)) source 0 x reach-first)
     conserved (suc i) x =
         omega (
           arith,
-          window-mono (reached (atHop w j (suc i))) (out (atHop w j i)) 0 x (λ y a b. reach-next i y),
-          window-longer (out (atHop w j i)) 0 x (suc x) (omega arith),
-          so-far (atHop w j i) x,
+          window-ext (reached (atHop w j (suc i))) (out (atHop w j i)) 0 x (reach-next i),
+          out-most (atHop w j i) x,
           conserved i x,
         )

@@ -1,10 +1,11 @@
 -- One link: a property of each frame and its level, and the order of each level, are kept by an interval and by the arrivals of an instant.
 -- A bit slot moves the head of a level to the wire and from there to those that have left. Assumes nothing.
 use Prim.Native.Nat.{ℕ, zero, suc, _≤_}
-use mathlib.Core.Path.{_≡_}
+use mathlib.Core.Path.{_≡_, refl, ap}
 use mathlib.Core.List.{List, [], _∷_, _++_}
 use mathlib.Core.Option.{Option, none, some}
 use native.Mathlib.Omega.{arith}
+use lib.ListN.{length}
 use Rattle.model.specs.Words.{All}
 use Rattle.model.specs.QueueTable.{Queue, Link}
 use Rattle.model.specs.Run.{Frame, Wire, idle, sending, LinkState, Pick, pastEmpty, pick, start, take, send, interval, append, enter, emptyLevels, emptyLink}
@@ -92,39 +93,63 @@ module _ (P Q R : ℕ → Frame → Type 0) (both : (n : ℕ) (f : Frame) → P 
   wire-both idle h k = tt
   wire-both (sending n f more) h k = both n f h k
 
--- The order of each level.
-abbrev PickRising : Option Pick → Type 0
-PickRising none = Unit {0}
-PickRising (some p) = All Rising (p .rest)
+-- What the levels have whichever frame is picked, an interval keeps.
+abbrev PickKeeps : (List (List Frame) → Type 0) → Option Pick → Type 0
+PickKeeps K none = Unit {0}
+PickKeeps K (some p) = K (p .rest)
 
-pick-rising : (n : ℕ) (qs : List (List Frame)) → All Rising qs → PickRising (pick n qs)
+module _ (K : List (List Frame) → Type 0) (picks : (qs : List (List Frame)) → K qs → PickKeeps K (pick 1 qs)) where
+  take-levels : (w : Wire) (qs : List (List Frame)) (d : List Frame) → K qs → K (take (link w qs d) .levels)
+  unfolding take start
+  take-levels idle qs d h = go (pick 1 qs) (picks qs h)
+    where
+      go : (o : Option Pick) → PickKeeps K o → K (start o (link idle qs d) .levels)
+      go none k = h
+      go (some p) k = k
+  take-levels (sending n f more) qs d h = h
+
+  send-levels : (w : Wire) (qs : List (List Frame)) (d : List Frame) → K qs → K (send (link w qs d) .levels)
+  unfolding send
+  send-levels idle qs d h = h
+  send-levels (sending n f zero) qs d h = h
+  send-levels (sending n f (suc more)) qs d h = h
+
+  pub interval-levels : (n : ℕ) (l : LinkState) → K (l .levels) → K (interval n l .levels)
+  interval-levels =
+      interval-keeps (λ k. K (k .levels)) (λ k. take-levels (k .wire) (k .levels) (k .left)) (λ k. send-levels (k .wire) (k .levels) (k .left))
+
+-- The number of levels.
+pick-count : (c n : ℕ) (qs : List (List Frame)) → length qs ≡ c → PickKeeps (λ l. length l ≡ c) (pick n qs)
+unfolding pick pastEmpty
+pick-count c n [] e = tt
+pick-count c n ([] ∷ qs) e = go (pick (suc n) qs) (pick-count (length qs) (suc n) qs refl)
+  where
+    go : (o : Option Pick) → PickKeeps (λ l. length l ≡ length qs) o → PickKeeps (λ l. length l ≡ c) (pastEmpty o)
+    go none h = tt
+    go (some p) h = omega (arith, h, e)
+pick-count c n ((f ∷ q) ∷ qs) e = e
+
+pub interval-count : (c n : ℕ) (l : LinkState) → length (l .levels) ≡ c → length (interval n l .levels) ≡ c
+interval-count c = interval-levels (λ l. length l ≡ c) (pick-count c 1)
+
+pub append-count : (new : ℕ → List Frame) (n : ℕ) (qs : List (List Frame)) → length (append new n qs) ≡ length qs
+unfolding append
+append-count new n [] = refl
+append-count new n (q ∷ qs) = ap suc (append-count new (suc n) qs)
+
+-- The order of each level.
+pick-rising : (n : ℕ) (qs : List (List Frame)) → All Rising qs → PickKeeps (All Rising) (pick n qs)
 unfolding pick pastEmpty
 pick-rising n [] h = tt
 pick-rising n ([] ∷ qs) h = go (pick (suc n) qs) (pick-rising (suc n) qs (h .1))
   where
-    go : (o : Option Pick) → PickRising o → PickRising (pastEmpty o)
+    go : (o : Option Pick) → PickKeeps (All Rising) o → PickKeeps (All Rising) (pastEmpty o)
     go none h = tt
     go (some p) h = (tt, h)
 pick-rising n ((f ∷ q) ∷ qs) h = (h .0 .1, h .1)
 
-take-rising : (w : Wire) (qs : List (List Frame)) (d : List Frame) → All Rising qs → All Rising (take (link w qs d) .levels)
-unfolding take start
-take-rising idle qs d h = go (pick 1 qs) (pick-rising 1 qs h)
-  where
-    go : (o : Option Pick) → PickRising o → All Rising (start o (link idle qs d) .levels)
-    go none k = h
-    go (some p) k = k
-take-rising (sending n f more) qs d h = h
-
-send-rising : (w : Wire) (qs : List (List Frame)) (d : List Frame) → All Rising qs → All Rising (send (link w qs d) .levels)
-unfolding send
-send-rising idle qs d h = h
-send-rising (sending n f zero) qs d h = h
-send-rising (sending n f (suc more)) qs d h = h
-
 pub interval-rising : (n : ℕ) (l : LinkState) → All Rising (l .levels) → All Rising (interval n l .levels)
-interval-rising =
-    interval-keeps (λ k. All Rising (k .levels)) (λ k. take-rising (k .wire) (k .levels) (k .left)) (λ k. send-rising (k .wire) (k .levels) (k .left))
+interval-rising = interval-levels (All Rising) (pick-rising 1)
 
 rising-append : (x : ℕ) (q new : List Frame) → Rising q → All (λ f. f .since ≤ x) q → All (λ f. f .since ≡ x) new → Rising new → Rising (q ++ new)
 rising-append x [] new h u e k = k

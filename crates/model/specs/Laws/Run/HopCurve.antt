@@ -15,18 +15,17 @@ use Rattle.model.specs.QueueTable.{Table}
 use Rattle.model.specs.Orders.{Flow}
 use Rattle.model.specs.Schedulable.{Schedulable}
 use Rattle.model.specs.Run.{Frame, Sends, Run, Conforming, bytesOf, window}
+use Rattle.model.specs.Delivery.{anyBirth, ofFlow, atHop}
 use Rattle.model.specs.Laws.Run.BoundSums.{burst-covers}
 use Rattle.model.specs.Laws.Total.{total-each, total-cond}
 use Rattle.model.specs.Laws.Test.{cond-le}
 use Rattle.model.specs.Laws.Run.Windows.{window-mono, window-zero, window-join}
 use Rattle.model.specs.Laws.Run.ArrivalCurve.{Curve}
-use Rattle.model.specs.Laws.Run.Jitter.{moved, upstream, OnTime, NotLate, moves}
-use Rattle.model.specs.Laws.Run.Conservation.{atHop, reached, source, conserved}
+use Rattle.model.specs.Laws.Run.Standing.{moved}
+use Rattle.model.specs.Laws.Run.Jitter.{upstream, OnTime, NotLate, moves}
+use Rattle.model.specs.Laws.Run.Conservation.{reached, source, conserved}
 
--- Bytes, of whichever birth; and bytes of frames that were sent at instant `c` or later.
-abbrev pub anyBirth : ℕ → ℕ → ℕ
-anyBirth born length = length
-
+-- Bytes of frames that were sent at instant `c` or later.
 abbrev bornFrom : ℕ → ℕ → ℕ → ℕ
 bornFrom c born length = cond (leb c born) length 0
 
@@ -34,13 +33,13 @@ module _ (t : Table) (fs : List Flow) (sch : Schedulable t fs) (r : Run t fs) (h
     (j : ℕ) (fl : Flow) (known : getElem? fs j ≡ some fl) where
   -- Who comes to hop `i` at instant `s` or later was sent at most `upstream` before `s`.
   young : (s i : ℕ) (f : Frame) → OnTime t fs f → s ≤ f .since → atHop anyBirth j i f ≤ atHop (bornFrom (s - upstream t (fl .path) i)) j i f
-  unfolding atHop
+  unfolding atHop ofFlow
   young s i f o u = go (eqb (f .flow) j) refl (eqb (f .hop) i) refl
     where
       go : (b : Bool) → eqb (f .flow) j ≡ b → (d : Bool) → eqb (f .hop) i ≡ d →
-          cond b (cond d (f .length) 0) 0 ≤ cond b (cond d (cond (leb (s - upstream t (fl .path) i) (f .born)) (f .length) 0) 0) 0
-      go false e d k = omega arith
-      go true e false k = omega arith
+          cond d (cond b (f .length) 0) 0 ≤ cond d (cond b (cond (leb (s - upstream t (fl .path) i) (f .born)) (f .length) 0) 0) 0
+      go b e false k = omega arith
+      go false e true k = omega arith
       go true e true k = rw (le-leb (s - upstream t (fl .path) i) (f .born) in-time) (omega arith)
         where
           same : o .flow ≡ fl
@@ -60,7 +59,7 @@ module _ (t : Table) (fs : List Flow) (sch : Schedulable t fs) (r : Run t fs) (h
 
   -- The source sends such frames at instant `c` or later.
   source-from : (c x : ℕ) → source t fs r (bornFrom c) j x ≤ cond (leb c x) (bytesOf j (r .sent x)) 0
-  unfolding source bytesOf
+  unfolding source ofFlow bytesOf
   source-from c x =
       omega (
         arith,

@@ -2,19 +2,18 @@
 -- Induction over instants, not over paths, so that cycles of links do no harm. Assumes nothing.
 use Prim.Native.Nat.{ℕ, zero, suc, _+_, _≤_, _<_}
 use mathlib.Core.Path.{_≡_, refl, sym, ap, _∙_}
-use mathlib.Core.Bool.{Bool, true, false, cond, false≢true}
 use mathlib.Core.List.{List, [], _∷_, map}
-use mathlib.Core.Option.{Option, none, some, Option·none-ne-some}
+use mathlib.Core.Option.{some, Option·none-ne-some}
 use native.Mathlib.Omega.{arith}
 use lib.ListN.{getElem?}
-use Rattle.model.specs.Words.{All, andThen}
+use Rattle.model.specs.Words.{All}
 use Rattle.model.specs.QueueTable.{Table}
 use Rattle.model.specs.Orders.{Hop, Flow}
 use Rattle.model.specs.Aggregates.{linkAt, queueAt, thresholdOf}
-use Rattle.model.specs.Laws.Aggregates.{same-hop}
 use Rattle.model.specs.Schedulable.{Named, FlowMeets, Schedulable}
-use Rattle.model.specs.Run.{Frame, LinkState, Sends, Run, hopOf, next, departed, moving, isAt, reaching, speedOf, inQueue}
-use Rattle.model.specs.Laws.All.{all-imp, all-append, map-all, all-at, all-perm}
+use Rattle.model.specs.Run.{Frame, Sends, Run, hopOf, next, departed, moving, speedOf, inQueue}
+use Rattle.model.specs.Laws.All.{all-imp, all-append, map-all, all-at}
+use Rattle.model.specs.Laws.Run.Standing.{hop, moved, known-hop, departed-all, arrivals-all}
 use Rattle.model.specs.Laws.Run.OneLink.{EachLevel, OnWire, Each}
 use Rattle.model.specs.Laws.Run.EachFrame.{interval-each, enter-each, empty-each, levels-both, wire-both}
 use Rattle.model.specs.Laws.Run.InQueue.{each-queue}
@@ -33,19 +32,12 @@ pub record OnTime (t : Table) (fs : List Flow) (f : Frame) : Type 0 where
   pub short : f .length ≤ flow .frame
   pub jitter : f .since ≤ f .born + upstream t (flow .path) (f .hop)
 
-abbrev pub hop : (link level : ℕ) → Hop
-hop link level = record { link = link; level = level }
-
 -- It stands in queue (link, level), and at instant `x` it is not past its threshold.
 pub record Placed (t : Table) (fs : List Flow) (x link level : ℕ) (f : Frame) : Type 0 where
   pub onTime : OnTime t fs f
   pub here : hopOf fs f ≡ some (hop link level)
   pub came : f .since ≤ x
   pub soon : x ≤ f .since + thresholdOf (queueAt t (hop link level))
-
--- What moves at instant `x` of a run.
-abbrev pub moved : {t : Table} {fs : List Flow} → Run t fs → ℕ → List Frame
-moved {t} r x = moving t (r .before x) x (r .sent x)
 
 -- No frame is late before instant `x`.
 abbrev pub NotLate : (t : Table) (fs : List Flow) → Run t fs → (x : ℕ) → Type 0
@@ -59,15 +51,6 @@ upstream-next t (k ∷ path) zero h e =
     let d : k ≡ h = cc in
     omega (arith, ap (λ z. thresholdOf (queueAt t z)) d)
 upstream-next t (k ∷ path) (suc i) h e = omega (arith, upstream-next t path i h e)
-
--- The path of its flow has a frame's hop.
-pub known-hop : (fs : List Flow) (f : Frame) (fl : Flow) → getElem? fs (f .flow) ≡ some fl → hopOf fs f ≡ getElem? (fl .path) (f .hop)
-unfolding hopOf
-known-hop fs f fl e = ap (λ o. andThen o (λ fl. getElem? (fl .path) (f .hop))) e
-
-at-hop : (q : Hop) (o : Option Hop) → isAt q o ≡ true → o ≡ some q
-at-hop q none e = absurd (false≢true e)
-at-hop q (some h) e = ap some (sym (same-hop q h e))
 
 module _ (t : Table) (fs : List Flow) (sch : Schedulable t fs) (r : Run t fs) where
   pub meets : (f : Frame) → (o : OnTime t fs f) → FlowMeets t fs (o .flow)
@@ -83,7 +66,7 @@ module _ (t : Table) (fs : List Flow) (sch : Schedulable t fs) (r : Run t fs) wh
       rw (n .found) (sch .thresholds h (n .queue) (n .found))
 
   -- A frame that leaves a queue in time reaches the next hop in time.
-  leaves : (x n level : ℕ) (f : Frame) → Placed t fs x n level f → OnTime t fs (next x f)
+  pub leaves : (x n level : ℕ) (f : Frame) → Placed t fs x n level f → OnTime t fs (next x f)
   unfolding next
   leaves x n level f p =
       let o = p .onTime in
@@ -105,11 +88,6 @@ module _ (t : Table) (fs : List Flow) (sch : Schedulable t fs) (r : Run t fs) wh
   added x f s =
       record { flow = s .flow; known = s .known; long = s .least; short = s .most; jitter = omega (arith, s .since, s .born) }
 
-  departed-all : (P : Frame → Type 0) (links : ℕ → LinkState) → ((n : ℕ) → All P (links n .left)) → (n : ℕ) (ks : Table) → All P (departed links n ks)
-  unfolding departed
-  departed-all P links h n [] = tt
-  departed-all P links h n (k ∷ ks) = all-append P (links n .left) (departed links (suc n) ks) (h n) (departed-all P links h (suc n) ks)
-
   moved-on-time : (x : ℕ) → ((n : ℕ) → Each (Placed t fs x n) (r .before x n)) → All (λ f. OnTime t fs f × (f .since ≡ x)) (moved r x)
   unfolding moving next
   moved-on-time x each =
@@ -123,22 +101,9 @@ module _ (t : Table) (fs : List Flow) (sch : Schedulable t fs) (r : Run t fs) wh
           all-imp (r .before x n .left)
           (λ f p. (leaves x n (p .0) f (p .1), refl)) (each n .left)
 
-  -- What reaches a queue at instant `x`.
-  abbrev pub Arrived : (x link level : ℕ) → Frame → Type 0
-  Arrived x link level f = OnTime t fs f × (f .since ≡ x) × (hopOf fs f ≡ some (hop link level))
-
-  reaching-all : (x : ℕ) (q : Hop) (l : List Frame) → All (λ f. OnTime t fs f × (f .since ≡ x)) l → All (Arrived x (q .link) (q .level)) (reaching fs q l)
-  unfolding reaching
-  reaching-all x q [] h = tt
-  reaching-all x q (f ∷ l) h = go (isAt q (hopOf fs f)) refl (reaching-all x q l (h .1))
-    where
-      go : (b : Bool) → isAt q (hopOf fs f) ≡ b → All (Arrived x (q .link) (q .level)) (reaching fs q l) →
-          All (Arrived x (q .link) (q .level)) (cond b (f ∷ reaching fs q l) (reaching fs q l))
-      go true e k = ((h .0 .0, h .0 .1, at-hop q (hopOf fs f) e), k)
-      go false e k = k
-
-  pub arrived : (x : ℕ) → All (λ f. OnTime t fs f × (f .since ≡ x)) (moved r x) → (n level : ℕ) → All (Arrived x n level) (r .arrivals x n level)
-  arrived x h n level = all-perm (Arrived x n level) (r .anyOrder x (hop n level)) (reaching-all x (hop n level) (moved r x) h)
+  pub arrived : (x : ℕ) → All (λ f. OnTime t fs f × (f .since ≡ x)) (moved r x) →
+      (n level : ℕ) → All (λ f. (OnTime t fs f × (f .since ≡ x)) × (hopOf fs f ≡ some (hop n level))) (r .arrivals x n level)
+  arrived x = arrivals-all t fs r (λ f. OnTime t fs f × (f .since ≡ x)) x
 
   pub after-placed : (x : ℕ) → NotLate t fs r x → ((n : ℕ) → Each (Placed t fs x n) (r .before x n)) → (n : ℕ) → Each (Placed t fs (suc x) n) (r .after x n)
   after-placed x ok each n =
@@ -161,10 +126,10 @@ module _ (t : Table) (fs : List Flow) (sch : Schedulable t fs) (r : Run t fs) wh
           all-imp (r .arrivals x n level)
           (λ f a.
           record {
-            onTime = a .0;
-            here = a .2;
-            came = omega (arith, a .1);
-            soon = omega (arith, a .1, positive f (a .0) (hop n level) (a .2));
+            onTime = a .0 .0;
+            here = a .1;
+            came = omega (arith, a .0 .1);
+            soon = omega (arith, a .0 .1, positive f (a .0 .0) (hop n level) (a .1));
           })
           (arrived x (moved-on-time x each) n level)
 

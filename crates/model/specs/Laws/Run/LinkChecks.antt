@@ -23,7 +23,7 @@ use Rattle.model.specs.Laws.LinkCheck.{LevelsMeet, link-meets}
 use Rattle.model.specs.Laws.Levels.{level-admits}
 use Rattle.model.specs.Run.{window}
 use Rattle.model.specs.Laws.Run.Windows.{window-front, window-last, window-longer}
-use Rattle.model.specs.Laws.Run.Jitter.{hop}
+use Rattle.model.specs.Laws.Run.Standing.{hop}
 
 module _ (t : Table) (fs : List Flow) (link : ℕ) where
   abbrev pub at : ℕ → Aggregate

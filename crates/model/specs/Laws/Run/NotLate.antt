@@ -24,7 +24,8 @@ use Rattle.model.specs.Laws.Run.EachFrame.{each-up}
 use Rattle.model.specs.Laws.Run.BusyPeriod.{Sound, Served}
 use Rattle.model.specs.Laws.Run.InQueue.{queue-each}
 use Rattle.model.specs.Laws.Run.LevelBounds.{not-late, fits}
-use Rattle.model.specs.Laws.Run.Jitter.{OnTime, Placed, NotLate, hop, known-hop, meets, named, arrived, moves, placed, after-placed}
+use Rattle.model.specs.Laws.Run.Jitter.{OnTime, Placed, NotLate, meets, named, arrived, moves, placed, after-placed}
+use Rattle.model.specs.Laws.Run.Standing.{hop, known-hop}
 use Rattle.model.specs.Laws.Run.QueueCurve.{queue-curve}
 use Rattle.model.specs.Laws.Run.LinkChecks.{at, Passes, passes}
 
@@ -111,7 +112,7 @@ module _ (t : Table) (fs : List Flow) (sch : Schedulable t fs) (r : Run t fs) (c
               (placed t fs sch r y (before-ok y u) n);
           news = λ y u level.
               all-imp (r .arrivals y n level)
-              (λ f a. (record { long = omega (arith, a .0 .long); short = in-lim n l e level f (a .0) (a .2); came = omega (arith, a .1) }, a .1))
+              (λ f a. (record { long = omega (arith, a .0 .0 .long); short = in-lim n l e level f (a .0 .0) (a .1); came = omega (arith, a .0 .1) }, a .0 .1))
               (arrived t fs sch r y (moves t fs sch r y (before-ok y u)) n level);
         }
 
@@ -166,7 +167,7 @@ module _ (t : Table) (fs : List Flow) (sch : Schedulable t fs) (r : Run t fs) (c
             (λ g u. omega (arith, threshold-is (hop n (suc i)) (k .queue) (k .isFound)))
             (rw e at (level-not-late n i f (p .0 .onTime) (p .0 .here)))
 
-  earlier : (x m : ℕ) → m < x → NotLate t fs r m
+  pub earlier : (x m : ℕ) → m < x → NotLate t fs r m
   earlier zero m u = absurd (omega arith)
   earlier (suc x) m u = go (eqb m x) refl (earlier x)
     where
@@ -180,11 +181,16 @@ module _ (t : Table) (fs : List Flow) (sch : Schedulable t fs) (r : Run t fs) (c
       (λ f u. omega (arith, threshold-is h q e))
       (now x (earlier x) (h .link) (h .level))
 
+  -- The frames of a queue after the arrivals of an instant.
+  pub queue-placed : (x link level : ℕ) → All (Placed t fs (suc x) link level) (inQueue level (r .after x link))
+  queue-placed x n level =
+      queue-each (Placed t fs (suc x) n) level (r .after x n) (after-placed t fs sch r x (now x (earlier x)) (placed t fs sch r x (earlier x)) n)
+
   pub always-fits : (x : ℕ) (h : Hop) (q : Queue) → queueAt t h ≡ some q → total (λ f. f .length) (inQueue (h .level) (r .after x (h .link))) ≤ q .buffer
   unfolding total
   always-fits x h q e =
       go (h .level) e (inQueue (h .level) (r .after x (h .link))) refl
-      (queue-each (Placed t fs (suc x) n) (h .level) (r .after x n) (after-placed t fs sch r x (now x (earlier x)) (placed t fs sch r x (earlier x)) n))
+      (queue-placed x n (h .level))
     where
       n : ℕ
       n = h .link

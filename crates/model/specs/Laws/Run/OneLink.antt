@@ -136,21 +136,39 @@ module _ (m : ℕ → Frame → ℕ) where
   empty-held none = refl
   empty-held (some k) = omega (arith, empty-waiting 1 (k .levels))
 
+-- Two weights compared where the frames have a property, and where they need none.
+module _ (P : ℕ → Frame → Type 0) (m k : ℕ → Frame → ℕ) (le : (n : ℕ) (f : Frame) → P n f → m n f ≤ k n f) where
+  waiting-each : (n : ℕ) (qs : List (List Frame)) → EachLevel P n qs → waiting m n qs ≤ waiting k n qs
+  unfolding waiting
+  waiting-each n [] h = omega arith
+  waiting-each n (q ∷ qs) h = omega (arith, total-each (P n) (m n) (k n) q (le n) (h .0), waiting-each (suc n) qs (h .1))
+
+  wire-each : (w : Wire) → OnWire P w → underWay m w ≤ underWay k w
+  unfolding underWay
+  wire-each idle h = omega arith
+  wire-each (sending n f more) h = le n f h
+
+  pub held-each : (l : LinkState) → OnWire P (l .wire) → EachLevel P 1 (l .levels) → held m l ≤ held k l
+  unfolding held
+  held-each l w h = omega (arith, wire-each (l .wire) w, waiting-each 1 (l .levels) h)
+
+abbrev Any : ℕ → Frame → Type 0
+Any n f = Unit {0}
+
+any-level : (n : ℕ) (qs : List (List Frame)) → EachLevel Any n qs
+any-level n [] = tt
+any-level n (q ∷ qs) = (member-all (Any n) q (λ f m. tt), any-level (suc n) qs)
+
+any-wire : (w : Wire) → OnWire Any w
+any-wire idle = tt
+any-wire (sending n f more) = tt
+
 module _ (m k : ℕ → Frame → ℕ) (le : (n : ℕ) (f : Frame) → m n f ≤ k n f) where
   pub waiting-le : (n : ℕ) (qs : List (List Frame)) → waiting m n qs ≤ waiting k n qs
-  unfolding waiting
-  waiting-le n [] = omega arith
-  waiting-le n (q ∷ qs) =
-      omega (arith, total-each (λ f. Unit {0}) (m n) (k n) q (λ f u. le n f) (member-all (λ f. Unit {0}) q (λ f m. tt)), waiting-le (suc n) qs)
-
-  wire-le : (w : Wire) → underWay m w ≤ underWay k w
-  unfolding underWay
-  wire-le idle = omega arith
-  wire-le (sending n f more) = le n f
+  waiting-le n qs = waiting-each Any m k (λ n f u. le n f) n qs (any-level n qs)
 
   pub held-le : (l : LinkState) → held m l ≤ held k l
-  unfolding held
-  held-le l = omega (arith, wire-le (l .wire), waiting-le 1 (l .levels))
+  held-le l = held-each Any m k (λ n f u. le n f) l (any-wire (l .wire)) (any-level 1 (l .levels))
 
 -- Frames that have left count on: an interval keeps the weight of all.
 module _ (m : Frame → ℕ) where

@@ -15,13 +15,15 @@ use Rattle.model.specs.Orders.{Hop, Flow}
 use Rattle.model.specs.Aggregates.{queueAt, thresholdOf, Share, shares, allShares, sameHop, addsAt, aggregateAt}
 use Rattle.model.specs.Schedulable.{Schedulable}
 use Rattle.model.specs.Run.{Frame, Run, Conforming, hopOf, isAt}
+use Rattle.model.specs.Delivery.{anyBirth, ofFlow, atHop}
 use Rattle.model.specs.Laws.Total.{total-append, total-add, total-zeros, total-cond, total-each, total-perm}
 use Rattle.model.specs.Laws.Run.Windows.{window-ext, window-add}
 use Rattle.model.specs.Laws.Run.ArrivalCurve.{Curve, curve-zero, curve-le, curve-add, curve-cond}
 use Rattle.model.specs.Laws.Run.LevelArrivals.{bytes}
-use Rattle.model.specs.Laws.Run.Jitter.{moved, upstream, OnTime, NotLate, known-hop, moves}
-use Rattle.model.specs.Laws.Run.Conservation.{atHop, reached, reaching-total}
-use Rattle.model.specs.Laws.Run.HopCurve.{anyBirth, hop-curve}
+use Rattle.model.specs.Laws.Run.Standing.{moved, known-hop}
+use Rattle.model.specs.Laws.Run.Jitter.{upstream, OnTime, NotLate, moves}
+use Rattle.model.specs.Laws.Run.Conservation.{reached, reaching-total}
+use Rattle.model.specs.Laws.Run.HopCurve.{hop-curve}
 
 -- What a frame brings to queue `q` at one of the hops of flow `j`, which are those from index `i` on;
 -- and at a hop of one of the flows, which are those from index `j` on.
@@ -35,7 +37,7 @@ module _ (q : Hop) where
   flowsShare j (fl ∷ fs) f = hopsShare j 0 (fl .path) f + flowsShare (suc j) fs f
 
   at-own : (j i : ℕ) (f : Frame) → f .flow ≡ j → f .hop ≡ i → atHop anyBirth j i f ≡ f .length
-  unfolding atHop
+  unfolding atHop ofFlow
   at-own j i f a b = rw (eq-eqb (f .flow) j a, eq-eqb (f .hop) i b)
 
   hop-share : (j i k : ℕ) (path : List Hop) (f : Frame) (h : Hop) → getElem? path k ≡ some h → f .flow ≡ j → f .hop ≡ i + k →

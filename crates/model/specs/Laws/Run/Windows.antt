@@ -74,6 +74,12 @@ window-at f p a (suc n) h = go (eqb (a + n) p) refl (window-at f p a n h)
         omega (arith, window-zero f a n (λ x l u. h x (λ k. omega (arith, k, eqb-true (a + n) p e))), ap f (eqb-true (a + n) p e))
     go false e ih = omega (arith, h (a + n) (eqb-false (a + n) p e))
 
+-- A number of the window counts in it.
+pub window-has : (f : ℕ → ℕ) (p a n : ℕ) → a ≤ p → p < a + n → f p ≤ window f a n
+window-has f p a n l u =
+    let e : a + (p - a) ≡ p = omega arith in
+    omega (arith, window-longer f a (suc (p - a)) n (omega arith), window-last f a (p - a), ap f e)
+
 -- Sums change places.
 pub window-total : {A : Type 0} (c : ℕ → A → ℕ) (l : List A) (a n : ℕ) → window (λ k. total (c k) l) a n ≡ total (λ x. window (λ k. c k x) a n) l
 unfolding window

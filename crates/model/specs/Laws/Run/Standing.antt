@@ -1,0 +1,75 @@
+-- The network: in every run, whatever its sources send, each frame stands in the queue of its own hop, and each link keeps the number of its levels.
+-- A queue takes in only what reaches it. Induction over instants. Assumes nothing.
+use Prim.Native.Nat.{ℕ, zero, suc}
+use mathlib.Core.Path.{_≡_, sym, ap, _∙_}
+use mathlib.Core.Bool.{true, false≢true}
+use mathlib.Core.List.{List, [], _∷_}
+use mathlib.Core.Option.{Option, none, some}
+use lib.ListN.{length, getElem?}
+use Rattle.model.specs.Words.{All, andThen}
+use Rattle.model.specs.QueueTable.{Table}
+use Rattle.model.specs.Orders.{Hop, Flow}
+use Rattle.model.specs.Aggregates.{linkAt}
+use Rattle.model.specs.Laws.Aggregates.{same-hop}
+use Rattle.model.specs.Run.{Frame, LinkState, Run, hopOf, departed, moving, isAt, reaching, enter, emptyLink, speedOf}
+use Rattle.model.specs.Laws.All.{all-imp, all-append, all-perm, filter-all, member-all}
+use Rattle.model.specs.Laws.Run.OneLink.{Each}
+use Rattle.model.specs.Laws.Run.EachFrame.{interval-each, enter-each, empty-each, interval-count, append-count}
+
+abbrev pub hop : (link level : ℕ) → Hop
+hop link level = record { link = link; level = level }
+
+-- What moves at instant `x` of a run.
+abbrev pub moved : {t : Table} {fs : List Flow} → Run t fs → ℕ → List Frame
+moved {t} r x = moving t (r .before x) x (r .sent x)
+
+-- The path of its flow has a frame's hop.
+pub known-hop : (fs : List Flow) (f : Frame) (fl : Flow) → getElem? fs (f .flow) ≡ some fl → hopOf fs f ≡ getElem? (fl .path) (f .hop)
+unfolding hopOf
+known-hop fs f fl e = ap (λ o. andThen o (λ fl. getElem? (fl .path) (f .hop))) e
+
+at-hop : (q : Hop) (o : Option Hop) → isAt q o ≡ true → o ≡ some q
+at-hop q none e = absurd (false≢true e)
+at-hop q (some h) e = ap some (sym (same-hop q h e))
+
+pub departed-all : (P : Frame → Type 0) (links : ℕ → LinkState) → ((n : ℕ) → All P (links n .left)) → (n : ℕ) (ks : Table) → All P (departed links n ks)
+unfolding departed
+departed-all P links h n [] = tt
+departed-all P links h n (k ∷ ks) = all-append P (links n .left) (departed links (suc n) ks) (h n) (departed-all P links h (suc n) ks)
+
+module _ (t : Table) (fs : List Flow) (r : Run t fs) where
+  -- What reaches a queue is some of what moves, and the queue is its own.
+  pub arrivals-all : (P : Frame → Type 0) (x : ℕ) → All P (moved r x)
+      → (n level : ℕ) → All (λ f. P f × (hopOf fs f ≡ some (hop n level))) (r .arrivals x n level)
+  unfolding reaching
+  arrivals-all P x a n level =
+      all-perm (λ f. P f × (hopOf fs f ≡ some (hop n level))) (r .anyOrder x (hop n level))
+      (all-imp (reaching fs (hop n level) (moved r x)) (λ f p. (p .0, at-hop (hop n level) (hopOf fs f) (p .1)))
+      (filter-all P (λ f. isAt (hop n level) (hopOf fs f)) (moved r x) a))
+
+  abbrev pub Stands : (link level : ℕ) → Frame → Type 0
+  Stands n level f = hopOf fs f ≡ some (hop n level)
+
+  after-stands : (x n : ℕ) → Each (Stands n) (r .before x n) → Each (Stands n) (r .after x n)
+  after-stands x n each =
+      rw (r .enters x n)
+      (enter-each (Stands n) (r .arrivals x n) (r .before x n)
+      (λ level. all-imp (r .arrivals x n level) (λ f p. p .1)
+      (arrivals-all (λ f. Unit {0}) x (member-all (λ f. Unit {0}) (moved r x) (λ f m. tt)) n level))
+      (each .wire) (each .levels))
+
+  pub stands-before : (x n : ℕ) → Each (Stands n) (r .before x n)
+  stands-before zero n = rw (r .starts n) (empty-each (Stands n) (linkAt t n))
+  stands-before (suc x) n =
+      rw (r .serves x n) (interval-each (Stands n) (speedOf (linkAt t n)) (r .after x n) (after-stands x n (stands-before x n)))
+
+  pub stands : (x n : ℕ) → Each (Stands n) (r .after x n)
+  stands x n = after-stands x n (stands-before x n)
+
+  pub level-count : (x n : ℕ) → length (r .before x n .levels) ≡ length (emptyLink (linkAt t n) .levels)
+  unfolding enter
+  level-count zero n = ap (λ l. length (l .levels)) (r .starts n)
+  level-count (suc x) n =
+      rw (r .serves x n)
+      (interval-count (length (emptyLink (linkAt t n) .levels)) (speedOf (linkAt t n)) (r .after x n)
+      (rw (r .enters x n) (append-count (r .arrivals x n) 1 (r .before x n .levels) ∙ level-count x n)))
