@@ -52,7 +52,7 @@ pub record Kept (table slots pool sums : List ℕ) : Type 0 where
   pub is-consistent : consistent (stateOf table slots pool) ≡ true
   pub figures : Figures (tableOf table) (model.heldFlows (slotsOf slots pool)) sums
 
--- The order was done as the reference model does it, and the registry is consistent after it.
+-- The order was done as the reference model does it, and the registry is consistent after it. Free: the other numbers of free slots, unused hop entries.
 pub record Stepped (o : model-orders.Order) (table slots pool slots′ pool′ sums′ : List ℕ) (r : Answer) : Type 0 where
   pub answer : answerOf r ≡ model.apply (stateOf table slots pool) o .answer
   pub next : stateOf table slots′ pool′ ≡ model.apply (stateOf table slots pool) o .next

@@ -164,7 +164,8 @@ abbrev pub causeWith : (table sums : List ℕ) (e : ℕ) (share : Aggregate) →
 causeWith table sums e share =
     linkCause (linkIn e + 1) (linkFinding (speedAt table (linkIn e)) (upTo levelsMost (queueAt table (linkIn e))) (levelsWith sums e share))
 
--- The first of 21 to 23 along the path with the flow beside the others, which are on queues of the table.
+-- The first of 21 to 23 along the path with the flow beside the others, which are on queues of the table. Free where a link is met twice or a queue
+-- that the table lacks has figures.
 pub record PathChecked (share : Aggregate) (table sums entries : List ℕ) (r : Finding) : Type 0 where
   pub first : (fs : List Flow) (f : Flow) → WellFormed table → OnTable table entries → FlowOf share entries f
       → Figures (tableOf table) fs sums
@@ -179,7 +180,7 @@ codeAt table sums link = linkFinding (speedAt table link) (upTo levelsMost (queu
 pub record LinkSpeeds (table : List ℕ) : Type 0 where
   pub each : (link : ℕ) → link < linkCount table → speedAt table link ≤ 10000
 
--- Whether every link of the table meets 21 to 23 with flows on its queues that have these figures.
+-- Whether every link of the table meets 21 to 23 with flows on its queues that have these figures. Free where no flows have them.
 pub record LinksMet (table sums : List ℕ) (r : Bool) : Type 0 where
   pub sound : r ≡ true → (fs : List Flow) → Figures (tableOf table) fs sums → All (λ g. All (Named (tableOf table)) (g .path)) fs
       → (link : ℕ) → LinkMeets (tableOf table) fs link

@@ -38,13 +38,13 @@ pub record PathNamed (f : Flow) (hops table entries : List ℕ) : Type 0 where
   pub queues : AllQueues table (take (f .hops) entries)
   pub once : model-causes.atHop 16 model-causes.metEarlier [] (linePath hops (f .hops)) ≡ none
 
--- 14, 16, 15 and 20 of the line's flow.
+-- 14, 16, 15 and 20 of the line's flow. Free: the entries beside a cause.
 pub record PathJudged (f : Flow) (hops table : List ℕ) (r : Judged) : Type 0 where
   pub first : findingOf (r .finding)
       ≡ model-causes.firstCause (pathFindings (tableOf table) (f .deadline .0) (linePath hops (f .hops)))
   pub named : findingOf (r .finding) ≡ none → PathNamed f hops table (r .entries)
 
--- The causes before 30 against the line's flow, beside the flows in the slots.
+-- The causes before 30 against the line's flow, beside the flows in the slots. Free: the entries beside a cause.
 pub record FlowJudged (f : Flow) (hops table slots : List ℕ) (r : Judged) : Type 0 where
   pub first : (pool : List ℕ)
       → findingOf (r .finding)

@@ -107,7 +107,8 @@ entriesIn slots pool i = take (countAt slots i) (drop (countsFrom i 0 slots) poo
 abbrev pub flowIn : (slots pool : List ℕ) (i : ℕ) → model.Flow
 flowIn slots pool i = flowAt slots i (entriesIn slots pool i)
 
--- Two arrays of the right size whose entries fit the pool.
+-- Two arrays of the right size whose entries fit the pool. The other numbers of a free slot, and the entries past the counts, are no flow's: what
+-- `insert` and `remove` leave there is free.
 pub record Store (slots pool : List ℕ) : Type 0 where
   pub slots-long : length slots ≡ slotNumbers
   pub pool-long : length pool ≡ hopEntries

@@ -14,7 +14,7 @@ use Rattle.path_check.specs.declared.Located.{Located}
 use Rattle.path_check.specs.declared.Entry.{Entry}
 use Rattle.path_check.specs.declared.Entry.the-variants.{At, Missing}
 
--- The cause with this code at hop i of a path, counted from 0; none past its end.
+-- The cause with this code at hop i of a path, counted from 0; none past its end. Of hops with the same link and level any may stand for the first.
 unfoldable pub hopCause : (code : ℕ) (path : List Hop) (i : ℕ) → Option Cause
 hopCause code [] i = none
 hopCause code (h ∷ path) zero = some (record { code = code; link = h .link; level = h .level })
@@ -29,7 +29,8 @@ EntryOf table h Missing = queueAt (tableOf table) h ≡ none
 abbrev pub earlierThan : (entries : List ℕ) (i : ℕ) → List Hop
 earlierThan entries i = reverse (take i (map hopAt entries))
 
--- `missing` is the first hop without a queue, and the hop count where each has one; then the entries name the path.
+-- `missing` is the first hop without a queue, and the hop count where each has one; then the entries name the path. Free: the entries behind it, and
+-- all of them where a queue is missing.
 pub record PathLocated (table hops : List ℕ) (count : ℕ) (r : Located) : Type 0 where
   pub first : atHop 14 (noQueue (tableOf table)) [] (linePath hops count) ≡ hopCause 14 (linePath hops count) (r .missing)
   pub within : r .missing ≤ count

@@ -41,7 +41,7 @@ pub record Runs (first : Registry) (calls area area′ : List ℕ) (r : Ran) : T
   pub chain : Chain first (madeCalls calls area) given (r .registry)
   pub written : area′ ≡ answered area (length (madeCalls calls area)) given
 
--- On any table text: the table's verdict, how many calls were made and where the last one ends, and all that is claimed of them.
+-- On any table text, by value or in place, which the contract doesn't tell apart: the table's verdict, how many calls were made and where the last one ends, and all that is claimed of them.
 pub record Replays (table calls area area′ : List ℕ) (r : Replayed) : Type 0 where
   pub verdict : textOf (r .verdict) (tableOf (r .registry .table)) ≡ readTable table
   pub count : r .count ≡ length (madeCalls calls area)

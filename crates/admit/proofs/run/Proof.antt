@@ -20,11 +20,11 @@ long c = search (needs, length-unmapped)
 array-share-prefix-answers : tie.Need-array-share-prefix-answers
 array-share-prefix-answers c = omega (arith, few c, long c)
 
-slice-aggregate-write-all : tie.Need-slice-aggregate-write-all
-slice-aggregate-write-all c = sym (length-take-le _ _ (array-share-prefix-answers (c .before)))
+slice-aggregate-print : tie.Need-slice-aggregate-print
+slice-aggregate-print c = sym (length-take-le _ _ (array-share-prefix-answers (c .before)))
 
 pub run-spec : {M : Type 1} → statement M
 run-spec =
     tie.close
     (tie.spec (λ c. search needs) (λ c κs. search needs) (λ c κs. search needs) (λ c. search needs) (λ c. search needs) (λ c. search needs)
-    array-share-prefix-answers slice-aggregate-write-all (λ c κs. search needs) (λ c. search needs))
+    array-share-prefix-answers slice-aggregate-print (λ c κs. search needs) (λ c. search needs))
