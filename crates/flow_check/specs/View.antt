@@ -51,7 +51,7 @@ pub record FlowJudged (f : Flow) (hops table slots : List ℕ) (r : Judged) : Ty
       ≡ model-causes.firstCause (earlyFindings (record { table = tableOf table; slots = slotsOf slots pool }) (lineFlow f hops))
   pub named : findingOf (r .finding) ≡ none → PathNamed f hops table (r .entries)
 
--- 30 and 31 against a flow with so many hops; else the lowest free slot.
+-- 30 and 31 against a flow with so many hops; else the lowest free slot. The finding is free where the counts exceed the pool.
 pub record RoomJudged (hops : ℕ) (slots : List ℕ) (r : FreeSlot) : Type 0 where
   pub first : (pool : List ℕ) (f : model.Flow) → Store slots pool → length (f .path) ≡ hops
       → findingOf (r .finding) ≡ model-causes.firstCause (model-causes.roomFindings (slotsOf slots pool) f)

@@ -16,13 +16,14 @@ use Rattle.model.specs.QueueTable.{Queue, Table, rowFields, row, rowInRa
 use Rattle.model.specs.Orders.{Hop, Flow, registering, headFields, hopField, hopFields, pathFields, numberInRange, hopsInRange, headInRange, flowOf, withPath, registrationOf, registration, kindNumber, kindOfNumber, kindOrder, orderOfKind, readOrder}
 use Rattle.model.specs.LinkCheck.{isEmpty, levelCode, orElse, levelsFinding, rateCode, linkFinding}
 use Rattle.model.specs.Aggregates.{linkAt, queueAt, thresholdOf, shares, allShares, sameHop, addsAt, aggregateAt, levelAggregates}
-use Rattle.model.specs.Reference.{State, heldFlows, heldHops, withNumber, crosses, thresholdSum, firstCause, whole, atHop, start, end, noQueue, metEarlier, startsElsewhere, numberFinding, lineFindings, deadlineFinding, isHeld, roomFindings, linkCause, causeAt, linkFindings, registerFindings, findings, refuse, fill, perform, decide, apply, Call, lineOfKind, onlyLine, callOrder, step, tableOf, opened, final}
+use Rattle.model.specs.Reference.{State, heldFlows, heldHops, withNumber, crosses, thresholdSum, firstCause, whole, start, end, noQueue, metEarlier, startsElsewhere, numberFinding, lineFindings, deadlineFinding, isHeld, roomFindings, linkCause, causeAt, linkFindings, registerFindings, findings, refuse, fill, perform, decide, apply, Call, lineOfKind, onlyLine, callOrder, step, tableOf, opened, final}
+use Rattle.model.specs.Reference as book
 use Rattle.model.specs.Run as run
 use Rattle.model.specs.Run.{Frame, Sends, Run, window, bytesOf, Conforming}
 use Rattle.model.specs.Laws.Run.Windows.{window-join, window-within}
 use Rattle.model.specs.Laws.Run.Exists.{coming, states, runOf}
 use Rattle.model.specs.Punctual.{Punctual}
-use Rattle.model.specs.Delivery.{delivered}
+use Rattle.model.specs.Delivery.{delivered, anyBirth, ofFlow, atHop, alongPath}
 use Rattle.model.specs.Timely.{Timely}
 use Rattle.model.specs.WorkedBatch.{bytesFrom, bytes}
 use Rattle.model.specs.Results.{reached-timely}
@@ -63,7 +64,7 @@ table =
 
 -- The calls admit these flows on this table.
 pub the-state : (state .table ≡ table) × (heldFlows (state .slots) ≡ flows)
-unfolding text calls registers bytes bytesFrom isDigit digits number field fieldAt between prepend lines rowFields row rowInRange continues begins rowInTurn sameLink rowAgrees rowCause queueOf newLink addLevel addRow rowStep lineStep readLines readTable headFields hopField hopFields pathFields numberInRange hopsInRange headInRange flowOf withPath registrationOf registration kindNumber kindOfNumber kindOrder orderOfKind readOrder total largest ceilDiv burstAtHop residual withinRate delayBound backlogBound interference levelResidual delay backlog isEmpty levelCode orElse levelsFinding rateCode linkFinding nth linkAt queueAt thresholdOf shares allShares sameHop addsAt aggregateAt levelAggregates heldFlows heldHops withNumber crosses thresholdSum firstCause whole atHop isNone start end noQueue metEarlier startsElsewhere numberFinding lineFindings deadlineFinding every isHeld roomFindings linkCause causeAt linkFindings registerFindings findings firstIndex refuse fill perform decide apply lineOfKind onlyLine callOrder step tableOf opened final
+unfolding text calls registers bytes bytesFrom isDigit digits number field fieldAt between prepend lines rowFields row rowInRange continues begins rowInTurn sameLink rowAgrees rowCause queueOf newLink addLevel addRow rowStep lineStep readLines readTable headFields hopField hopFields pathFields numberInRange hopsInRange headInRange flowOf withPath registrationOf registration kindNumber kindOfNumber kindOrder orderOfKind readOrder total largest ceilDiv burstAtHop residual withinRate delayBound backlogBound interference levelResidual delay backlog isEmpty levelCode orElse levelsFinding rateCode linkFinding nth linkAt queueAt thresholdOf shares allShares sameHop addsAt aggregateAt levelAggregates heldFlows heldHops withNumber crosses thresholdSum firstCause whole book.atHop isNone start end noQueue metEarlier startsElsewhere numberFinding lineFindings deadlineFinding every isHeld roomFindings linkCause causeAt linkFindings registerFindings findings firstIndex refuse fill perform decide apply lineOfKind onlyLine callOrder step tableOf opened final
 the-state = (refl, refl)
 
 -- A frame of the flow with index `j` that its source adds at instant `x`. It takes a link 1.5 µs.
@@ -100,7 +101,8 @@ stays n zero = []
 stays n (suc x) = stays n x ++ map (λ f. record { link = n; flow = f .flow; came = f .since; gone = suc x }) (worked .before (suc x) n .left)
 
 -- Before the arrivals of instant 1, 448 of the 672 bits are sent. Frames of one level leave in the order in which they came.
--- Of the two frames that leave at instant 5 one goes on, and one has ended its path, 4 µs after it was sent.
+-- At instant 3 flow 1 has a frame in the queue of each of its hops. Of the two frames that leave at instant 5 one goes on, and one has ended its path,
+-- 4 µs after it was sent.
 pub the-run : (worked .before 1 1 ≡ record { wire = run.sending 2 (frame 1 0) 223; levels = [] ∷ [] ∷ []; left = [] })
     × (stays 1 8 ++ stays 2 7
     ≡ record { link = 1; flow = 1; came = 0; gone = 2 }
@@ -112,9 +114,11 @@ pub the-run : (worked .before 1 1 ≡ record { wire = run.sending 2 (frame 1 0) 
     ∷ record { link = 2; flow = 0; came = 3; gone = 5 }
     ∷ record { link = 2; flow = 0; came = 5; gone = 7 }
     ∷ [])
+    × (alongPath anyBirth 0 (worked .after 3) 0 (at 1 1 ∷ []) ≡ 84)
+    × (alongPath anyBirth 0 (worked .after 3) 0 (at 1 1 ∷ at 2 1 ∷ []) ≡ 168)
     × (delivered worked 5 ≡ record { flow = 0; hop = 2; length = 84; since = 5; born = 1 } ∷ [])
-unfolding stays delivered runOf states coming run.pastEmpty run.pick run.bits run.start run.take run.send run.bitSlot run.interval run.hopOf run.next run.departed run.moving run.reaching run.append run.enter run.emptyLevels run.emptyLink run.speedOf filter isNone nth linkAt sameHop
-the-run = (refl, refl, refl)
+unfolding stays delivered ofFlow atHop alongPath total run.onWire run.inQueue runOf states coming run.pastEmpty run.pick run.bits run.start run.take run.send run.bitSlot run.interval run.hopOf run.next run.departed run.moving run.reaching run.append run.enter run.emptyLevels run.emptyLink run.speedOf filter isNone nth linkAt sameHop
+the-run = (refl, refl, refl, refl, refl)
 
 -- Each source sends no more than its burst in all.
 none-later : (j x : ℕ) → 0 + 4 ≤ x → bytesOf j (sent x) ≡ 0

@@ -114,7 +114,7 @@ module _ (K : List (List Frame) → Type 0) (picks : (qs : List (List Frame)) �
   send-levels (sending n f zero) qs d h = h
   send-levels (sending n f (suc more)) qs d h = h
 
-  pub interval-levels : (n : ℕ) (l : LinkState) → K (l .levels) → K (interval n l .levels)
+  interval-levels : (n : ℕ) (l : LinkState) → K (l .levels) → K (interval n l .levels)
   interval-levels =
       interval-keeps (λ k. K (k .levels)) (λ k. take-levels (k .wire) (k .levels) (k .left)) (λ k. send-levels (k .wire) (k .levels) (k .left))
 

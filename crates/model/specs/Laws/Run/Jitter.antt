@@ -2,7 +2,7 @@
 -- Induction over instants, not over paths, so that cycles of links do no harm. Assumes nothing.
 use Prim.Native.Nat.{ℕ, zero, suc, _+_, _≤_, _<_}
 use mathlib.Core.Path.{_≡_, refl, sym, ap, _∙_}
-use mathlib.Core.List.{List, [], _∷_, map}
+use mathlib.Core.List.{List, [], _∷_}
 use mathlib.Core.Option.{some, Option·none-ne-some}
 use native.Mathlib.Omega.{arith}
 use lib.ListN.{getElem?}
@@ -11,9 +11,9 @@ use Rattle.model.specs.QueueTable.{Table}
 use Rattle.model.specs.Orders.{Hop, Flow}
 use Rattle.model.specs.Aggregates.{linkAt, queueAt, thresholdOf}
 use Rattle.model.specs.Schedulable.{Named, FlowMeets, Schedulable}
-use Rattle.model.specs.Run.{Frame, Sends, Run, hopOf, next, departed, moving, speedOf, inQueue}
-use Rattle.model.specs.Laws.All.{all-imp, all-append, map-all, all-at}
-use Rattle.model.specs.Laws.Run.Standing.{hop, moved, known-hop, departed-all, arrivals-all}
+use Rattle.model.specs.Run.{Frame, Sends, Run, hopOf, next, speedOf, inQueue}
+use Rattle.model.specs.Laws.All.{all-imp, all-at}
+use Rattle.model.specs.Laws.Run.Standing.{hop, moved, known-hop, moved-all, arrivals-all}
 use Rattle.model.specs.Laws.Run.OneLink.{EachLevel, OnWire, Each}
 use Rattle.model.specs.Laws.Run.EachFrame.{interval-each, enter-each, empty-each, levels-both, wire-both}
 use Rattle.model.specs.Laws.Run.InQueue.{each-queue}
@@ -89,17 +89,11 @@ module _ (t : Table) (fs : List Flow) (sch : Schedulable t fs) (r : Run t fs) wh
       record { flow = s .flow; known = s .known; long = s .least; short = s .most; jitter = omega (arith, s .since, s .born) }
 
   moved-on-time : (x : ℕ) → ((n : ℕ) → Each (Placed t fs x n) (r .before x n)) → All (λ f. OnTime t fs f × (f .since ≡ x)) (moved r x)
-  unfolding moving next
+  unfolding next
   moved-on-time x each =
-      all-append (λ f. OnTime t fs f × (f .since ≡ x)) (map (next x) (departed (r .before x) 1 t)) (r .sent x)
-      (map-all (λ f. OnTime t fs f × (f .since ≡ x)) (next x) (departed (r .before x) 1 t)
-      (departed-all (λ f. OnTime t fs (next x f) × (next x f .since ≡ x)) (r .before x) left 1 t))
+      moved-all t fs r (λ f. OnTime t fs f × (f .since ≡ x)) x
+      (λ n. all-imp (r .before x n .left) (λ f p. (leaves x n (p .0) f (p .1), refl)) (each n .left))
       (all-imp (r .sent x) (λ f s. (added x f s, s .since)) (r .sends x))
-    where
-      left : (n : ℕ) → All (λ f. OnTime t fs (next x f) × (next x f .since ≡ x)) (r .before x n .left)
-      left n =
-          all-imp (r .before x n .left)
-          (λ f p. (leaves x n (p .0) f (p .1), refl)) (each n .left)
 
   pub arrived : (x : ℕ) → All (λ f. OnTime t fs f × (f .since ≡ x)) (moved r x) →
       (n level : ℕ) → All (λ f. (OnTime t fs f × (f .since ≡ x)) × (hopOf fs f ≡ some (hop n level))) (r .arrivals x n level)

@@ -3,7 +3,7 @@
 use Prim.Native.Nat.{ℕ, zero, suc, _+_, _≤_}
 use mathlib.Core.Path.{_≡_, refl, sym, ap, subst, _∙_}
 use mathlib.Core.Bool.{Bool, true, false, cond}
-use mathlib.Core.List.{List, [], _∷_, map}
+use mathlib.Core.List.{List, [], _∷_}
 use mathlib.Core.Option.{Option, none, some, Option·none-ne-some}
 use native.Mathlib.Nat.{le-trans}
 use native.Mathlib.Omega.{arith}
@@ -16,16 +16,16 @@ use Rattle.model.specs.QueueTable.{Queue, Table}
 use Rattle.model.specs.Orders.{Hop, Flow}
 use Rattle.model.specs.Aggregates.{linkAt, queueAt}
 use Rattle.model.specs.Schedulable.{Named}
-use Rattle.model.specs.Run.{Frame, LinkState, Run, hopOf, next, departed, moving, emptyLevels, emptyLink, window, inQueue}
+use Rattle.model.specs.Run.{Frame, LinkState, Run, hopOf, next, emptyLevels, emptyLink, window, inQueue}
 use Rattle.model.specs.Delivery.{delivered, ofFlow, atHop, alongPath, deliveredUpTo, Conserved}
-use Rattle.model.specs.Laws.All.{all-imp, all-append, map-all}
+use Rattle.model.specs.Laws.All.{all-imp}
 use Rattle.model.specs.Laws.Total.{total-filter, total-below, total-same, total-cond}
 use Rattle.model.specs.Laws.Test.{cond-le, cond-same, and-then}
 use Rattle.model.specs.Laws.List.{index-below, none-past}
 use Rattle.model.specs.Laws.Run.Windows.{window-ext, window-at, window-has}
 use Rattle.model.specs.Laws.Run.OneLink.{held, held-each, held-le}
 use Rattle.model.specs.Laws.Run.InQueue.{queue-weight}
-use Rattle.model.specs.Laws.Run.Standing.{hop, moved, known-hop, departed-all, Stands, stands-before, stands, level-count}
+use Rattle.model.specs.Laws.Run.Standing.{hop, moved, known-hop, moved-all, Stands, stands-before, stands, level-count}
 use Rattle.model.specs.Laws.Run.Conservation.{brings, there, levels, reached, coming, coming-most, out, inside, so-far, source, reach-next, reach-first}
 
 -- A queue of the table lies within its links, and within the levels of its link.
@@ -153,15 +153,12 @@ module _ (t : Table) (fs : List Flow) (r : Run t fs) (w : ℕ → ℕ → ℕ) (
   Short f = eqb (f .flow) j ≡ true → f .hop ≤ length (fl .path)
 
   all-short : (x : ℕ) → All Short (moved r x)
-  unfolding moving next
+  unfolding next
   all-short x =
-      all-append Short (map (next x) (departed (r .before x) 1 t)) (r .sent x)
-      (map-all Short (next x) (departed (r .before x) 1 t)
-      (departed-all (λ f. Short (next x f)) (r .before x)
+      moved-all t fs r Short x
       (λ n.
       all-imp (r .before x n .left) (λ f p e. index-below (fl .path) (f .hop) (hop n (p .0)) (sym (own-hop f e) ∙ p .1))
       (stands-before t fs r x n .left))
-      1 t))
       (all-imp (r .sent x) (λ f s e. omega (arith, s .first)) (r .sends x))
 
   ends : (f : Frame) → Short f → cond (isNone (hopOf fs f)) (ofFlow w j f) 0 ≡ atHop w j (length (fl .path)) f

@@ -3,7 +3,7 @@
 use Prim.Native.Nat.{ℕ, zero, suc}
 use mathlib.Core.Path.{_≡_, sym, ap, _∙_}
 use mathlib.Core.Bool.{true, false≢true}
-use mathlib.Core.List.{List, [], _∷_}
+use mathlib.Core.List.{List, [], _∷_, map}
 use mathlib.Core.Option.{Option, none, some}
 use lib.ListN.{length, getElem?}
 use Rattle.model.specs.Words.{All, andThen}
@@ -11,8 +11,8 @@ use Rattle.model.specs.QueueTable.{Table}
 use Rattle.model.specs.Orders.{Hop, Flow}
 use Rattle.model.specs.Aggregates.{linkAt}
 use Rattle.model.specs.Laws.Aggregates.{same-hop}
-use Rattle.model.specs.Run.{Frame, LinkState, Run, hopOf, departed, moving, isAt, reaching, enter, emptyLink, speedOf}
-use Rattle.model.specs.Laws.All.{all-imp, all-append, all-perm, filter-all, member-all}
+use Rattle.model.specs.Run.{Frame, LinkState, Run, hopOf, next, departed, moving, isAt, reaching, enter, emptyLink, speedOf}
+use Rattle.model.specs.Laws.All.{all-imp, all-append, map-all, all-perm, filter-all, member-all}
 use Rattle.model.specs.Laws.Run.OneLink.{Each}
 use Rattle.model.specs.Laws.Run.EachFrame.{interval-each, enter-each, empty-each, interval-count, append-count}
 
@@ -32,12 +32,20 @@ at-hop : (q : Hop) (o : Option Hop) → isAt q o ≡ true → o ≡ some q
 at-hop q none e = absurd (false≢true e)
 at-hop q (some h) e = ap some (sym (same-hop q h e))
 
-pub departed-all : (P : Frame → Type 0) (links : ℕ → LinkState) → ((n : ℕ) → All P (links n .left)) → (n : ℕ) (ks : Table) → All P (departed links n ks)
+departed-all : (P : Frame → Type 0) (links : ℕ → LinkState) → ((n : ℕ) → All P (links n .left)) → (n : ℕ) (ks : Table) → All P (departed links n ks)
 unfolding departed
 departed-all P links h n [] = tt
 departed-all P links h n (k ∷ ks) = all-append P (links n .left) (departed links (suc n) ks) (h n) (departed-all P links h (suc n) ks)
 
 module _ (t : Table) (fs : List Flow) (r : Run t fs) where
+  -- What moves at instant `x` has left a link, or is sent then.
+  pub moved-all : (P : Frame → Type 0) (x : ℕ) → ((n : ℕ) → All (λ f. P (next x f)) (r .before x n .left)) → All P (r .sent x) → All P (moved r x)
+  unfolding moving
+  moved-all P x left sent =
+      all-append P (map (next x) (departed (r .before x) 1 t)) (r .sent x)
+      (map-all P (next x) (departed (r .before x) 1 t) (departed-all (λ f. P (next x f)) (r .before x) left 1 t))
+      sent
+
   -- What reaches a queue is some of what moves, and the queue is its own.
   pub arrivals-all : (P : Frame → Type 0) (x : ℕ) → All P (moved r x)
       → (n level : ℕ) → All (λ f. P f × (hopOf fs f ≡ some (hop n level))) (r .arrivals x n level)
