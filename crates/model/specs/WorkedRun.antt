@@ -101,24 +101,21 @@ stays n zero = []
 stays n (suc x) = stays n x ++ map (λ f. record { link = n; flow = f .flow; came = f .since; gone = suc x }) (worked .before (suc x) n .left)
 
 -- Before the arrivals of instant 1, 448 of the 672 bits are sent. Frames of one level leave in the order in which they came.
--- At instant 3 flow 1 has a frame in the queue of each of its hops. Of the two frames that leave at instant 5 one goes on, and one has ended its path,
+-- At instant 4 the first flow has a frame under way at each of its hops. Of the two frames that leave at instant 5 one goes on, and one has ended its path,
 -- 4 µs after it was sent.
 pub the-run : (worked .before 1 1 ≡ record { wire = run.sending 2 (frame 1 0) 223; levels = [] ∷ [] ∷ []; left = [] })
-    × (stays 1 8 ++ stays 2 7
+    × (stays 1 6 ++ stays 2 5
     ≡ record { link = 1; flow = 1; came = 0; gone = 2 }
     ∷ record { link = 1; flow = 0; came = 1; gone = 3 }
     ∷ record { link = 1; flow = 0; came = 3; gone = 5 }
     ∷ record { link = 1; flow = 1; came = 1; gone = 6 }
-    ∷ record { link = 1; flow = 1; came = 2; gone = 8 }
     ∷ record { link = 2; flow = 2; came = 2; gone = 4 }
     ∷ record { link = 2; flow = 0; came = 3; gone = 5 }
-    ∷ record { link = 2; flow = 0; came = 5; gone = 7 }
     ∷ [])
-    × (alongPath anyBirth 0 (worked .after 3) 0 (at 1 1 ∷ []) ≡ 84)
-    × (alongPath anyBirth 0 (worked .after 3) 0 (at 1 1 ∷ at 2 1 ∷ []) ≡ 168)
+    × (alongPath anyBirth 0 (worked .after 4) 0 (at 1 1 ∷ at 2 1 ∷ []) ≡ 168)
     × (delivered worked 5 ≡ record { flow = 0; hop = 2; length = 84; since = 5; born = 1 } ∷ [])
 unfolding stays delivered ofFlow atHop alongPath total run.onWire run.inQueue runOf states coming run.pastEmpty run.pick run.bits run.start run.take run.send run.bitSlot run.interval run.hopOf run.next run.departed run.moving run.reaching run.append run.enter run.emptyLevels run.emptyLink run.speedOf filter isNone nth linkAt sameHop
-the-run = (refl, refl, refl, refl, refl)
+the-run = (refl, refl, refl, refl)
 
 -- Each source sends no more than its burst in all.
 none-later : (j x : ℕ) → 0 + 4 ≤ x → bytesOf j (sent x) ≡ 0
