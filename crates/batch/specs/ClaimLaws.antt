@@ -6,7 +6,7 @@ use mathlib.Core.Bool.{true}
 use mathlib.Core.List.{List, [], _∷_}
 use Rattle.model.specs.Columns.{Line, lines}
 use Rattle.model.specs.Orders.{orderLine}
-use Rattle.model.specs.Reference.{State, Call, apply, opened, final}
+use Rattle.model.specs.Reference.{State, apply, opened, final}
 use Rattle.model.specs.Consistent.{consistent}
 use Rattle.model.specs.Batch.{Batch, lineAnswers, doneBatch}
 use Rattle.model.specs.Laws.Codes.{returned-done}

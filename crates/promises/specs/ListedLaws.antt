@@ -8,13 +8,12 @@ use mathlib.Core.Logic.{⊎-elim}
 use native.Mathlib.Decide.{ℕ-discrete}
 use Rattle.model.specs.Words.{Pairs, ends, pair}
 use Rattle.model.specs.Columns.{Line, lines}
-use Rattle.model.specs.QueueTable.{Table, TableText, readTable}
+use Rattle.model.specs.QueueTable.{Table, TableText}
 use Rattle.model.specs.Orders.{orderLine}
-use Rattle.model.specs.Reference as model
-use Rattle.model.specs.Reference.{State, Answer, Call, Outcome, callOrder, apply, step, refuse, opened, final}
+use Rattle.model.specs.Reference.{State, Answer, Call, Outcome, callOrder, apply, refuse, opened, final}
 use Rattle.model.specs.Consistent.{consistent}
-use Rattle.model.specs.Codes.{openCodes, callCodes, pathOf, Listed, TextListed, textCode, BatchListed}
-use Rattle.model.specs.Batch.{Batch, lineAnswers, doneBatch, batch}
+use Rattle.model.specs.Codes.{callCodes, pathOf, Listed, TextListed, BatchListed}
+use Rattle.model.specs.Batch.{Batch, lineAnswers, doneBatch}
 use Rattle.model.specs.Results as results
 use Rattle.model.specs.Results.{line-listed, line-consistent, text-listed, reached-consistent}
 use Rattle.model.specs.Laws.Reference.{same-table}

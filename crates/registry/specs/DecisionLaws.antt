@@ -1,15 +1,11 @@
 -- What a call promises is the reference model's step, of which the second line was shown; the figures are those of the flows before and after.
 -- Assumes nothing.
-use Prim.Native.Nat.{ℕ, _<_}
 use mathlib.Core.Path.{_≡_, ap, sym, subst, _∙_}
-use Rattle.model.specs.Sizes.{queuesMost}
 use Rattle.model.specs.Aggregates.{aggregateAt}
 use Rattle.model.specs.Reference.{State, Call, Outcome, heldFlows, refuse, callOrder, step}
 use Rattle.model.specs.Outcomes.{Decided}
 use Rattle.model.specs.Results.{call-decided}
 use Rattle.queue_table.specs.View.{hopAt}
-use Rattle.figures.specs.View.{figureAt}
-use Rattle.admission.specs.View.{answerOf}
 use Rattle.registry.specs.declared.Registry.{Registry}
 use Rattle.registry.specs.declared.Called.{Called}
 use Rattle.registry.specs.View.{stateIn, Consistent, Performs}

@@ -15,7 +15,7 @@ use Rattle.model.specs.Formula.{Aggregate}
 use Rattle.model.specs.Laws.Formula.{AtMost}
 use Rattle.model.specs.QueueTable.{Queue, Table}
 use Rattle.model.specs.Orders.{Hop, Flow}
-use Rattle.model.specs.Aggregates.{Share, thresholdOf, queueAt, shares, allShares, sameHop, addsAt, aggregateAt, levelAggregates}
+use Rattle.model.specs.Aggregates.{Share, growth, shares, allShares, sameHop, addsAt, aggregateAt, levelAggregates}
 use Rattle.model.specs.Laws.Test.{and-both, both-and, or-neither}
 use Rattle.model.specs.Reference.{crosses}
 
@@ -74,7 +74,7 @@ module _ (t : Table) where
     off-path sum [] e = tt
     off-path sum (h ∷ path) e =
         let (here, later) = or-neither (eqb (h .link) link) (crosses link path) e in
-        (off-hop h _ here, off-path (sum + thresholdOf (queueAt t h)) path later)
+        (off-hop h _ here, off-path (sum + growth t h) path later)
 
   pub aggregate-off : (f : Flow) (fs : List Flow) (link p : ℕ) → crosses link (f .path) ≡ false
       → AtMost (aggregateAt t (f ∷ fs) (record { link = link; level = p })) (aggregateAt t fs (record { link = link; level = p }))

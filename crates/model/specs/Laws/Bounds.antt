@@ -14,7 +14,7 @@ use Rattle.model.specs.Total.{total, largest}
 use Rattle.model.specs.Formula.{Aggregate, backlog, backlogBound}
 use Rattle.model.specs.QueueTable.{Queue, Link, Table}
 use Rattle.model.specs.Orders.{Hop, Flow}
-use Rattle.model.specs.Aggregates.{Share, linkAt, queueAt, thresholdOf, shares, allShares, sameHop, addsAt, aggregateAt, levelAggregates}
+use Rattle.model.specs.Aggregates.{Share, linkAt, queueAt, growth, shares, allShares, sameHop, addsAt, aggregateAt, levelAggregates}
 use Rattle.model.specs.Reference.{State, heldFlows}
 use Rattle.model.specs.Consistent.{tableConsistent}
 use Rattle.model.specs.Admissible.{own}
@@ -51,7 +51,7 @@ module _ (t : Table) where
   path-frames : (P : ℕ → Type 0) (f : Flow) → P (f .frame) → (sum : ℕ) (path : List Hop) → All (λ e. P (e .adds .frame)) (shares t f sum path)
   unfolding shares
   path-frames P f p sum [] = tt
-  path-frames P f p sum (h ∷ path) = (p, path-frames P f p (sum + thresholdOf (queueAt t h)) path)
+  path-frames P f p sum (h ∷ path) = (p, path-frames P f p (sum + growth t h) path)
 
   entry-frames : (P : ℕ → Type 0) (fs : List Flow) → All (λ f. P (f .frame)) fs → All (λ e. P (e .adds .frame)) (allShares t fs)
   unfolding allShares

@@ -12,7 +12,7 @@ use Rattle.model.specs.Laws.Total.{largest-append}
 use Rattle.model.specs.Formula.{Aggregate}
 use Rattle.model.specs.QueueTable.{Table}
 use Rattle.model.specs.Orders.{Hop, Flow}
-use Rattle.model.specs.Aggregates.{Share, thresholdOf, queueAt, shares, allShares, sameHop, addsAt, aggregateAt}
+use Rattle.model.specs.Aggregates.{Share, growth, shares, allShares, sameHop, addsAt, aggregateAt}
 use Rattle.model.specs.Laws.All.{all-member}
 use Rattle.model.specs.Laws.Aggregates.{same-hop, hop-same}
 use Rattle.model.specs.Admissible.{Carries}
@@ -40,7 +40,7 @@ module _ (t : Table) (q : Hop) where
   on-path f sum (h ∷ path) p =
       ⊎-elim
       (λ a. List·Memᴰ·head (here h _ a))
-      (λ b. List·Memᴰ·tail (on-path f (sum + thresholdOf (queueAt t h)) path b))
+      (λ b. List·Memᴰ·tail (on-path f (sum + growth t h) path b))
       (one-positive _ _ p)
 
   some-flow : (fs : List Flow) → 1 ≤ largest frameAt (allShares t fs) → Carries fs q
@@ -64,7 +64,7 @@ module _ (t : Table) (q : Hop) where
   path-frame : (f : Flow) (sum : ℕ) {path : List Hop} → List·Memᴰ q path → f .frame ≤ largest frameAt (shares t f sum path)
   unfolding largest shares
   path-frame f sum (List·Memᴰ·head {x = h} e) = le-trans (le-of-eq (sym (there h _ e))) (le-max-left _ _)
-  path-frame f sum (List·Memᴰ·tail {x = h} m) = omega (arith, path-frame f (sum + thresholdOf (queueAt t h)) m)
+  path-frame f sum (List·Memᴰ·tail {x = h} m) = omega (arith, path-frame f (sum + growth t h) m)
 
   pub flow-frame : (f : Flow) {fs : List Flow} → List·Memᴰ f fs → List·Memᴰ q (f .path) → f .frame ≤ largest frameAt (allShares t fs)
   unfolding largest allShares

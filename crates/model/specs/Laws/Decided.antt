@@ -1,18 +1,17 @@
 -- The mission's second line of every order on a consistent state, and its first: the answer is one that document 01 lists.
 -- By whether the code is 0; the causes are listed one by one where they are found. Assumes nothing.
 use Prim.Native.Nat.{ℕ, suc, _≤_}
-use mathlib.Core.Path.{_≡_, refl, ap, sym, _∙_, subst}
+use mathlib.Core.Path.{_≡_, refl, subst}
 use mathlib.Core.Bool.{Bool, true, false}
-use mathlib.Core.List.{List, _∷_, List·Memᴰ, List·Memᴰ·head, List·Memᴰ·tail}
+use mathlib.Core.List.{List, List·Memᴰ, List·Memᴰ·head, List·Memᴰ·tail}
 use native.Mathlib.Omega.{arith}
 use lib.ListN.{length}
 use lib.Dec.{eqb}
 use borrow.Author.Tests.{eqb-true, eqb-false}
 use Rattle.model.specs.Words.{All}
-use Rattle.model.specs.Sizes.{slotCount}
 use Rattle.model.specs.QueueTable.{Table}
 use Rattle.model.specs.Orders.{Hop, Order}
-use Rattle.model.specs.Reference.{State, Answer, Cause, findings, refuse, apply}
+use Rattle.model.specs.Reference.{State, Answer, refuse, apply}
 use Rattle.model.specs.Codes as codes
 use Rattle.model.specs.Codes.{causeCodes, orderCodes, pathOf, Names, Listed, because}
 use Rattle.model.specs.Outcomes.{Refused, Done, admission, release, Decided}

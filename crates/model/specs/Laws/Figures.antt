@@ -19,7 +19,7 @@ use Rattle.model.specs.Laws.LinkSteps.{Empty}
 use Rattle.model.specs.Formula.{Aggregate}
 use Rattle.model.specs.QueueTable.{Queue, Table}
 use Rattle.model.specs.Orders.{Hop, Flow}
-use Rattle.model.specs.Aggregates.{Share, source, grown, thresholdOf, queueAt, shares, allShares, sameHop, addsAt, aggregateAt, levelAggregates}
+use Rattle.model.specs.Aggregates.{Share, source, grown, growth, queueAt, shares, allShares, sameHop, addsAt, aggregateAt, levelAggregates}
 use Rattle.model.specs.Schedulable.{Named}
 use Rattle.model.specs.WithFlow.{noFlow, together}
 use Rattle.model.specs.Laws.All.{append-all, all-imp}
@@ -111,7 +111,7 @@ module _ (t : Table) where
   unfolding shares sharesAt total largest addsAt
   shares-carried f one q sum [] z = refl
   shares-carried f one q sum (h ∷ path) z =
-      none-here (sameHop q h) (f .rate) (f .frame) one (shares-carried f one q (sum + thresholdOf (queueAt t h)) path) z
+      none-here (sameHop q h) (f .rate) (f .frame) one (shares-carried f one q (sum + growth t h) path) z
 
   -- A queue whose rate sum is 0 has no largest frame, since no flow has the rate 0.
   pub carried : (fs : List Flow) → All (λ f. 1 ≤ f .rate) fs → (q : Hop) → aggregateAt t fs q .rate ≡ 0 → aggregateAt t fs q .frame ≡ 0
@@ -136,7 +136,7 @@ module _ (t : Table) where
   unfolding shares thresholdSum total
   shares-split f sum [] after = rw (add-zero sum)
   shares-split f sum (h ∷ before) after =
-      let d : ℕ = thresholdOf (queueAt t h) in
+      let d : ℕ = growth t h in
       let e : sum + d + thresholdSum t before ≡ sum + (d + thresholdSum t before) = omega arith in
       ap₂ (λ (x : Share) (l : List Share). x ∷ l) refl
       (shares-split f (sum + d) before after ∙ ap (λ (n : ℕ). shares t f (sum + d) before ++ shares t f n after) e)
@@ -149,7 +149,7 @@ module _ (t : Table) where
     share = record { hop = h; adds = grown (source f) sum }
 
     after-shares : List Share
-    after-shares = shares t f (sum + thresholdOf (queueAt t h)) after
+    after-shares = shares t f (sum + growth t h) after
 
     only : (p : ℕ) → let q : Hop = record { link = h .link; level = p } in
         aggregateAt t (f ∷ fs) q ≡ together (sharesAt q (share ∷ after-shares)) (aggregateAt t fs q)
@@ -171,7 +171,7 @@ module _ (t : Table) where
 
     after-off : (p : ℕ) → sharesAt (record { link = h .link; level = p }) after-shares ≡ noFlow
     unfolding after-shares
-    after-off p = shares-off f (sum + thresholdOf (queueAt t h)) (record { link = h .link; level = p }) after (c .after-off)
+    after-off p = shares-off f (sum + growth t h) (record { link = h .link; level = p }) after (c .after-off)
 
     -- The aggregate at the hop, with the flow's burst there.
     unfoldable pub counted : Aggregate
@@ -258,8 +258,8 @@ module _ (t : Table) where
     unfolding shares sharesAt total largest noFlow
     shares-unnamed f sum [] a = refl
     shares-unnamed f sum (h ∷ path) a =
-        shares-other q _ (shares t f (sum + thresholdOf (queueAt t h)) path) (unnamed h (a .0))
-        ∙ shares-unnamed f (sum + thresholdOf (queueAt t h)) path (a .1)
+        shares-other q _ (shares t f (sum + growth t h) path) (unnamed h (a .0))
+        ∙ shares-unnamed f (sum + growth t h) path (a .1)
 
     pub aggregate-unnamed : (fs : List Flow) → All (λ f. All (Named t) (f .path)) fs → aggregateAt t fs q ≡ noFlow
     aggregate-unnamed fs a = aggregate-none q fs (all-imp fs (λ f n. shares-unnamed f 0 (f .path) n) a)

@@ -9,7 +9,7 @@ use lib.ListN.{getElem?}
 use Rattle.model.specs.Words.{All}
 use Rattle.model.specs.QueueTable.{Table}
 use Rattle.model.specs.Orders.{Hop, Flow}
-use Rattle.model.specs.Aggregates.{linkAt, queueAt, thresholdOf}
+use Rattle.model.specs.Aggregates.{linkAt, queueAt, thresholdOf, growth}
 use Rattle.model.specs.Schedulable.{Named, FlowMeets, Schedulable}
 use Rattle.model.specs.Run.{Frame, Sends, Run, hopOf, next, speedOf, inQueue}
 use Rattle.model.specs.Laws.All.{all-imp, all-at}
@@ -22,7 +22,7 @@ use Rattle.model.specs.Laws.Run.InQueue.{each-queue}
 unfoldable pub upstream : Table → List Hop → (i : ℕ) → ℕ
 upstream t path zero = 0
 upstream t [] (suc i) = 0
-upstream t (h ∷ path) (suc i) = thresholdOf (queueAt t h) + upstream t path i
+upstream t (h ∷ path) (suc i) = growth t h + upstream t path i
 
 -- A frame of a flow, which has come to its hop in time.
 pub record OnTime (t : Table) (fs : List Flow) (f : Frame) : Type 0 where
@@ -44,12 +44,12 @@ abbrev pub NotLate : (t : Table) (fs : List Flow) → Run t fs → (x : ℕ) →
 NotLate t fs r x = (link level : ℕ) → All (λ f. x < f .since + thresholdOf (queueAt t (hop link level))) (inQueue level (r .before x link))
 
 upstream-next : (t : Table) (path : List Hop) (i : ℕ) (h : Hop) → getElem? path i ≡ some h →
-    upstream t path (suc i) ≡ upstream t path i + thresholdOf (queueAt t h)
+    upstream t path (suc i) ≡ upstream t path i + growth t h
 unfolding upstream
 upstream-next t [] i h e = absurd (Option·none-ne-some h e)
 upstream-next t (k ∷ path) zero h e =
     let d : k ≡ h = cc in
-    omega (arith, ap (λ z. thresholdOf (queueAt t z)) d)
+    omega (arith, ap (growth t) d)
 upstream-next t (k ∷ path) (suc i) h e = omega (arith, upstream-next t path i h e)
 
 module _ (t : Table) (fs : List Flow) (sch : Schedulable t fs) (r : Run t fs) where

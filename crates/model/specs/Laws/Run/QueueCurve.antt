@@ -12,7 +12,7 @@ use Rattle.model.specs.Total.{total}
 use Rattle.model.specs.Formula.{Aggregate, burstAtHop}
 use Rattle.model.specs.QueueTable.{Table}
 use Rattle.model.specs.Orders.{Hop, Flow}
-use Rattle.model.specs.Aggregates.{queueAt, thresholdOf, Share, shares, allShares, sameHop, addsAt, aggregateAt}
+use Rattle.model.specs.Aggregates.{growth, Share, shares, allShares, sameHop, addsAt, aggregateAt}
 use Rattle.model.specs.Schedulable.{Schedulable}
 use Rattle.model.specs.Run.{Frame, Run, Conforming, hopOf, isAt}
 use Rattle.model.specs.Delivery.{anyBirth, ofFlow, atHop}
@@ -108,7 +108,7 @@ module _ (t : Table) (fs : List Flow) (sch : Schedulable t fs) (r : Run t fs) (c
       (λ k. recast fl j (i + suc k) (s + upstream t (g ∷ path) (suc k)) j (suc i + k) (next + upstream t path k) refl (omega arith) (omega arith) (c (suc k)))))
     where
       next : ℕ
-      next = s + thresholdOf (queueAt t g)
+      next = s + growth t g
 
       head : ℕ → ℕ
       head v = cond (sameHop q g) v 0
