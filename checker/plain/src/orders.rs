@@ -88,6 +88,18 @@ impl Kind {
     }
 }
 
+/// Every field that an order line can have, in the columns where it stands, hops of the longest path among them.
+pub fn all_fields() -> Vec<Field> {
+    let longest = KINDS.iter().max_by_key(|kind| kind.head());
+    let kind = longest.expect("a kind of order");
+    let mut fields = vec![KIND];
+    fields.extend(kind.fields);
+    for hop in 0..MOST_HOPS as usize {
+        fields.extend(HOP.map(|field| field.moved(kind.head() + HOP_COLUMNS * hop)));
+    }
+    fields
+}
+
 /// A line: its order where nothing is wrong with it, else all that is.
 pub fn examine(line: &Line) -> Result<Order, Vec<Fault>> {
     if !line.ended {

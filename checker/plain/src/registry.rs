@@ -172,18 +172,18 @@ impl Registry {
         self.figures(queue, None)
     }
 
+    /// What each held flow and, where one is given, a new one adds at a queue.
+    pub fn shares(&self, at: Hop, new: Option<&Flow>) -> Vec<Share> {
+        let flows: Vec<&Flow> = self.slots.iter().flatten().chain(new).collect();
+        shares(&self.queues, &flows, at, &self.slips)
+    }
+
     /// The figures of a queue with, where one is given, a new flow counted in.
     pub fn figures(&self, queue: &Queue, new: Option<&Flow>) -> Aggregate {
-        let flows: Vec<&Flow> = self.slots.iter().flatten().chain(new).collect();
-        let at = Hop {
-            link: queue.link,
-            level: queue.level,
-        };
+        let at = queue.hop();
         let left = self.residue.iter().filter(|(hop, _)| *hop == at);
-        left.fold(
-            sum_of(&shares(&self.queues, &flows, at, &self.slips)),
-            |sum, (_, left)| sum.with(*left),
-        )
+        let sum = sum_of(&self.shares(at, new));
+        left.fold(sum, |sum, (_, left)| sum.with(*left))
     }
 }
 
@@ -222,9 +222,5 @@ fn sum_of(shares: &[Share]) -> Aggregate {
 
 /// The figures of a queue over these flows.
 pub fn aggregate(queues: &[Queue], flows: &[&Flow], queue: &Queue) -> Aggregate {
-    let at = Hop {
-        link: queue.link,
-        level: queue.level,
-    };
-    sum_of(&shares(queues, flows, at, &Slips::NONE))
+    sum_of(&shares(queues, flows, queue.hop(), &Slips::NONE))
 }

@@ -3,6 +3,7 @@
 use crate::causes;
 use crate::columns::{lines, Field, Line};
 use crate::faults::{first_class, Class, Fault, What};
+use crate::orders::Hop;
 
 pub const MOST_LINKS: u64 = 64;
 pub const MOST_LEVELS: u64 = 8;
@@ -20,6 +21,16 @@ pub struct Queue {
     pub threshold: u64,
     /// Bytes.
     pub buffer: u64,
+}
+
+impl Queue {
+    /// The hop that names it.
+    pub fn hop(&self) -> Hop {
+        Hop {
+            link: self.link,
+            level: self.level,
+        }
+    }
 }
 
 /// Whose number a field of the table holds.

@@ -73,7 +73,7 @@ impl Work {
                 level: answer.level,
             },
         };
-        let level = |level: &&LevelWork| level.queue.level == at.level && level.bounds.is_some();
+        let level = |level: &&LevelWork| level.queue.hop() == at && level.bounds.is_some();
         let link = self.links.iter().find(|link| link.link == at.link)?;
         link.levels.iter().find(level)
     }
@@ -128,10 +128,7 @@ impl LinkWork {
             if !slips.checks(queue.level, own) {
                 continue;
             }
-            let failing = Hop {
-                link: queue.link,
-                level: queue.level,
-            };
+            let failing = queue.hop();
             if bounds.delay > u128::from(queue.threshold) {
                 return Some(Answer::at_hop(causes::DELAY, failing));
             }
