@@ -6,6 +6,8 @@ pub mod bounds;
 pub mod check;
 pub mod explain;
 pub mod folder;
+pub mod hall;
+pub mod mark;
 pub mod numbers;
 pub mod session;
 pub mod status;
@@ -15,7 +17,13 @@ use arguments::Command;
 use status::{Outcome, Status};
 
 /// All commands, in the order of the help.
-pub const COMMANDS: &[&Command] = &[&check::COMMAND, &explain::COMMAND, &bounds::COMMAND];
+pub const COMMANDS: &[&Command] = &[
+    &check::COMMAND,
+    &explain::COMMAND,
+    &bounds::COMMAND,
+    &mark::COMMAND,
+    &hall::COMMAND,
+];
 
 pub fn version() -> String {
     let linked = match proved::BATCH {
