@@ -57,14 +57,19 @@ fn each_slip_in_one_sheet() {
     }
 }
 
+/// A path of eight hops is admitted where the free hop entries lie in runs of seven.
 #[test]
 fn the_fragmented_registry() {
-    let folder = root().join("examples/fragmented").display().to_string();
-    compare(
-        "explain-fragmented.txt",
-        &["explain", &folder, "--line", "385"],
-        Status::Fine,
-    );
+    let folder = root().join("examples/fragmented");
+    let word = folder.display().to_string();
+    compare("bounds-fragmented.txt", &["bounds", &word], Status::Fine);
+    let full = course(&["explain", &word, "--line", "171"]).printed;
+    assert!(full.starts_with("line 171: 31 ") && full.contains("have 1,020 hop entries"), "{full}");
+    let again = course(&["explain", &word, "--line", "257"]).printed;
+    assert!(again.starts_with("line 257: 0 place 1 "), "{again}");
+    let read = |name: &str| fs::read(folder.join(name)).unwrap();
+    let printed = plain::programs::admit(&read("table.txt"), &read("orders.txt"));
+    assert!(printed == read("printed.txt"));
 }
 
 #[test]
