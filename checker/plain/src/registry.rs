@@ -6,7 +6,7 @@ use crate::formula::Aggregate;
 use crate::orders::{read_call, Flow, Hop, Order, REGISTER, RELEASE};
 use crate::slips::Slips;
 use crate::table::{read_table, Queue, Refusal};
-use crate::work::{hops_work, Work};
+use crate::work::Work;
 
 /// Document 01's places.
 pub const SLOTS: usize = 256;
@@ -153,7 +153,8 @@ impl Registry {
                 frame: u128::from(flow.frame),
                 ..Aggregate::default()
             };
-            self.residue.extend(flow.hops.iter().map(|&hop| (hop, left)));
+            self.residue
+                .extend(flow.hops.iter().map(|&hop| (hop, left)));
         }
     }
 
@@ -177,23 +178,37 @@ impl Registry {
         self.slots.iter().flatten().collect()
     }
 
-    /// The figures of a queue of the table.
+    /// The figures of a queue of the table, by the flows alone.
     pub fn aggregate(&self, queue: &Queue) -> Aggregate {
-        self.figures(queue, None)
+        aggregate(&self.queues, &self.held(), queue)
     }
 
-    /// What each held flow and, where one is given, a new one adds at a queue.
-    pub fn shares(&self, at: Hop, new: Option<&Flow>) -> Vec<Share> {
-        let flows: Vec<&Flow> = self.slots.iter().flatten().chain(new).collect();
-        shares(&self.queues, &flows, at, &self.slips)
+    /// What each held flow and, where one is given, a new one adds at a link, with the level it goes to.
+    pub fn shares<'a>(
+        &'a self,
+        link: u64,
+        new: Option<&'a Flow>,
+    ) -> impl Iterator<Item = (u64, Share)> + 'a {
+        let flows = self.slots.iter().flatten().chain(new);
+        link_shares(&self.queues, flows, link, self.slips)
     }
 
-    /// The figures of a queue with, where one is given, a new flow counted in.
-    pub fn figures(&self, queue: &Queue, new: Option<&Flow>) -> Aggregate {
-        let at = queue.hop();
-        let left = self.residue.iter().filter(|(hop, _)| *hop == at);
-        let sum = sum_of(&self.shares(at, new));
-        left.fold(sum, |sum, (_, left)| sum.with(*left))
+    /// The figures of a link's levels, level 1 first, with, where one is given, a new flow counted in.
+    pub fn figures(&self, link: u64, new: Option<&Flow>) -> Vec<(Queue, Aggregate)> {
+        let of_link = self.queues.iter().filter(|queue| queue.link == link);
+        let none = |queue: &Queue| (queue.clone(), Aggregate::default());
+        let mut levels: Vec<(Queue, Aggregate)> = of_link.map(none).collect();
+        let held = self
+            .shares(link, new)
+            .map(|(level, share)| (level, share.share));
+        let left = self.residue.iter().filter(|(hop, _)| hop.link == link);
+        for (level, share) in held.chain(left.map(|(hop, left)| (hop.level, *left))) {
+            let own = levels.iter_mut().find(|(queue, _)| queue.level == level);
+            if let Some((_, figures)) = own {
+                *figures = figures.with(share);
+            }
+        }
+        levels
     }
 }
 
@@ -203,34 +218,54 @@ pub fn queue_at(queues: &[Queue], hop: Hop) -> Option<&Queue> {
         .find(|queue| queue.link == hop.link && queue.level == hop.level)
 }
 
+pub fn threshold_at(queues: &[Queue], hop: Hop) -> u64 {
+    queue_at(queues, hop).map_or(0, |queue| queue.threshold)
+}
+
 /// The sum of the thresholds of these hops, µs.
 pub fn path_thresholds(queues: &[Queue], hops: &[Hop]) -> u128 {
-    let threshold = |&hop: &Hop| queue_at(queues, hop).map_or(0, |queue| queue.threshold);
-    hops.iter().map(threshold).map(u128::from).sum()
+    let threshold = |&hop: &Hop| u128::from(threshold_at(queues, hop));
+    hops.iter().map(threshold).sum()
 }
 
-/// What each of these flows adds at a queue, for every hop it has there.
-pub fn shares(queues: &[Queue], flows: &[&Flow], at: Hop, slips: &Slips) -> Vec<Share> {
-    let mut found = Vec::new();
-    for flow in flows.iter().filter(|flow| flow.hops.contains(&at)) {
-        for hop in hops_work(queues, flow, slips) {
-            if hop.hop == at {
-                found.push(Share {
-                    number: flow.number,
-                    share: hop.share,
-                });
-            }
-        }
+/// What a flow adds at the hop with this index.
+pub fn share_at(queues: &[Queue], flow: &Flow, index: usize, slips: &Slips) -> Aggregate {
+    let earlier = flow.hops[..index].iter();
+    let thresholds = earlier.map(|&hop| u128::from(threshold_at(queues, hop)));
+    let (burst, rate) = (u128::from(flow.burst), u128::from(flow.rate));
+    Aggregate {
+        rate,
+        burst: slips.burst(burst, rate, thresholds),
+        frame: u128::from(flow.frame),
     }
-    found
 }
 
-fn sum_of(shares: &[Share]) -> Aggregate {
-    let none = Aggregate::default();
-    shares.iter().fold(none, |sum, share| sum.with(share.share))
+/// What each of these flows adds at a link, for every hop it has there, with the hop's level.
+fn link_shares<'a>(
+    queues: &'a [Queue],
+    flows: impl Iterator<Item = &'a Flow> + 'a,
+    link: u64,
+    slips: Slips,
+) -> impl Iterator<Item = (u64, Share)> + 'a {
+    flows.flat_map(move |flow| {
+        let hops = flow.hops.iter().enumerate();
+        let here = hops.filter(move |(_, hop)| hop.link == link);
+        here.map(move |(index, hop)| {
+            let share = Share {
+                number: flow.number,
+                share: share_at(queues, flow, index, &slips),
+            };
+            (hop.level, share)
+        })
+    })
 }
 
 /// The figures of a queue over these flows.
 pub fn aggregate(queues: &[Queue], flows: &[&Flow], queue: &Queue) -> Aggregate {
-    sum_of(&shares(queues, flows, queue.hop(), &Slips::NONE))
+    let flows = flows.iter().copied();
+    let shares = link_shares(queues, flows, queue.link, Slips::NONE);
+    let own = shares.filter(|(level, _)| *level == queue.level);
+    own.fold(Aggregate::default(), |sum, (_, share)| {
+        sum.with(share.share)
+    })
 }
