@@ -14,14 +14,14 @@ use halls::rng::Rng;
 use halls::tables::link_levels;
 use plain::causes;
 use plain::columns::lines;
-use plain::formula::{backlog, delay};
 use plain::orders::{read_order, Flow};
 use plain::programs::{begin, MOST_ORDER_BYTES, MOST_ORDER_LINES};
 use plain::registry::Registry;
 use plain::table::{read_table, Queue};
 use std::collections::BTreeSet;
 
-/// What `bounds` should print of a queue: rate, burst, frame, then Res, Y, delay and backlog where it carries a flow.
+/// What `bounds` should print of a queue: rate, burst, frame, then Res, Y, delay and backlog where it carries a flow; the
+/// formulas are written out once more.
 fn figures(registry: &Registry, queue: &Queue) -> Vec<u128> {
     let flows: Vec<&Flow> = registry.held();
     let levels = link_levels(&registry.queues, &flows, queue.link);
@@ -33,8 +33,10 @@ fn figures(registry: &Registry, queue: &Queue) -> Vec<u128> {
         let bursts: u128 = levels[..p].iter().map(|level| level.burst).sum();
         let below = levels[p + 1..].iter().map(|level| level.frame).max();
         let ahead = bursts + below.unwrap_or(0) + own.frame;
-        numbers.extend([1000 * speed - above, ahead, delay(speed, &levels, p)]);
-        numbers.push(backlog(speed, &levels, p));
+        let residual = 1000 * speed - above;
+        let delay = (8000 * (ahead + own.burst)).div_ceil(residual);
+        let backlog = own.burst + (own.rate * ahead).div_ceil(residual);
+        numbers.extend([residual, ahead, delay, backlog]);
     }
     numbers
 }
