@@ -72,7 +72,7 @@ fn a_changed_bound_is_wrong() {
     let mut changed = [0; 3];
     for (index, step) in session.steps.iter().enumerate() {
         let truth = Expected::of(&step.answer, step.work.as_ref(), &session.registry);
-        for bound in 0..3 {
+        for (bound, count) in changed.iter_mut().enumerate() {
             let mut rows = sheet(&session, Slips::NONE);
             rows[index].bounds = truth.bounds;
             assert!(marks(&session, &rows, &all)[index].right);
@@ -82,7 +82,7 @@ fn a_changed_bound_is_wrong() {
                 "line {}",
                 step.number
             );
-            changed[bound] += usize::from(truth.bounds[bound].is_some());
+            *count += usize::from(truth.bounds[bound].is_some());
         }
     }
     assert!(changed.iter().all(|&count| count > 5), "{changed:?}");
