@@ -155,7 +155,7 @@ fn mistakes_are_what_a_batch_refuses() {
         seen.extend(same_table(&table, &of_table, index));
         seen.insert(same_orders(&orders, &of_orders, index));
     }
-    assert_eq!(seen.len(), 4, "{seen:?}");
+    assert_eq!(seen.len(), 5, "{seen:?}");
 }
 
 /// The lines, counted from 1, that a batch answers with 10 or 11.
@@ -190,11 +190,13 @@ fn same_orders(orders: &[u8], found: &[Mistake], index: u64) -> &'static str {
         faulty.is_empty() && !size,
         "orders {index}"
     );
-    assert_eq!(
-        found.iter().any(|one| one.line == 0),
-        size,
-        "orders {index}"
-    );
+    let whole = found.iter().any(|one| one.line == 0);
+    assert_eq!(whole, size, "orders {index}");
+    if size {
+        // Refused for its size, it isn't read.
+        assert!(found.iter().all(|one| one.line == 0), "orders {index}");
+        return "41";
+    }
     if all.len() > 1 && all.iter().all(|line| line.bytes.ends_with(b"\r")) {
         // Said once, of the first line.
         return "CR LF";
