@@ -1,0 +1,276 @@
+//! Inputs of the comparison runs, by seed: whole batches with every code in reach.
+
+pub mod orders;
+pub mod rng;
+pub mod tables;
+
+use orders::{flow, one_byte, order_lines, walk, Demand, Mix, LIKE_THE_SUMS, SMALL, WIDE};
+use plain::orders::{write_registration, Flow, Hop};
+use plain::programs::ANSWER_BYTES;
+use plain::registry::Registry;
+use plain::table::Queue;
+use rng::Rng;
+use tables::{full_ring, loose, random_limits, table_text, Shape};
+
+/// A batch's three areas; of the answer area only the length counts.
+pub struct Input {
+    pub table: Vec<u8>,
+    pub orders: Vec<u8>,
+    pub area: usize,
+    /// How the texts were made, and what was done to them.
+    pub kinds: [&'static str; 2],
+}
+
+/// The kinds that every run must have met.
+pub const KINDS: [&str; 9] = [
+    "full slots",
+    "full hops",
+    "at the limits",
+    "tight",
+    "like the sums",
+    "mixed",
+    "as made",
+    "one byte",
+    "cut",
+];
+
+const SPEEDS: [u64; 5] = [1, 10, 100, 1_000, 10_000];
+
+/// One batch. A long run has more lines in each text.
+pub fn input(rng: &mut Rng, long: bool) -> Input {
+    let most = if long { 600 } else { 60 };
+    let (made, (mut queues, lines)) = match rng.between(0, 23) {
+        0 => ("full slots", full_slots(rng)),
+        1 => ("full hops", full_hops(rng)),
+        2 | 3 => return at_the_limits(rng),
+        4..=7 => ("tight", tight(rng)),
+        8..=10 => {
+            let queues = sums_network(rng);
+            let lines = mixed_lines(rng, &queues, LIKE_THE_SUMS, most);
+            ("like the sums", (queues, lines))
+        }
+        _ => {
+            let queues = network(rng);
+            let demand = if rng.once_in(3) { SMALL } else { WIDE };
+            let lines = mixed_lines(rng, &queues, demand, most);
+            ("mixed", (queues, lines))
+        }
+    };
+    if rng.once_in(6) {
+        tables::line_faults(rng, &mut queues);
+    }
+    let mut table = table_text(&queues);
+    let mut orders = lines.concat();
+    let done = damage(rng, &mut table, &mut orders);
+    let area = area(rng, &orders);
+    Input {
+        table,
+        orders,
+        area,
+        kinds: [made, done],
+    }
+}
+
+fn network(rng: &mut Rng) -> Vec<Queue> {
+    let shape = rng.pick(&[Shape::Mesh, Shape::Mesh, Shape::Chain]);
+    let links = rng.pick(&[1, 2, 3, 6, 13, 20, 64]);
+    let most_levels = rng.pick(&[1, 2, 3, 8]);
+    let speeds: &[u64] = if rng.once_in(2) { &SPEEDS } else { &[10_000] };
+    let mut queues = loose(rng, shape, links, most_levels, speeds);
+    if rng.once_in(2) {
+        random_limits(rng, &mut queues);
+    }
+    queues
+}
+
+/// A few links at 100 Mbit/s with limits near document 01's sums.
+fn sums_network(rng: &mut Rng) -> Vec<Queue> {
+    let mut queues = loose(rng, Shape::Chain, 3, 3, &[100]);
+    for queue in &mut queues {
+        queue.threshold = rng.pick(&[246, 247, 370, 371, 374, 495, 1_000, 100_000]);
+        queue.buffer = rng.pick(&[1_557, 1_558, 1_573, 1_574, 2_000, 3_200, 100_000]);
+    }
+    queues
+}
+
+fn mixed_lines(rng: &mut Rng, queues: &[Queue], demand: Demand, most: u64) -> Vec<Vec<u8>> {
+    let mix = Mix {
+        releases: rng.between(0, 4),
+        odd: rng.between(0, 3),
+    };
+    let count = rng.between(0, most) as usize;
+    order_lines(rng, queues, demand, mix, count)
+}
+
+/// A registration over these hops with the greatest deadline.
+fn unhurried(
+    rng: &mut Rng,
+    queues: &[Queue],
+    demand: Demand,
+    number: u64,
+    hops: Vec<Hop>,
+) -> Vec<u8> {
+    write_registration(&Flow {
+        number,
+        hops,
+        deadline: 10_000_000,
+        ..flow(rng, queues, demand)
+    })
+}
+
+/// More flows than there are slots, and releases once they are full. Four hops each fill the hop
+/// pool as well.
+fn full_slots(rng: &mut Rng) -> (Vec<Queue>, Vec<Vec<u8>>) {
+    let queues = full_ring(10_000, tables::MOST_THRESHOLD, tables::MOST_BUFFER);
+    let hops = if rng.once_in(2) { 4 } else { rng.between(1, 3) };
+    let mut lines = Vec::new();
+    for number in 1..=rng.between(256, 300) {
+        let hops = walk(rng, &queues, hops as usize);
+        lines.push(unhurried(rng, &queues, SMALL, number, hops));
+    }
+    let reused = Demand {
+        numbers: 320,
+        ..rng.pick(&[SMALL, WIDE])
+    };
+    let mix = Mix {
+        releases: 4,
+        odd: 2,
+    };
+    lines.extend(order_lines(rng, &queues, reused, mix, 60));
+    (queues, lines)
+}
+
+/// Long paths until the hop pool is full, then releases and paths of every length.
+fn full_hops(rng: &mut Rng) -> (Vec<Queue>, Vec<Vec<u8>>) {
+    let links = rng.between(12, 16);
+    let queues = loose(rng, Shape::Chain, links, 2, &[10_000]);
+    let demand = Demand {
+        rates: &[1],
+        bursts: &[84, 90],
+        most_hops: 12,
+        numbers: 65_535,
+    };
+    let mut lines = Vec::new();
+    for number in 1..=rng.between(84, 88) {
+        let start = rng.between(1, links - 11);
+        let hops = chain_path(rng, &queues, start, 12);
+        lines.push(unhurried(rng, &queues, demand, number, hops));
+    }
+    let reused = Demand {
+        numbers: 100,
+        ..demand
+    };
+    let mix = Mix {
+        releases: 3,
+        odd: 1,
+    };
+    lines.extend(order_lines(rng, &queues, reused, mix, 40));
+    (queues, lines)
+}
+
+/// The path over so many links of a chain, at random levels.
+fn chain_path(rng: &mut Rng, queues: &[Queue], start: u64, count: u64) -> Vec<Hop> {
+    let mut hops = Vec::new();
+    for link in start..start + count {
+        let levels: Vec<&Queue> = queues.iter().filter(|queue| queue.link == link).collect();
+        let level = levels[rng.index(levels.len())].level;
+        hops.push(Hop { link, level });
+    }
+    hops
+}
+
+/// Limits that are the bounds of a set of flows or one below, and the same flows again.
+fn tight(rng: &mut Rng) -> (Vec<Queue>, Vec<Vec<u8>>) {
+    let links = rng.between(1, 6);
+    let mut queues = loose(rng, Shape::Mesh, links, 4, &[10, 100, 1_000]);
+    let mut registry = Registry::over(queues.clone());
+    let count = rng.between(1, 25);
+    for _ in 0..count {
+        let line = write_registration(&flow(
+            rng,
+            &queues,
+            Demand {
+                numbers: 65_535,
+                ..WIDE
+            },
+        ));
+        registry.register(&line);
+    }
+    let mut flows: Vec<Flow> = registry.held().into_iter().cloned().collect();
+    tables::tighten(&mut queues, &flows.iter().collect::<Vec<_>>());
+    tables::tighten_deadlines(&queues, &mut flows);
+    if rng.once_in(2) {
+        let index = rng.index(queues.len());
+        let queue = &mut queues[index];
+        let limit = if rng.once_in(2) {
+            &mut queue.threshold
+        } else {
+            &mut queue.buffer
+        };
+        *limit = (*limit - 1).max(1);
+    }
+    if let Some(last) = flows.last_mut() {
+        last.deadline = (last.deadline - rng.between(0, 1)).max(1);
+        last.rate += rng.between(0, 1);
+        last.burst += rng.between(0, 1);
+    }
+    rng.shuffle(&mut flows);
+    let lines = flows.iter().map(write_registration).collect();
+    (queues, lines)
+}
+
+/// Texts of just the longest length or one more, tables past 64 links or 8 levels.
+fn at_the_limits(rng: &mut Rng) -> Input {
+    let mut table = table_text(&full_ring(100, 1_000, 10_000));
+    let mut orders = Vec::new();
+    match rng.between(0, 6) {
+        0 => orders = vec![rng.pick(b"x1 "); 60_000 + rng.index(2)],
+        1 => orders = vec![b'\n'; 2_000 + rng.index(2)],
+        2 => {
+            orders = vec![b'\n'; 1_999];
+            orders.extend_from_slice(rng.pick(&[&b" 1"[..], b" 2     1\n", b"\n\n", b"\n "]));
+        }
+        3 => table.extend_from_slice(rng.pick(&[&b""[..], b" ", b"\n", b"  65"])),
+        4 => table = vec![b' '; 18_944 + rng.index(2)],
+        5 => table = table_text(&tables::too_many(rng)),
+        _ => table.clear(),
+    }
+    let area = area(rng, &orders);
+    Input {
+        table,
+        orders,
+        area,
+        kinds: ["at the limits", "as made"],
+    }
+}
+
+/// Leaves most texts alone; else one byte, or all bytes from some place on.
+fn damage(rng: &mut Rng, table: &mut Vec<u8>, orders: &mut Vec<u8>) -> &'static str {
+    match rng.between(0, 19) {
+        0 => one_byte(rng, table),
+        1 | 2 => one_byte(rng, orders),
+        3 => {
+            table.truncate(rng.index(table.len() + 1));
+            return "cut";
+        }
+        4 => {
+            orders.truncate(rng.index(orders.len() + 1));
+            return "cut";
+        }
+        _ => return "as made",
+    }
+    "one byte"
+}
+
+fn area(rng: &mut Rng, orders: &[u8]) -> usize {
+    let ended = orders.iter().filter(|&&byte| byte == b'\n').count();
+    let lines = ended + usize::from(orders.last().is_some_and(|&byte| byte != b'\n'));
+    let needed = ANSWER_BYTES * lines;
+    match rng.between(0, 19) {
+        0 => needed.saturating_sub(1),
+        1 => rng.index(needed + 1),
+        2 => 0,
+        3..=6 => needed + rng.index(50),
+        _ => needed,
+    }
+}

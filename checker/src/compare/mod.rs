@@ -1,0 +1,137 @@
+//! The comparison run: each version of the batch against the plain one, on the same areas, and
+//! direct calls against the plain calls.
+
+pub mod direct;
+
+use crate::versions::versions;
+use direct::Counts;
+use halls::rng::Rng;
+use halls::{input, Input, KINDS};
+use plain::columns::lines;
+use std::collections::BTreeMap;
+use std::fmt::Display;
+
+/// What every run must have met; only direct calls can meet 42.
+pub const BATCH_CODES: [u64; 7] = [1, 2, 3, 4, 5, 40, 41];
+pub const ORDER_CODES: [u64; 15] = [0, 10, 11, 12, 13, 14, 15, 16, 17, 20, 21, 22, 23, 30, 31];
+
+pub struct Report {
+    /// Refused batches.
+    pub refused: Counts,
+    /// Answer lines of batches that were done.
+    pub answers: Counts,
+    /// Answers of direct calls.
+    pub calls: Counts,
+    pub batches: u64,
+    /// How often each kind of input occurred.
+    pub kinds: BTreeMap<&'static str, u64>,
+    /// Releases that were done.
+    pub released: u64,
+}
+
+impl Report {
+    /// The codes that never occurred.
+    pub fn missing(&self) -> Vec<u64> {
+        let no_batch = BATCH_CODES
+            .iter()
+            .filter(|code| !self.refused.contains_key(code));
+        let no_order = ORDER_CODES
+            .iter()
+            .filter(|code| !self.answers.contains_key(code));
+        no_batch.chain(no_order).copied().collect()
+    }
+
+    /// The kinds of input that never occurred.
+    pub fn missing_kinds(&self) -> Vec<&'static str> {
+        let mut missing: Vec<&str> = KINDS.to_vec();
+        missing.retain(|kind| !self.kinds.contains_key(kind));
+        if self.released == 0 {
+            missing.push("releases");
+        }
+        missing
+    }
+
+    pub fn print(&self) {
+        let names: Vec<&str> = versions().iter().map(|(name, _)| *name).collect();
+        println!(
+            "batches: {}, plain against {}",
+            self.batches,
+            names.join(", ")
+        );
+        print_counts("inputs", &self.kinds);
+        println!("releases done: {}", self.released);
+        print_counts("refused batches", &self.refused);
+        print_counts("answer lines", &self.answers);
+        print_counts("direct calls", &self.calls);
+    }
+}
+
+fn print_counts<K: Display>(title: &str, counts: &BTreeMap<K, u64>) {
+    let shown: Vec<String> = counts
+        .iter()
+        .map(|(key, times)| format!("{key}: {times}"))
+        .collect();
+    println!("{title}: {}", shown.join(", "));
+}
+
+/// Runs so many inputs; the first difference ends the run.
+pub fn run(seed: u64, count: u64, long: bool) -> Result<Report, String> {
+    let mut report = Report {
+        refused: Counts::new(),
+        answers: Counts::new(),
+        calls: Counts::new(),
+        batches: 0,
+        kinds: BTreeMap::new(),
+        released: 0,
+    };
+    for index in 0..count {
+        let mut rng = Rng::new(seed, index);
+        let given = input(&mut rng, long);
+        one_batch(&given, &mut report)
+            .map_err(|what| format!("seed {seed} input {index}: {what}"))?;
+        direct::one_list(&mut rng, &given, &mut report.calls)
+            .map_err(|what| format!("seed {seed} calls {index}: {what}"))?;
+    }
+    Ok(report)
+}
+
+/// A pattern in the answer area, so that a byte written shows.
+fn area(length: usize) -> Vec<u8> {
+    (0..length).map(|at| (at % 251) as u8 ^ 0xa5).collect()
+}
+
+fn one_batch(given: &Input, report: &mut Report) -> Result<(), String> {
+    let mut expected = area(given.area);
+    let (code, line) = plain::programs::batch(&given.table, &given.orders, &mut expected);
+    if code != 0 && expected != area(given.area) {
+        return Err(format!(
+            "plain: refused with {code}, but the area was written"
+        ));
+    }
+    for (name, batch) in versions() {
+        let mut answers = area(given.area);
+        let outcome = batch(&given.table, &given.orders, &mut answers);
+        if outcome != (code as u32, line as u32) {
+            return Err(format!("{name}: {outcome:?}, plain: ({code}, {line})"));
+        }
+        if let Some(at) = (0..given.area).find(|&at| answers[at] != expected[at]) {
+            return Err(format!("{name}: answer line {} differs", at / 20 + 1));
+        }
+    }
+    report.batches += 1;
+    for kind in given.kinds {
+        *report.kinds.entry(kind).or_default() += 1;
+    }
+    if code != 0 {
+        *report.refused.entry(code).or_default() += 1;
+        return Ok(());
+    }
+    for (answer, order) in expected.chunks_exact(20).zip(lines(&given.orders)) {
+        let Some(found) = plain::columns::field(answer, 7, 9) else {
+            return Err("plain: an answer without a code".to_string());
+        };
+        *report.answers.entry(found).or_default() += 1;
+        report.released += u64::from(found == 0 && order.bytes.starts_with(b" 2"));
+    }
+    Ok(())
+}
