@@ -1,5 +1,6 @@
 #!/usr/bin/env python3
-"""Runs a program on the stored cases and compares what it prints with printed.txt, byte by byte.
+"""Runs a program on the stored cases and compares what it prints with printed.txt, byte by byte; what it says on standard
+error too, where that is known.
 
     tests/vectors.py PROGRAM admit|replay [ARGUMENT ..]
 
@@ -17,26 +18,33 @@ STORED = ROOT / "tests" / "vectors"
 EXAMPLES = [ROOT / "examples", ROOT / "examples" / "hall", ROOT / "examples" / "fragmented"]
 FOLDER = object()  # stands for a folder in a file's place
 SECONDS = 60
+REFUSED_BYTES = 10  # a refused batch's line
 
 TABLE = b"   1   1   2   100 1    370     2000\n"
 REGISTER = b" 1     7     1000    1542 1542     370  1   1 1\n"
 RELEASE = b" 2     7\n"
 FIGURES = b"   1 1           0              0    0\n"
 
-# name: (files, printed); the expected lines are given by hand.
+NO_TABLE = b"admit: table.txt: can't be opened, counts as empty\n"
+NO_ORDERS = b"admit: orders.txt: can't be opened, counts as empty\n"
+LONG_TABLE = b"admit: refused: the table is too long\n"
+
+# name: (files, printed, said); the expected lines are given by hand. What isn't given is nothing.
 ODD = {
     "admit": {
-        "no files": ({}, b""),
-        "no orders": ({"table.txt": TABLE}, b""),
-        "no table": ({"orders.txt": REGISTER + RELEASE}, b"     1 14   0   1 1\n     2 13   0   0 0\n"),
+        "no files": ({}, b"", NO_TABLE + NO_ORDERS),
+        "no orders": ({"table.txt": TABLE}, b"", NO_ORDERS),
+        "no table": ({"orders.txt": REGISTER + RELEASE}, b"     1 14   0   1 1\n     2 13   0   0 0\n", NO_TABLE),
         "folders": ({"table.txt": FOLDER, "orders.txt": FOLDER}, b""),
         "a folder for a table": ({"table.txt": FOLDER, "orders.txt": RELEASE}, b"     1 13   0   0 0\n"),
         "a last line unended": ({"table.txt": TABLE, "orders.txt": REGISTER + RELEASE[:-1]}, b"     1  0   1   0 0\n     2 10   0   0 0\n"),
-        "a table unended": ({"table.txt": TABLE + TABLE[:-1], "orders.txt": RELEASE}, b"  1     2\n"),
-        "a table of 18,945 bytes": ({"table.txt": b"x" * 18_945, "orders.txt": RELEASE}, b"  5     0\n"),
-        "a table of 30 MB": ({"table.txt": TABLE * 810_811, "orders.txt": RELEASE}, b"  5     0\n"),
-        "orders of 30 MB": ({"table.txt": TABLE, "orders.txt": RELEASE * 3_333_334}, b" 41     0\n"),
-        "both of 30 MB": ({"table.txt": b"\n" * 30_000_000, "orders.txt": b" " * 30_000_000}, b"  5     0\n"),
+        "a table unended": ({"table.txt": TABLE + TABLE[:-1], "orders.txt": RELEASE}, b"  1     2\n",
+            b"admit: refused: table.txt, line 2: its columns are wrong, or the last line has no LF\n"),
+        "a table of 18,945 bytes": ({"table.txt": b"x" * 18_945, "orders.txt": RELEASE}, b"  5     0\n", LONG_TABLE),
+        "a table of 30 MB": ({"table.txt": TABLE * 810_811, "orders.txt": RELEASE}, b"  5     0\n", LONG_TABLE),
+        "orders of 30 MB": ({"table.txt": TABLE, "orders.txt": RELEASE * 3_333_334}, b" 41     0\n",
+            b"admit: refused: the orders are too long, or too many\n"),
+        "both of 30 MB": ({"table.txt": b"\n" * 30_000_000, "orders.txt": b" " * 30_000_000}, b"  5     0\n", LONG_TABLE),
     },
     "replay": {
         "no files": ({}, b""),
@@ -67,13 +75,12 @@ def fill(folder, files):
             (folder / name).write_bytes(content)
 
 
-def run(command, files):
-    """Code and standard output of the command in a folder that holds these files."""
+def run(command, files, output=subprocess.PIPE):
+    """The command run in a folder that holds these files."""
     folder = Path(tempfile.mkdtemp(prefix="vectors-"))
     try:
         fill(folder, files)
-        done = subprocess.run(command, cwd=folder, stdin=subprocess.DEVNULL, stdout=subprocess.PIPE, timeout=SECONDS)
-        return done.returncode, done.stdout
+        return subprocess.run(command, cwd=folder, stdin=subprocess.DEVNULL, stdout=output, stderr=subprocess.PIPE, timeout=SECONDS)
     finally:
         shutil.rmtree(folder)
 
@@ -86,17 +93,28 @@ def difference(found, expected):
     return f"line {at + 1}: printed {shown[0]!r}, expected {shown[1]!r}"
 
 
-def judge(command, name, files, expected):
+def judge(command, name, files, expected, said=b""):
+    """Standard error isn't compared where `said` is None."""
     try:
-        code, found = run(command, files)
+        done = run(command, files)
     except subprocess.TimeoutExpired:
         sys.exit(f"vectors: {name}: not done after {SECONDS} s")
     except OSError as error:
         sys.exit(f"vectors: {command[0]}: {error.strerror}")
-    if found != expected:
-        sys.exit(f"vectors: {name}: {difference(found, expected)}")
-    if code != 0:
-        sys.exit(f"vectors: {name}: the program ended with {code}")
+    if done.stdout != expected:
+        sys.exit(f"vectors: {name}: {difference(done.stdout, expected)}")
+    if said is not None and done.stderr != said:
+        sys.exit(f"vectors: {name}: on standard error {difference(done.stderr, said)}")
+    if done.returncode != 0:
+        sys.exit(f"vectors: {name}: the program ended with {done.returncode}")
+
+
+def judge_full(command):
+    """Answers that can't be written."""
+    with open("/dev/full", "wb") as full:
+        done = run(command, {"table.txt": TABLE, "orders.txt": RELEASE}, full)
+    if done.stderr != b"admit: the output can't be written\n":
+        sys.exit(f"vectors: a full disk: said {done.stderr!r}")
 
 
 def main(arguments):
@@ -108,10 +126,12 @@ def main(arguments):
     if not cases:
         sys.exit(f"vectors: no case of {kind} in {STORED}")
     for name, files, expected in cases:
-        judge(command, name, files, expected)
+        judge(command, name, files, expected, None if len(expected) == REFUSED_BYTES else b"")
     odd = ODD[kind]
-    for name, (files, expected) in odd.items():
-        judge(command, name, files, expected)
+    for name, case in odd.items():
+        judge(command, name, *case)
+    if kind == "admit":
+        judge_full(command)
     print(f"vectors: {' '.join([kind, *passed])}: {len(cases)} stored cases and {len(odd)} odd files passed")
 
 
