@@ -2,16 +2,15 @@
 //! with and without the 42 check; and the stack that a batch needs.
 
 use crate::book;
-use crate::calls::Version;
 use crate::clock::thread_time;
-use crate::compare::{versions, Batch, PROVED};
 use crate::fast;
-use crate::gen::loads::{loads, Load};
 use crate::lists;
-use crate::plain;
-use crate::plain::orders::write_release;
+use crate::loads::{loads, Load};
 use crate::rounds::{report, Bars, Measured, Round};
 use crate::stack;
+use crate::versions::{versions, Batch, PROVED};
+use crate::views::Version;
+use plain::orders::write_release;
 use std::hint::black_box;
 use std::path::Path;
 use std::time::{Duration, Instant};

@@ -2,17 +2,19 @@
 //! process beside the plain version and the others, for its answers and for its time.
 
 use crate::book;
-use crate::calls::{call_bytes, Version};
 use crate::clock::children_time;
-use crate::compare::{BOOK, FAST, PROVED};
+use crate::compare::direct::call_bytes;
 use crate::fast;
-use crate::gen::{input, loads};
-use crate::plain::columns::lines;
-use crate::plain::orders::{REGISTER, RELEASE};
-use crate::plain::programs::{put_calls, put_refusal, put_state, replay, write_call};
-use crate::plain::registry::Answer;
-use crate::rng::Rng;
+use crate::loads;
 use crate::rounds::{report, Bars, Measured, Round};
+use crate::versions::{BOOK, FAST, PROVED};
+use crate::views::Version;
+use halls::input;
+use halls::rng::Rng;
+use plain::columns::lines;
+use plain::orders::{REGISTER, RELEASE};
+use plain::programs::{put_calls, put_refusal, put_state, replay, write_call};
+use plain::registry::Answer;
 use std::fs;
 use std::io;
 use std::path::{Path, PathBuf};

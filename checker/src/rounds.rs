@@ -1,6 +1,6 @@
 //! What the rounds of a benchmark measured of each version, and the bars that it must meet.
 
-use crate::compare::{BOOK, FAST, PROVED};
+use crate::versions::{BOOK, FAST, PROVED};
 
 /// µs per order or call in one round.
 pub struct Round {

@@ -1,9 +1,9 @@
 //! Document 01's run, bit by bit: instants are whole µs, a link sends C bits between two of them,
 //! strict priority, first in first out, never idle while a frame waits, never breaking off a frame.
 
-use crate::plain::orders::Flow;
-use crate::plain::table::Queue;
-use crate::rng::Rng;
+use halls::rng::Rng;
+use plain::orders::Flow;
+use plain::table::Queue;
 use std::collections::VecDeque;
 
 /// A frame that a source adds.

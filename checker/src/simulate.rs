@@ -1,14 +1,14 @@
 //! Sets traffic on admitted flows over tables whose thresholds and buffers are the bounds, and
 //! looks for the longest stay and the greatest backlog by changing one source after the other.
 
-use crate::gen::orders::{flow, Demand};
-use crate::gen::tables::{loose, table_text, tighten, tighten_deadlines, Shape};
-use crate::plain::orders::{write_registration, Flow, Hop};
-use crate::plain::registry::Registry;
-use crate::plain::table::Queue;
-use crate::rng::Rng;
 use crate::sim::{Arrivals, Fault, Network, Seen, Send};
 use crate::traffic::{conforms, sends, Pace, Pattern, Sizes};
+use halls::orders::{flow, Demand};
+use halls::rng::Rng;
+use halls::tables::{loose, table_text, tighten, tighten_deadlines, Shape};
+use plain::orders::{write_registration, Flow, Hop};
+use plain::registry::Registry;
+use plain::table::Queue;
 
 /// A table and flows that the reference model admits on it.
 pub struct Hall {

@@ -2,8 +2,8 @@
 //! lowest byte that changed tells. A thread that is merely small wouldn't do, for a frame larger
 //! than the guard page can pass over it.
 
-use crate::compare::Batch;
-use crate::gen::loads::loads;
+use crate::loads::loads;
+use crate::versions::Batch;
 use std::alloc::{alloc, dealloc, handle_alloc_error, Layout};
 use std::ffi::{c_int, c_void};
 use std::ptr;

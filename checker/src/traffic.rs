@@ -1,8 +1,8 @@
 //! Sources that keep to their token bucket and make the most of it.
 
-use crate::plain::orders::Flow;
-use crate::rng::Rng;
 use crate::sim::Send;
+use halls::rng::Rng;
+use plain::orders::Flow;
 
 pub const SMALLEST_FRAME: u64 = 84;
 

@@ -1,8 +1,8 @@
 //! Runs stored cases and compares what would be printed, byte by byte.
 
-use crate::compare::versions;
 use crate::lists::REPLAYS;
-use crate::plain::programs::{admit, admit_by, replay};
+use crate::versions::versions;
+use plain::programs::{admit, admit_by, replay};
 use std::fs;
 use std::io;
 use std::path::{Path, PathBuf};

@@ -1,12 +1,12 @@
 //! The short seeded runs, and the simulator on runs small enough to follow by hand.
 
-use checker::plain::orders::{Flow, Hop};
-use checker::plain::table::Queue;
-use checker::rng::Rng;
 use checker::rounds::Bars;
 use checker::sim::{Arrivals, Fault, Network, Seen, Send};
 use checker::traffic::{conforms, sends, Pace, Pattern, Sizes};
 use checker::{compare, simulate, vectors};
+use halls::rng::Rng;
+use plain::orders::{Flow, Hop};
+use plain::table::Queue;
 use std::path::Path;
 
 #[test]
@@ -187,7 +187,7 @@ fn sources_conform_and_use_their_bucket() {
 /// The benchmark's loads are legal batches that do what they are meant to.
 #[test]
 fn loads_answer_as_meant() {
-    for load in checker::gen::loads::loads(1) {
+    for load in checker::loads::loads(1) {
         let text = load.text(load.lines.len());
         assert!(text.len() <= 60_000 && load.lines.len() <= 2_000);
         let mut answers = vec![0; 40_000];

@@ -1,9 +1,8 @@
 //! Document 01, "Sums to check by hand": all at 100 Mbit/s, flows of rate 1,000, burst and frame
 //! 1,542. Each is worked out by the formulas or put to all versions as a batch.
 
-use checker::compare::versions;
-use checker::plain;
-use checker::plain::formula::{backlog, burst_at_hop, delay, rate_passes, Aggregate};
+use checker::versions::versions;
+use plain::formula::{backlog, burst_at_hop, delay, rate_passes, Aggregate};
 
 const FLOW: Aggregate = Aggregate {
     rate: 1_000,

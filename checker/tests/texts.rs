@@ -1,10 +1,10 @@
 //! Lines, fields, batches at their limits, direct calls and the list that `replay` reads.
 
 use checker::calls::Calls;
-use checker::compare::versions;
-use checker::plain::columns::{field, lines};
-use checker::plain::programs::replay;
-use checker::{book, fast, plain};
+use checker::versions::versions;
+use checker::{book, fast};
+use plain::columns::{field, lines};
+use plain::programs::replay;
 
 const TABLE: &[u8] =
     b"   1   1   2   100 1  10000   100000\n   1   1   2   100 2  10000   100000\n";

@@ -1,10 +1,10 @@
 //! Queue tables: networks that have paths, limits from loose to tight, and faulty texts.
 
-use crate::plain::formula::{backlog, delay, Aggregate};
-use crate::plain::orders::Flow;
-use crate::plain::registry::{aggregate, path_thresholds};
-use crate::plain::table::{write_queue, Queue};
 use crate::rng::Rng;
+use plain::formula::{backlog, delay, Aggregate};
+use plain::orders::Flow;
+use plain::registry::{aggregate, path_thresholds};
+use plain::table::{write_queue, Queue};
 
 pub const MOST_THRESHOLD: u64 = 100_000;
 pub const MOST_BUFFER: u64 = 16_777_215;

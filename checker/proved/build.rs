@@ -1,4 +1,4 @@
-//! Under the feature `proved`: tells the linker in which folder libbatch.a lies.
+//! Under the feature `linked`: tells the linker in which folder libbatch.a lies.
 
 use std::env;
 
@@ -6,11 +6,11 @@ const FOLDER: &str = "BATCH_LIB_DIR";
 
 fn main() {
     println!("cargo:rerun-if-env-changed={FOLDER}");
-    if env::var_os("CARGO_FEATURE_PROVED").is_none() {
+    if env::var_os("CARGO_FEATURE_LINKED").is_none() {
         return;
     }
     let Ok(folder) = env::var(FOLDER) else {
-        panic!("the feature `proved` needs {FOLDER}: the folder that holds libbatch.a");
+        panic!("the proved library needs {FOLDER}: the folder that holds libbatch.a");
     };
     println!("cargo:rerun-if-changed={folder}/libbatch.a");
     println!("cargo:rustc-link-search=native={folder}");

@@ -1,12 +1,12 @@
 //! The fast registry, as the runs see and damage it.
 
 use super::{near, Version, View};
-use crate::compare::FAST;
 use crate::fast;
-use crate::plain::formula::Aggregate;
-use crate::plain::orders::{Flow, Hop};
-use crate::plain::table::Queue;
-use crate::rng::Rng;
+use crate::versions::FAST;
+use halls::rng::Rng;
+use plain::formula::Aggregate;
+use plain::orders::{Flow, Hop};
+use plain::table::Queue;
 
 impl Version for fast::Registry {
     const NAME: &'static str = FAST;

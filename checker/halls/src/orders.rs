@@ -1,9 +1,9 @@
 //! Order lines over a table: flows along real paths, single faults of every kind, releases.
 
-use crate::plain::columns::put;
-use crate::plain::orders::{write_registration, write_release, Flow, Hop};
-use crate::plain::table::Queue;
 use crate::rng::Rng;
+use plain::columns::put;
+use plain::orders::{write_registration, write_release, Flow, Hop};
+use plain::table::Queue;
 
 /// A random walk over the links of a table, no link twice, at random levels.
 pub fn walk(rng: &mut Rng, queues: &[Queue], most: usize) -> Vec<Hop> {

@@ -1,47 +1,17 @@
 //! Direct calls: each version's registry against the plain one after every call, and 42 on damaged
 //! registries against document 01's "in order".
 
-mod book;
-mod fast;
-
 use crate::answer;
-use crate::compare::Counts;
-use crate::gen::Input;
-use crate::plain::columns::lines;
-use crate::plain::formula::Aggregate;
-use crate::plain::orders::{Flow, REGISTER, RELEASE};
-use crate::plain::registry::{consistent, Answer, Registry};
-use crate::plain::table::Queue;
-use crate::rng::Rng;
+use crate::views::Version;
+use halls::rng::Rng;
+use halls::Input;
+use plain::columns::lines;
+use plain::orders::{REGISTER, RELEASE};
+use plain::registry::{consistent, Answer, Registry};
+use std::collections::BTreeMap;
 
-/// What document 01 lets count of a registry: table, the flow or none at each slot, figures.
-pub struct View {
-    pub queues: Vec<Queue>,
-    pub slots: Vec<Option<Flow>>,
-    pub stored: Vec<Aggregate>,
-}
-
-/// A version's registry with its direct calls.
-pub trait Calls: Clone {
-    const EMPTY: Self;
-
-    /// Opens it anew on a table text; code and line where it is refused.
-    fn open(&mut self, table: &[u8]) -> (u32, u32);
-    /// A call of either kind, 42 first.
-    fn call(&mut self, kind: u32, bytes: &[u8]) -> answer::Answer;
-    /// The same on a registry known to be in order.
-    fn call_unchecked(&mut self, kind: u32, bytes: &[u8]) -> answer::Answer;
-}
-
-/// What the runs ask of a version's registry beside its calls.
-pub trait Version: Calls {
-    const NAME: &'static str;
-
-    fn consistent(&self) -> bool;
-    fn view(&self) -> View;
-    /// Changes one of its numbers.
-    fn damage(&mut self, rng: &mut Rng);
-}
+/// How often each code occurred.
+pub type Counts = BTreeMap<u64, u64>;
 
 fn same_answer(one: &Answer, other: &answer::Answer) -> bool {
     let fields = [other.code, other.slot, other.link, other.level].map(u64::from);
@@ -164,14 +134,4 @@ fn one_damage<R: Version>(rng: &mut Rng, sound: &R, counts: &mut Counts) -> Resu
         ));
     }
     Ok(())
-}
-
-fn near(rng: &mut Rng, value: u32) -> u32 {
-    match rng.between(0, 4) {
-        0 => value.wrapping_add(1),
-        1 => value.wrapping_sub(1),
-        2 => 0,
-        3 => u32::MAX,
-        _ => rng.draw() as u32,
-    }
 }

@@ -1,32 +1,15 @@
 //! The comparison run: each version of the batch against the plain one, on the same areas, and
 //! direct calls against the plain calls.
 
-use crate::calls;
-use crate::gen::{input, Input, KINDS};
-use crate::plain;
-use crate::plain::columns::lines;
-use crate::rng::Rng;
+pub mod direct;
+
+use crate::versions::versions;
+use direct::Counts;
+use halls::rng::Rng;
+use halls::{input, Input, KINDS};
+use plain::columns::lines;
 use std::collections::BTreeMap;
 use std::fmt::Display;
-
-pub type Batch = fn(&[u8], &[u8], &mut [u8]) -> (u32, u32);
-
-pub const PROVED: &str = "proved";
-pub const BOOK: &str = "book";
-pub const FAST: &str = "fast";
-
-/// The versions that are set beside the plain one.
-pub fn versions() -> Vec<(&'static str, Batch)> {
-    vec![
-        #[cfg(feature = "proved")]
-        (PROVED, crate::proved::batch as Batch),
-        (BOOK, crate::book::batch as Batch),
-        (FAST, crate::fast::batch as Batch),
-    ]
-}
-
-/// How often each code occurred.
-pub type Counts = BTreeMap<u64, u64>;
 
 /// What every run must have met; only direct calls can meet 42.
 pub const BATCH_CODES: [u64; 7] = [1, 2, 3, 4, 5, 40, 41];
@@ -106,7 +89,7 @@ pub fn run(seed: u64, count: u64, long: bool) -> Result<Report, String> {
         let given = input(&mut rng, long);
         one_batch(&given, &mut report)
             .map_err(|what| format!("seed {seed} input {index}: {what}"))?;
-        calls::one_list(&mut rng, &given, &mut report.calls)
+        direct::one_list(&mut rng, &given, &mut report.calls)
             .map_err(|what| format!("seed {seed} calls {index}: {what}"))?;
     }
     Ok(report)

@@ -1,14 +1,14 @@
 //! Inputs of the comparison runs, by seed: whole batches with every code in reach.
 
-pub mod loads;
 pub mod orders;
+pub mod rng;
 pub mod tables;
 
-use crate::plain::orders::{write_registration, Flow, Hop};
-use crate::plain::registry::Registry;
-use crate::plain::table::Queue;
-use crate::rng::Rng;
 use orders::{flow, one_byte, order_lines, walk, Demand, Mix, LIKE_THE_SUMS, SMALL, WIDE};
+use plain::orders::{write_registration, Flow, Hop};
+use plain::registry::Registry;
+use plain::table::Queue;
+use rng::Rng;
 use tables::{full_ring, loose, random_limits, table_text, Shape};
 
 /// A batch's three areas; of the answer area only the length counts.

@@ -1,9 +1,9 @@
 //! Document 01's plain book: the table's queues and a flow or none at each slot. All figures are
 //! worked out anew from the flows each time they are asked for.
 
-use super::formula::{backlog, burst_at_hop, delay, rate_passes, Aggregate};
-use super::orders::{read_call, Flow, Hop, Order, REGISTER, RELEASE};
-use super::table::{read_table, Queue, Refusal};
+use crate::formula::{backlog, burst_at_hop, delay, rate_passes, Aggregate};
+use crate::orders::{read_call, Flow, Hop, Order, REGISTER, RELEASE};
+use crate::table::{read_table, Queue, Refusal};
 
 /// Document 01's places.
 pub const SLOTS: usize = 256;
@@ -244,7 +244,7 @@ pub fn aggregate(queues: &[Queue], flows: &[&Flow], queue: &Queue) -> Aggregate 
 pub fn consistent(queues: &[Queue], slots: &[Option<Flow>], stored: &[Aggregate]) -> bool {
     for (i, queue) in queues.iter().enumerate() {
         let before = if i == 0 { None } else { queues.get(i - 1) };
-        if super::table::fault(queue, before).is_some() {
+        if crate::table::fault(queue, before).is_some() {
             return false;
         }
     }
@@ -254,7 +254,7 @@ pub fn consistent(queues: &[Queue], slots: &[Option<Flow>], stored: &[Aggregate]
         return false;
     }
     let each_alone = held.iter().all(|flow| {
-        super::orders::flow_in_range(flow)
+        crate::orders::flow_in_range(flow)
             && held
                 .iter()
                 .filter(|other| other.number == flow.number)

@@ -1,9 +1,9 @@
 //! The benchmark's loads: legal batches, repeated.
 
-use super::tables::{full_ring, table_text, MOST_BUFFER};
-use crate::plain::orders::{write_registration, write_release, Flow, Hop, REGISTER, RELEASE};
-use crate::plain::programs::{write_call, MOST_CALL_BYTES};
-use crate::rng::Rng;
+use halls::rng::Rng;
+use halls::tables::{full_ring, table_text, MOST_BUFFER};
+use plain::orders::{write_registration, write_release, Flow, Hop, REGISTER, RELEASE};
+use plain::programs::{write_call, MOST_CALL_BYTES};
 
 /// A batch and the part of its lines in which registrations and releases alternate.
 pub struct Load {

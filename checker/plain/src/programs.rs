@@ -1,10 +1,10 @@
 //! The batch over byte areas and what the programs `admit` and `replay` print.
 
-use super::columns::{field, lines, put};
-use super::formula::Aggregate;
-use super::orders::{read_order, write_flow, Flow, REGISTER, RELEASE};
-use super::registry::{Answer, Registry};
-use super::table::Queue;
+use crate::columns::{field, lines, put};
+use crate::formula::Aggregate;
+use crate::orders::{read_order, write_flow, Flow, REGISTER, RELEASE};
+use crate::registry::{Answer, Registry};
+use crate::table::Queue;
 
 const ANSWER_BYTES: usize = 20;
 const MOST_ORDER_BYTES: usize = 60_000;

@@ -2,11 +2,11 @@
 
 use super::{near, Version, View};
 use crate::book::{Registry, LEVELS, POOL, SLOTS};
-use crate::compare::BOOK;
-use crate::plain::formula::Aggregate;
-use crate::plain::orders::{Flow, Hop};
-use crate::plain::table::Queue;
-use crate::rng::Rng;
+use crate::versions::BOOK;
+use halls::rng::Rng;
+use plain::formula::Aggregate;
+use plain::orders::{Flow, Hop};
+use plain::table::Queue;
 
 impl Version for Registry {
     const NAME: &'static str = BOOK;

@@ -1,6 +1,6 @@
 //! Document 01's queue table: what a table text says, or the code and line of its first fault.
 
-use super::columns::{field, lines, Line};
+use crate::columns::{field, lines, Line};
 
 pub const MOST_LINKS: u64 = 64;
 pub const MOST_LEVELS: u64 = 8;
@@ -120,7 +120,7 @@ pub fn write_queue(queue: &Queue) -> Vec<u8> {
     ];
     let mut line = Vec::new();
     for (value, columns) in fields {
-        super::columns::put(&mut line, value, columns);
+        crate::columns::put(&mut line, value, columns);
     }
     line.push(b'\n');
     line

@@ -1,7 +1,7 @@
 //! Document 01's order line: a registration with a whole flow, a release with a flow number, or
 //! the code 10 or 11.
 
-use super::columns::{field, lines, put, Line};
+use crate::columns::{field, lines, put, Line};
 
 #[derive(Clone, Copy, Debug, PartialEq)]
 pub struct Hop {

@@ -1,0 +1,52 @@
+//! The course's tool: what is wrong with a hall's two files, why each order is answered as it is, every queue's bounds,
+//! a trainee's answers marked.
+
+pub mod arguments;
+pub mod folder;
+pub mod numbers;
+pub mod status;
+
+use arguments::Command;
+use status::{Outcome, Status};
+
+/// All commands, in the order of the help.
+pub const COMMANDS: &[&Command] = &[];
+
+pub fn version() -> String {
+    let linked = match proved::BATCH {
+        Some(_) => "with the proved library",
+        None => "the plain version alone: the proved library isn't linked",
+    };
+    format!("course {} ({linked})\n", env!("CARGO_PKG_VERSION"))
+}
+
+fn help() -> String {
+    let mut text = String::from("usage: course COMMAND ..\n\n");
+    for command in COMMANDS {
+        text += &format!(
+            "  course {} {}\n      {}\n",
+            command.name, command.usage, command.about
+        );
+    }
+    text + "\n`course COMMAND --help` says more. FOLDER holds table.txt and orders.txt.\n\
+            Exit status: 0 fine; 1 a refused batch, unreadable input, a mistake found by `check`, a wrong row in `mark`;\n\
+            2 usage; 3 a source doesn't conform; 4 a frame late or a buffer exceeded.\n"
+}
+
+/// What the program does with these words.
+pub fn run(words: &[String]) -> Outcome {
+    let Some(first) = words.first() else {
+        return Outcome::failed(Status::Usage, help());
+    };
+    match first.as_str() {
+        "--help" | "help" => Outcome::fine(help()),
+        "--version" => Outcome::fine(version()),
+        name => match COMMANDS.iter().find(|command| command.name == name) {
+            Some(command) => command.call(&words[1..]),
+            None => Outcome::failed(
+                Status::Usage,
+                format!("course: there is no command {name}\n{}", help()),
+            ),
+        },
+    }
+}

@@ -1,0 +1,35 @@
+//! Numbers as a reader writes them.
+
+use std::fmt::Display;
+
+/// Digits in groups of three: 1,980.
+pub fn commas(number: impl Display) -> String {
+    let digits = number.to_string();
+    let mut grouped = String::new();
+    for (index, digit) in digits.chars().enumerate() {
+        if index > 0 && (digits.len() - index).is_multiple_of(3) {
+            grouped.push(',');
+        }
+        grouped.push(digit);
+    }
+    grouped
+}
+
+/// A part of a whole in per cent with one decimal, rounded up, so that 100.0 is never shown for more than the whole and a
+/// part above it always shows as more.
+pub fn per_cent(part: u128, whole: u128) -> String {
+    if whole == 0 {
+        return "-".to_string();
+    }
+    let tenths = (part * 1000).div_ceil(whole);
+    format!("{}.{}", commas(tenths / 10), tenths % 10)
+}
+
+/// One thing or several.
+pub fn counted(count: usize, one: &str, several: &str) -> String {
+    format!(
+        "{} {}",
+        commas(count),
+        if count == 1 { one } else { several }
+    )
+}
