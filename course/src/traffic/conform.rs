@@ -2,9 +2,9 @@
 //! 8000 × b + r × t; and frames from 84 bytes to the flow's largest.
 
 use super::run::Send;
-use super::words::commas;
-use checker::plain::orders::Flow;
-use checker::traffic::SMALLEST_FRAME;
+use crate::numbers::commas;
+use plain::orders::Flow;
+use halls::sources::SMALLEST_FRAME;
 use std::fmt;
 
 /// The first frame by which a source doesn't conform.

@@ -1,7 +1,7 @@
 //! What the run needs of a hall: each link's speed and queues, each flow's route over them.
 
-use checker::plain::orders::Flow;
-use checker::plain::table::Queue;
+use plain::orders::Flow;
+use plain::table::Queue;
 use std::ops::Range;
 
 /// A link's sender; its queues are consecutive, level 1 first.

@@ -3,7 +3,7 @@
 //! bit of each frame counts, not every bit.
 
 use super::network::Network;
-use checker::rng::Rng;
+use halls::rng::Rng;
 use std::cmp::Reverse;
 use std::collections::{BinaryHeap, VecDeque};
 

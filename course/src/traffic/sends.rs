@@ -1,10 +1,10 @@
 //! SENDS: what the sources send, a line for each frame, group of frames or greedy source.
 
 use super::run::Send;
-use super::words::commas;
-use checker::plain::orders::Flow;
-use checker::rng::Rng;
-use checker::traffic::{sends, Pace, Pattern, Sizes};
+use crate::numbers::commas;
+use plain::orders::Flow;
+use halls::rng::Rng;
+use halls::sources::{sends, Pace, Pattern, Sizes};
 
 /// Far beyond any run that is looked at; keeps every product within 64 bits.
 const MOST_INSTANT: u64 = 1_000_000_000_000;
