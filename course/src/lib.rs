@@ -5,12 +5,13 @@ pub mod arguments;
 pub mod folder;
 pub mod numbers;
 pub mod status;
+pub mod traffic;
 
 use arguments::Command;
 use status::{Outcome, Status};
 
 /// All commands, in the order of the help.
-pub const COMMANDS: &[&Command] = &[];
+pub const COMMANDS: &[&Command] = &[&traffic::COMMAND];
 
 pub fn version() -> String {
     let linked = match proved::BATCH {

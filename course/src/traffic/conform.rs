@@ -3,8 +3,8 @@
 
 use super::run::Send;
 use crate::numbers::commas;
-use plain::orders::Flow;
 use halls::sources::SMALLEST_FRAME;
+use plain::orders::Flow;
 use std::fmt;
 
 /// The first frame by which a source doesn't conform.
@@ -87,11 +87,8 @@ impl Source {
         let here = 8000 * self.bytes - earned;
         if self.least.is_none_or(|least| here <= least) {
             self.least = Some(here);
-            // The frames of one instant are in a window together.
-            if self.start != send.instant || self.bytes == 0 {
-                self.start = send.instant;
-                self.bytes_at_start = self.bytes;
-            }
+            self.start = send.instant;
+            self.bytes_at_start = self.bytes;
         }
         self.bytes += i128::from(send.bytes);
         let used = 8000 * (self.bytes - self.bytes_at_start);

@@ -35,10 +35,7 @@ impl Network {
             senders[of_link].queues.end = index + 1;
             sender_of.push(of_link);
         }
-        let routes = flows
-            .iter()
-            .map(|flow| route(queues, flow))
-            .collect();
+        let routes = flows.iter().map(|flow| route(queues, flow)).collect();
         Network {
             senders,
             sender_of,

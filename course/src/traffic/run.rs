@@ -245,7 +245,10 @@ impl<'a> Run<'a> {
         let mut free_from = now * sender.speed;
         while free_from < end {
             let taken = wire.under_way.or_else(|| {
-                let queue = sender.queues.clone().find(|&queue| !self.waiting[queue].is_empty())?;
+                let queue = sender
+                    .queues
+                    .clone()
+                    .find(|&queue| !self.waiting[queue].is_empty())?;
                 Some(UnderWay {
                     queue,
                     first_bit: free_from,

@@ -2,9 +2,10 @@
 
 use super::run::Send;
 use crate::numbers::commas;
-use plain::orders::Flow;
 use halls::rng::Rng;
 use halls::sources::{sends, Pace, Pattern, Sizes};
+use plain::orders::Flow;
+use std::fmt;
 
 /// Far beyond any run that is looked at; keeps every product within 64 bits.
 const MOST_INSTANT: u64 = 1_000_000_000_000;
@@ -18,6 +19,12 @@ pub struct Mistake {
     pub line: usize,
     pub column: usize,
     pub what: String,
+}
+
+impl fmt::Display for Mistake {
+    fn fmt(&self, out: &mut fmt::Formatter) -> fmt::Result {
+        write!(out, "{}:{}: {}", self.line, self.column, self.what)
+    }
 }
 
 #[derive(Clone, Copy, Debug, PartialEq)]
@@ -59,7 +66,9 @@ impl<'a> Words<'a> {
             column += word[..end].chars().count();
             rest = &word[end..];
         }
-        let end = words.last().map_or(1, |(column, word)| column + word.chars().count());
+        let end = words
+            .last()
+            .map_or(1, |(column, word)| column + word.chars().count());
         Words {
             line,
             end,
@@ -74,7 +83,10 @@ impl<'a> Words<'a> {
 
     /// A mistake at the word that comes next, or at the end of the line.
     fn mistake<T>(&self, what: String) -> Result<T, Mistake> {
-        let column = self.words.get(self.next).map_or(self.end, |&(column, _)| column);
+        let column = self
+            .words
+            .get(self.next)
+            .map_or(self.end, |&(column, _)| column);
         Err(Mistake {
             line: self.line,
             column,
@@ -94,7 +106,9 @@ impl<'a> Words<'a> {
             return self.mistake(format!("{name}: missing"));
         };
         if word.contains([',', '.', '\'', '_']) {
-            return self.mistake(format!("{name}: `{word}`: digits alone, without separators"));
+            return self.mistake(format!(
+                "{name}: `{word}`: digits alone, without separators"
+            ));
         }
         if !word.bytes().all(|byte| byte.is_ascii_digit()) {
             return self.mistake(format!("{name}: `{word}` is no number"));
@@ -104,7 +118,11 @@ impl<'a> Words<'a> {
                 self.next += 1;
                 Ok(number)
             }
-            _ => self.mistake(format!("{name}: {word} is out of range ({} to {})", commas(least), commas(most))),
+            _ => self.mistake(format!(
+                "{name}: {word} is out of range ({} to {})",
+                commas(least),
+                commas(most)
+            )),
         }
     }
 
@@ -203,7 +221,8 @@ impl Entry {
             What::Group { count, .. } => count,
             What::Greedy { to } => {
                 let span = to.unwrap_or(horizon) - self.from;
-                let bytes = u128::from(flow.rate) * u128::from(span) / 8000 + u128::from(flow.burst);
+                let bytes =
+                    u128::from(flow.rate) * u128::from(span) / 8000 + u128::from(flow.burst);
                 (bytes / u128::from(flow.frame) + 2) as u64
             }
         }

@@ -1,0 +1,58 @@
+//! A hall with the flows that are held after its orders, and the bounds of its queues.
+
+use halls::tables::link_levels;
+use plain::formula::{backlog, delay};
+use plain::orders::Flow;
+use plain::registry::path_thresholds;
+use plain::table::Queue;
+
+/// What the formulas say of a queue that carries a flow.
+#[derive(Clone, Copy, Debug, PartialEq)]
+pub struct Bounds {
+    /// µs.
+    pub delay: u64,
+    /// Bytes.
+    pub backlog: u64,
+}
+
+pub struct Hall {
+    pub queues: Vec<Queue>,
+    pub flows: Vec<Flow>,
+    /// None for a queue without a flow.
+    pub bounds: Vec<Option<Bounds>>,
+}
+
+impl Hall {
+    /// The flows are held together: each link passes the rate rule.
+    pub fn new(queues: Vec<Queue>, flows: Vec<Flow>) -> Hall {
+        let held: Vec<&Flow> = flows.iter().collect();
+        let bounds = queues
+            .iter()
+            .map(|queue| {
+                let levels = link_levels(&queues, &held, queue.link);
+                let (speed, level) = (u128::from(queue.speed), queue.level as usize - 1);
+                (levels[level].rate > 0).then(|| Bounds {
+                    delay: delay(speed, &levels, level) as u64,
+                    backlog: backlog(speed, &levels, level) as u64,
+                })
+            })
+            .collect();
+        Hall {
+            queues,
+            flows,
+            bounds,
+        }
+    }
+
+    /// The longest sum of thresholds along a path, µs.
+    pub fn span(&self) -> u64 {
+        let along = |flow: &Flow| path_thresholds(&self.queues, &flow.hops) as u64;
+        self.flows.iter().map(along).max().unwrap_or(0)
+    }
+
+    /// `link 1 level 1`.
+    pub fn place(&self, queue: usize) -> String {
+        let Queue { link, level, .. } = self.queues[queue];
+        format!("link {link} level {level}")
+    }
+}
