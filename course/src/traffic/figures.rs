@@ -27,10 +27,13 @@ impl Seen {
 pub struct Figures<'a> {
     queues: &'a [Queue],
     pub seen: Vec<Seen>,
+    /// The last instant at which a frame left.
+    pub end: u64,
 }
 
 impl Watch for Figures<'_> {
     fn stay(&mut self, stay: &Stay) {
+        self.end = stay.gone;
         let seen = &mut self.seen[stay.queue];
         seen.stays += 1;
         // Late: not gone at the instant by which the threshold has passed.
@@ -57,6 +60,7 @@ impl<'a> Figures<'a> {
         Figures {
             queues,
             seen: vec![Seen::default(); queues.len()],
+            end: 0,
         }
     }
 }

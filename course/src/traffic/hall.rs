@@ -50,6 +50,20 @@ impl Hall {
         self.flows.iter().map(along).max().unwrap_or(0)
     }
 
+    /// The queues of each link, level 1 first.
+    pub fn links(&self) -> Vec<Vec<usize>> {
+        let mut links: Vec<Vec<usize>> = Vec::new();
+        for (index, queue) in self.queues.iter().enumerate() {
+            if queue.level == 1 {
+                links.push(Vec::new());
+            }
+            if let Some(link) = links.last_mut() {
+                link.push(index);
+            }
+        }
+        links
+    }
+
     /// `link 1 level 1`.
     pub fn place(&self, queue: usize) -> String {
         let Queue { link, level, .. } = self.queues[queue];

@@ -5,6 +5,7 @@ pub mod conform;
 pub mod figures;
 pub mod hall;
 pub mod network;
+pub mod page;
 pub mod report;
 pub mod run;
 pub mod schedule;
@@ -21,6 +22,7 @@ use figures::{Figures, Seen, Verdict};
 use hall::Hall;
 use halls::rng::Rng;
 use network::Network;
+use page::stretch::{Recorder, Stretch};
 use run::{Arrivals, Send};
 use std::fs::File;
 use std::io::BufWriter;
@@ -158,7 +160,7 @@ impl Job<'_> {
             );
             return Err(Outcome::failed(Status::Unconforming, errors));
         }
-        let seen = self.figures()?;
+        let (seen, end) = self.figures()?;
         let verdict = Verdict::of(&self.hall.queues, &seen);
         let remark = match (breaches.is_empty(), verdict.kept()) {
             (true, true) => "every source conforms".to_string(),
@@ -171,6 +173,7 @@ impl Job<'_> {
                 unconforming(&breaches)
             ),
         };
+        self.write_page(&seen, &verdict, &remark, end)?;
         let printed = format!(
             "{}{}\n{}\n\n{}\n{}\n",
             self.preface,
@@ -208,7 +211,7 @@ impl Job<'_> {
     }
 
     /// Runs the network; the trace is written as it goes.
-    fn figures(&self) -> Result<Vec<Seen>, Outcome> {
+    fn figures(&self) -> Result<(Vec<Seen>, u64), Outcome> {
         let network = Network::new(&self.hall.queues, &self.hall.flows);
         let mut figures = Figures::new(&self.hall.queues);
         let path = self.arguments.value("--trace");
@@ -222,7 +225,46 @@ impl Job<'_> {
         if let Some(trace) = trace {
             trace.finish().map_err(failed)?;
         }
-        Ok(figures.seen)
+        Ok((figures.seen, figures.end))
+    }
+}
+
+impl Job<'_> {
+    /// Runs the network once more for the stretch that the page shows: it is known only now.
+    fn write_page(
+        &self,
+        seen: &[Seen],
+        verdict: &Verdict,
+        remark: &str,
+        end: u64,
+    ) -> Result<(), Outcome> {
+        let Some(path) = self.arguments.value("--page") else {
+            return Ok(());
+        };
+        let first = self.sends.first().map_or(0, |send| send.instant);
+        let whole = Stretch {
+            from: first,
+            to: end.max(first),
+        };
+        let mut stretch = Stretch::around(&self.hall, verdict.closest.as_ref(), whole);
+        stretch.from = self.arguments.number("--from")?.unwrap_or(stretch.from);
+        stretch.to = self
+            .arguments
+            .number("--to")?
+            .unwrap_or(stretch.to.max(stretch.from + 1));
+        if stretch.from >= stretch.to {
+            return Err(usage("--from must be before --to"));
+        }
+        let network = Network::new(&self.hall.queues, &self.hall.flows);
+        let mut recorder = Recorder::new(stretch, seen);
+        run::run(&network, &self.sends, self.arrivals.clone(), &mut recorder);
+        let words = page::Words {
+            title: &format!("Traffic of {} on {}", self.name, self.arguments.words[0]),
+            summary: &self.summary(),
+            remark,
+        };
+        let html = page::page(&self.hall, seen, verdict, &recorder, &words);
+        std::fs::write(path, html).map_err(|error| cannot_write(path, &error))
     }
 }
 

@@ -5,15 +5,16 @@ use super::hall::Hall;
 use super::run::Stay;
 use crate::numbers::commas;
 
-pub const HEADINGS: [&str; 8] = [
-    "link",
-    "level",
-    "longest stay µs",
-    "bound µs",
-    "threshold µs",
-    "greatest backlog bytes",
-    "buffer bytes",
-    "worst frame",
+/// Each with its unit.
+pub const HEADINGS: [(&str, &str); 8] = [
+    ("link", ""),
+    ("level", ""),
+    ("longest stay", "µs"),
+    ("bound", "µs"),
+    ("threshold", "µs"),
+    ("greatest backlog", "bytes"),
+    ("buffer", "bytes"),
+    ("worst frame", ""),
 ];
 
 /// `flow 7 frame 1, instants 1 to 247`.
@@ -49,14 +50,13 @@ pub fn rows(hall: &Hall, seen: &[Seen]) -> Vec<[String; 8]> {
     rows
 }
 
-/// The rows under their headings, each heading on two lines where it has more than one word.
+/// The rows under their headings.
 pub fn table(hall: &Hall, seen: &[Seen]) -> String {
     let rows = rows(hall, seen);
-    let heads = HEADINGS.map(|heading| heading.rsplit_once(' ').unwrap_or(("", heading)));
     let mut text = String::new();
     let width = |column: usize| {
         let of_rows = rows.iter().map(|row| row[column].chars().count());
-        let (upper, lower) = heads[column];
+        let (upper, lower) = HEADINGS[column];
         let of_heads = upper.chars().count().max(lower.chars().count());
         of_rows.max().unwrap_or(0).max(of_heads)
     };
@@ -72,8 +72,8 @@ pub fn table(hall: &Hall, seen: &[Seen]) -> String {
         text.push_str(written.trim_end());
         text.push('\n');
     };
-    line(heads.map(|(upper, _)| upper));
-    line(heads.map(|(_, lower)| lower));
+    line(HEADINGS.map(|(upper, _)| upper));
+    line(HEADINGS.map(|(_, lower)| lower));
     for row in &rows {
         line([0, 1, 2, 3, 4, 5, 6, 7].map(|column: usize| row[column].as_str()));
     }

@@ -1,0 +1,233 @@
+//! The hall's map: nodes, links, and of each queue the share of its threshold that was used.
+
+use super::colours;
+use super::places::{places, Spot};
+use super::svg::{Drawing, Rect};
+use crate::numbers::per_cent;
+use crate::traffic::figures::Seen;
+use crate::traffic::hall::Hall;
+use std::collections::BTreeMap;
+
+const NODE: f64 = 13.0;
+const BOX: f64 = 62.0;
+const ROW: f64 = 11.0;
+/// With more links than this there is no room for a box at each.
+const MOST_BOXES: usize = 20;
+
+/// A link as it is drawn: a curve from node to node, bent at one point.
+struct Curve {
+    queues: Vec<usize>,
+    from: Spot,
+    to: Spot,
+    bend: Spot,
+}
+
+impl Curve {
+    fn middle(&self) -> Spot {
+        let half = |a: f64, bend: f64, b: f64| (a + 2.0 * bend + b) / 4.0;
+        Spot {
+            x: half(self.from.x, self.bend.x, self.to.x),
+            y: half(self.from.y, self.bend.y, self.to.y),
+        }
+    }
+}
+
+/// A point so far before the end of a line.
+fn short_of(start: Spot, end: Spot, by: f64) -> Spot {
+    let (dx, dy) = (end.x - start.x, end.y - start.y);
+    let length = dx.hypot(dy).max(0.001);
+    Spot {
+        x: end.x - dx / length * by,
+        y: end.y - dy / length * by,
+    }
+}
+
+/// The links' curves; those between the same two nodes bend to different sides.
+fn curves(hall: &Hall, spots: &BTreeMap<u64, Spot>) -> Vec<Curve> {
+    let mut between: BTreeMap<(u64, u64), u32> = BTreeMap::new();
+    let mut curves = Vec::new();
+    for queues in hall.links() {
+        let link = &hall.queues[queues[0]];
+        let (from, to) = (spots[&link.from], spots[&link.to]);
+        let pair = (link.from.min(link.to), link.from.max(link.to));
+        let shared = hall
+            .links()
+            .iter()
+            .filter(|other| {
+                let other = &hall.queues[other[0]];
+                (other.from.min(other.to), other.from.max(other.to)) == pair
+            })
+            .count();
+        let turn = between.entry(pair).or_insert(0);
+        let (dx, dy) = (to.x - from.x, to.y - from.y);
+        let length = dx.hypot(dy).max(0.001);
+        // The way back sees its own right hand, so both bend the same amount to be apart.
+        let side = 34.0 * f64::from(1 + *turn / 2);
+        let aside = if shared > 1 { side } else { 0.0 };
+        *turn += 1;
+        curves.push(Curve {
+            queues,
+            from,
+            to,
+            bend: Spot {
+                x: (from.x + to.x) / 2.0 + dy / length * 2.0 * aside,
+                y: (from.y + to.y) / 2.0 - dx / length * 2.0 * aside,
+            },
+        });
+    }
+    curves
+}
+
+/// Boxes that lie over each other move apart, up and down.
+fn spread(boxes: &mut [(Spot, f64)]) {
+    for _ in 0..200 {
+        let mut moved = false;
+        for a in 0..boxes.len() {
+            for b in a + 1..boxes.len() {
+                let ((first, high), (second, tall)) = (boxes[a], boxes[b]);
+                let apart = (high + tall) / 2.0 + 4.0 - (first.y - second.y).abs();
+                if (first.x - second.x).abs() >= BOX + 4.0 || apart <= 0.0 {
+                    continue;
+                }
+                let way = if first.y <= second.y { 0.5 } else { -0.5 };
+                boxes[a].0.y -= way * apart;
+                boxes[b].0.y += way * apart;
+                moved = true;
+            }
+        }
+        if !moved {
+            break;
+        }
+    }
+}
+
+pub fn map(hall: &Hall, seen: &[Seen]) -> String {
+    let spots = places(&hall.queues);
+    let curves = curves(hall, &spots);
+    let boxed = curves.len() <= MOST_BOXES;
+    let tall = |curve: &Curve| 14.0 + ROW * curve.queues.len() as f64;
+    let mut boxes: Vec<(Spot, f64)> = match boxed {
+        true => curves
+            .iter()
+            .map(|curve| (curve.middle(), tall(curve)))
+            .collect(),
+        false => Vec::new(),
+    };
+    spread(&mut boxes);
+    let tops = boxes.iter().map(|(spot, high)| spot.y - high / 2.0);
+    let top = tops
+        .chain(spots.values().map(|spot| spot.y - NODE))
+        .fold(f64::MAX, f64::min);
+    let ends = boxes.iter().map(|(spot, high)| spot.y + high / 2.0);
+    let end = ends
+        .chain(spots.values().map(|spot| spot.y + NODE))
+        .fold(0.0, f64::max);
+    let mut drawing = Drawing::default();
+    drawing.raw("<defs><marker id=\"tip\" viewBox=\"0 0 8 8\" refX=\"7\" refY=\"4\" markerWidth=\"7\" markerHeight=\"7\" orient=\"auto\"><path d=\"M0 0L8 4L0 8Z\" fill=\"#555\"/></marker></defs>");
+    drawing.raw(&format!("<g transform=\"translate(0 {:.1})\">", 6.0 - top));
+    for curve in &curves {
+        draw_curve(&mut drawing, hall, seen, curve, boxed);
+    }
+    for (curve, (spot, high)) in curves.iter().zip(&boxes) {
+        draw_box(&mut drawing, hall, seen, curve, *spot, *high);
+    }
+    for (node, spot) in &spots {
+        drawing.raw(&format!(
+            "<circle class=\"node\" cx=\"{:.2}\" cy=\"{:.2}\" r=\"{NODE}\"/>",
+            spot.x, spot.y
+        ));
+        drawing.text(
+            (spot.x, spot.y + 4.0),
+            "class=\"name\" text-anchor=\"middle\"",
+            &node.to_string(),
+        );
+    }
+    drawing.raw("</g>");
+    drawing.finish(end - top + 12.0, "the hall's nodes and links")
+}
+
+fn draw_curve(drawing: &mut Drawing, hall: &Hall, seen: &[Seen], curve: &Curve, boxed: bool) {
+    let start = short_of(curve.bend, curve.from, NODE);
+    let end = short_of(curve.bend, curve.to, NODE + 1.0);
+    let used = curve
+        .queues
+        .iter()
+        .map(|&queue| (seen[queue].stay(), hall.queues[queue].threshold));
+    let most = used.reduce(|a, b| if b.0 * a.1 > a.0 * b.1 { b } else { a });
+    let colour = match most {
+        Some((stay, threshold)) if !boxed => colours::share(stay, threshold),
+        _ => "#777",
+    };
+    drawing.raw(&format!(
+        "<path d=\"M{:.2} {:.2}Q{:.2} {:.2} {:.2} {:.2}\" fill=\"none\" stroke=\"{colour}\" stroke-width=\"{}\" marker-end=\"url(#tip)\"><title>link {}</title></path>",
+        start.x, start.y, curve.bend.x, curve.bend.y, end.x, end.y,
+        if boxed { "1.4" } else { "3" },
+        hall.queues[curve.queues[0]].link
+    ));
+}
+
+/// The link's number and a row for each level: its share as a bar and in per cent.
+fn draw_box(
+    drawing: &mut Drawing,
+    hall: &Hall,
+    seen: &[Seen],
+    curve: &Curve,
+    spot: Spot,
+    high: f64,
+) {
+    let (x, top) = (spot.x - BOX / 2.0, spot.y - high / 2.0);
+    drawing.rect(
+        Rect {
+            x,
+            y: top,
+            width: BOX,
+            height: high,
+        },
+        "class=\"box\"",
+    );
+    let name = format!("link {}", hall.queues[curve.queues[0]].link);
+    drawing.text(
+        (spot.x, top + 10.0),
+        "class=\"tiny\" font-weight=\"bold\" text-anchor=\"middle\"",
+        &name,
+    );
+    for (row, &queue) in curve.queues.iter().enumerate() {
+        let y = top + 13.0 + row as f64 * ROW;
+        let (stay, threshold) = (seen[queue].stay(), hall.queues[queue].threshold);
+        let room = BOX - 14.0;
+        let width = room * (stay as f64 / threshold as f64).min(1.0);
+        drawing.rect(
+            Rect {
+                x: x + 12.0,
+                y,
+                width: room,
+                height: ROW - 2.0,
+            },
+            "class=\"empty\"",
+        );
+        let look = format!("fill=\"{}\"", colours::share(stay, threshold));
+        drawing.rect(
+            Rect {
+                x: x + 12.0,
+                y,
+                width,
+                height: ROW - 2.0,
+            },
+            &look,
+        );
+        drawing.text(
+            (x + 3.0, y + 8.0),
+            "class=\"tiny\"",
+            &hall.queues[queue].level.to_string(),
+        );
+        let words = match hall.bounds[queue] {
+            Some(_) => format!("{} %", per_cent(u128::from(stay), u128::from(threshold))),
+            None => "no flow".to_string(),
+        };
+        drawing.text(
+            (x + BOX - 4.0, y + 8.0),
+            "class=\"tiny\" text-anchor=\"end\"",
+            &words,
+        );
+    }
+}
