@@ -71,7 +71,7 @@ pub fn link(
             continue;
         }
         y = lanes.lane(queue, y);
-        y = lanes.backlog(queue, y) + 10.0;
+        y = lanes.backlog(queue, y + 5.0) + 12.0;
     }
     y = lanes.time(y);
     let Stretch { from, to } = scale.stretch;
@@ -127,7 +127,8 @@ impl Lanes<'_> {
         let mut stays = shown.stays.clone();
         stays.sort_by_key(|stay| (stay.came, stay.first_bit));
         let rows = rows(&stays, limits.threshold);
-        let height = rows.iter().max().map_or(1, |row| row + 1) as f64 * ROW + 4.0;
+        // Two rows at least: the lane's name and threshold stand beside it.
+        let height = rows.iter().max().map_or(2, |row| (row + 1).max(2)) as f64 * ROW + 5.0;
         let frame = Rect {
             x: LEFT,
             y: top,
@@ -140,13 +141,11 @@ impl Lanes<'_> {
             "class=\"name\"",
             &format!("level {}", limits.level),
         );
-        if height > 20.0 {
-            drawing.text(
-                (4.0, top + 22.0),
-                "class=\"small\"",
-                &format!("{} µs", commas(limits.threshold)),
-            );
-        }
+        drawing.text(
+            (4.0, top + 23.0),
+            "class=\"small\"",
+            &format!("{} µs", commas(limits.threshold)),
+        );
         if stays.is_empty() {
             drawing.text(
                 (LEFT + 6.0, top + 11.0),
@@ -217,7 +216,7 @@ impl Lanes<'_> {
             bar(came, stay.gone as f64, "class=\"closest\"");
         }
         let x = scale.x(limit);
-        if x < RIGHT {
+        if limit <= scale.stretch.to as f64 {
             drawing.line((x, y), (x, y + BAR), "class=\"limit\"");
         }
         let label = number.to_string();
@@ -262,14 +261,14 @@ impl Lanes<'_> {
         drawing.line((LEFT, base), (RIGHT, base), "class=\"axis\"");
         let buffer = height(limits.buffer);
         drawing.line((LEFT, buffer), (RIGHT, buffer), "class=\"buffer\"");
-        drawing.text((4.0, top + 11.0), "class=\"small\"", "backlog");
+        drawing.text((4.0, top + 8.0), "class=\"small\"", "backlog");
         drawing.text(
-            (4.0, top + 21.0),
+            (4.0, top + 19.0),
             "class=\"small\"",
             &format!("{} of", commas(greatest)),
         );
         drawing.text(
-            (4.0, top + 31.0),
+            (4.0, top + 30.0),
             "class=\"small\"",
             &format!("{} B", commas(limits.buffer)),
         );

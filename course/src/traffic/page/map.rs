@@ -62,7 +62,7 @@ fn curves(hall: &Hall, spots: &BTreeMap<u64, Spot>) -> Vec<Curve> {
         let (dx, dy) = (to.x - from.x, to.y - from.y);
         let length = dx.hypot(dy).max(0.001);
         // The way back sees its own right hand, so both bend the same amount to be apart.
-        let side = 34.0 * f64::from(1 + *turn / 2);
+        let side = 30.0 * f64::from(1 + *turn / 2);
         let aside = if shared > 1 { side } else { 0.0 };
         *turn += 1;
         curves.push(Curve {

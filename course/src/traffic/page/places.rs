@@ -11,7 +11,7 @@ pub struct Spot {
 }
 
 const MARGIN: f64 = 24.0;
-const ROWS_APART: f64 = 128.0;
+const ROWS_APART: f64 = 150.0;
 /// More columns leave no room between them.
 const MOST_COLUMNS: usize = 7;
 

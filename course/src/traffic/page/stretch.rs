@@ -15,13 +15,18 @@ pub struct Stretch {
 }
 
 impl Stretch {
-    /// The whole of a short run; else what lies around the closest frame, half a threshold before
-    /// and after.
+    /// The whole of a short run, the closest frame's threshold included; else what lies around that
+    /// frame, half a threshold before and after.
     pub fn around(hall: &Hall, closest: Option<&Stay>, whole: Stretch) -> Stretch {
         let Some(stay) = closest else {
             return Stretch { from: 0, to: 1 };
         };
-        let half = hall.queues[stay.queue].threshold / 2 + 1;
+        let threshold = hall.queues[stay.queue].threshold;
+        let half = threshold / 2 + 1;
+        let whole = Stretch {
+            to: whole.to.max(stay.came + threshold + threshold / 50 + 1),
+            ..whole
+        };
         let near = Stretch {
             from: stay.came.saturating_sub(half),
             to: stay.gone + half,
