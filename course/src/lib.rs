@@ -2,16 +2,26 @@
 //! a trainee's answers marked.
 
 pub mod arguments;
+pub mod bounds;
+pub mod check;
+pub mod explain;
 pub mod folder;
 pub mod numbers;
+pub mod session;
 pub mod status;
+pub mod titles;
 pub mod traffic;
 
 use arguments::Command;
 use status::{Outcome, Status};
 
 /// All commands, in the order of the help.
-pub const COMMANDS: &[&Command] = &[&traffic::COMMAND];
+pub const COMMANDS: &[&Command] = &[
+    &check::COMMAND,
+    &explain::COMMAND,
+    &bounds::COMMAND,
+    &traffic::COMMAND,
+];
 
 pub fn version() -> String {
     let linked = match proved::BATCH {

@@ -1,7 +1,6 @@
-//! Document 01's formulas, in its whole units. Wide numbers, so that no product has to be
-//! thought about.
+//! Document 01's formulas, in its whole units. Wide numbers, so that no product has to be thought about.
 
-/// What document 01 calls the figures of a queue.
+/// What document 01 calls the figures of a queue; also what one flow adds to them.
 #[derive(Clone, Copy, Debug, Default, PartialEq)]
 pub struct Aggregate {
     pub rate: u128,
@@ -10,47 +9,119 @@ pub struct Aggregate {
     pub frame: u128,
 }
 
-fn ceiling(number: u128, divisor: u128) -> u128 {
-    number.div_ceil(divisor)
+impl Aggregate {
+    /// With another counted in.
+    pub fn with(self, other: Aggregate) -> Aggregate {
+        Aggregate {
+            rate: self.rate + other.rate,
+            burst: self.burst + other.burst,
+            frame: self.frame.max(other.frame),
+        }
+    }
+
+    /// A rate is at least 1, so a queue without a flow is one whose rate sum is 0.
+    pub fn is_empty(&self) -> bool {
+        self.rate == 0
+    }
+}
+
+/// What is divided by Res, or by 8000, to give a bound.
+#[derive(Clone, Copy, Debug, PartialEq)]
+pub struct Quotient {
+    pub number: u128,
+    pub divisor: u128,
+}
+
+impl Quotient {
+    pub fn ceiling(self) -> u128 {
+        self.number.div_ceil(self.divisor)
+    }
+
+    pub fn floor(self) -> u128 {
+        self.number / self.divisor
+    }
+}
+
+/// The growth of a burst after earlier hops whose thresholds sum to so many µs.
+pub fn growth(rate: u128, earlier: u128) -> Quotient {
+    Quotient {
+        number: rate * earlier,
+        divisor: 8000,
+    }
 }
 
 /// Burst at a hop after earlier hops whose thresholds sum to so many µs.
 pub fn burst_at_hop(burst: u128, rate: u128, earlier: u128) -> u128 {
-    burst + ceiling(rate * earlier, 8000)
+    burst + growth(rate, earlier).ceiling()
+}
+
+/// The sum of a link's rates, kbit/s.
+pub fn rate_sum(levels: &[Aggregate]) -> u128 {
+    levels.iter().map(|level| level.rate).sum()
+}
+
+/// What the rate sum of all levels of a link must stay below, kbit/s.
+pub fn rate_limit(speed: u128) -> u128 {
+    1000 * speed
 }
 
 /// Whether the rate sum of all levels of a link stays below its speed.
 pub fn rate_passes(speed: u128, levels: &[Aggregate]) -> bool {
-    levels.iter().map(|level| level.rate).sum::<u128>() < 1000 * speed
+    rate_sum(levels) < rate_limit(speed)
 }
 
-/// Res: what the levels above leave of the link, kbit/s. Asks for the rate rule.
-fn residual(speed: u128, levels: &[Aggregate], p: usize) -> u128 {
-    1000 * speed - levels[..p].iter().map(|level| level.rate).sum::<u128>()
+/// The sums of one level of a link that carries a flow.
+#[derive(Clone, Copy, Debug, PartialEq)]
+pub struct Sums {
+    /// Res: what the levels above leave of the link, kbit/s.
+    pub residual: u128,
+    /// Burst sums of the levels above, bytes.
+    pub above: u128,
+    /// The largest frame of all levels below.
+    pub below: u128,
+    pub own: Aggregate,
 }
 
-/// Y: what can stand before the queue's own burst, bytes.
-fn ahead(levels: &[Aggregate], p: usize) -> u128 {
-    let above: u128 = levels[..p].iter().map(|level| level.burst).sum();
-    let below = levels[p + 1..]
-        .iter()
-        .map(|level| level.frame)
-        .max()
-        .unwrap_or(0);
-    above + below + levels[p].frame
+impl Sums {
+    /// Of the level with index `p` (0 for level 1). Asks for the rate rule.
+    pub fn of(speed: u128, levels: &[Aggregate], p: usize) -> Sums {
+        let below = levels[p + 1..].iter().map(|level| level.frame).max();
+        Sums {
+            residual: rate_limit(speed) - rate_sum(&levels[..p]),
+            above: levels[..p].iter().map(|level| level.burst).sum(),
+            below: below.unwrap_or(0),
+            own: levels[p],
+        }
+    }
+
+    /// Y: what can stand before the queue's own burst, bytes.
+    pub fn ahead(&self) -> u128 {
+        self.above + self.below + self.own.frame
+    }
+
+    /// Eq. 12 before it is rounded, µs.
+    pub fn delay(&self) -> Quotient {
+        Quotient {
+            number: 8000 * (self.ahead() + self.own.burst),
+            divisor: self.residual,
+        }
+    }
+
+    /// Eq. 13's part beside the burst sum before it is rounded, bytes.
+    pub fn rise(&self) -> Quotient {
+        Quotient {
+            number: self.own.rate * self.ahead(),
+            divisor: self.residual,
+        }
+    }
 }
 
-/// Eq. 12, µs, for the level with index `p` (0 for level 1).
+/// Eq. 12, µs, for the level with index `p`.
 pub fn delay(speed: u128, levels: &[Aggregate], p: usize) -> u128 {
-    let bytes = ahead(levels, p) + levels[p].burst;
-    ceiling(8000 * bytes, residual(speed, levels, p))
+    Sums::of(speed, levels, p).delay().ceiling()
 }
 
 /// Eq. 13, bytes.
 pub fn backlog(speed: u128, levels: &[Aggregate], p: usize) -> u128 {
-    let grown = ceiling(
-        levels[p].rate * ahead(levels, p),
-        residual(speed, levels, p),
-    );
-    levels[p].burst + grown
+    levels[p].burst + Sums::of(speed, levels, p).rise().ceiling()
 }

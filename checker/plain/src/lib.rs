@@ -1,8 +1,15 @@
-//! The reference model: document 01 in the plainest way, worked out anew for each order.
+//! The reference model: document 01 in the plainest way, worked out anew for each order. Every number and rule of the
+//! paper stands here once: fields and ranges in `table` and `orders`, sizes beside what they limit, the order of causes in
+//! `causes`, the formulas in `formula`.
 
+pub mod causes;
 pub mod columns;
+pub mod consistency;
+pub mod faults;
 pub mod formula;
 pub mod orders;
 pub mod programs;
 pub mod registry;
+pub mod slips;
 pub mod table;
+pub mod work;

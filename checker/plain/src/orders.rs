@@ -1,7 +1,8 @@
-//! Document 01's order line: a registration with a whole flow, a release with a flow number, or
-//! the code 10 or 11.
+//! Document 01's order line: a registration with a whole flow, a release with a flow number, or the code 10 or 11.
 
-use crate::columns::{field, lines, put, Line};
+use crate::causes;
+use crate::columns::{lines, put, Field, Line};
+use crate::faults::{first_class, Class, Fault, What};
 
 #[derive(Clone, Copy, Debug, PartialEq)]
 pub struct Hop {
@@ -33,15 +34,169 @@ pub enum Order {
 pub const REGISTER: u64 = 1;
 pub const RELEASE: u64 = 2;
 pub const MOST_HOPS: u64 = 12;
+pub const SMALLEST_FRAME: u64 = 84;
+pub const LARGEST_FRAME: u64 = 1_542;
 
-pub fn read_order(line: &Line) -> Result<Order, u64> {
-    if !line.ended {
-        return Err(10);
+const KIND_RANGE: &[(u64, u64)] = &[(REGISTER, RELEASE)];
+
+pub const KIND: Field = Field::new("kind", "", (1, 2), KIND_RANGE);
+pub const NUMBER: Field = Field::new("flow number", "", (3, 8), &[(1, 65_535)]);
+#[rustfmt::skip]
+const REGISTRATION: [Field; 6] = [
+    NUMBER,
+    Field::new("rate", "kbit/s", (9, 17), &[(1, 10_000_000)]),
+    Field::new("burst", "bytes", (18, 25), &[(SMALLEST_FRAME, 1_000_000)]),
+    Field::new("largest frame", "bytes", (26, 30), &[(SMALLEST_FRAME, LARGEST_FRAME)]),
+    Field::new("deadline", "µs", (31, 38), &[(1, 10_000_000)]),
+    Field::new("hop count", "", (39, 41), &[(1, MOST_HOPS)]),
+];
+/// A hop's fields, as columns after those before it.
+const HOP: [Field; 2] = [
+    Field::new("hop's link", "", (1, 4), &[]),
+    Field::new("hop's level", "", (5, 6), &[]),
+];
+const HOP_COLUMNS: usize = HOP[1].last;
+
+/// A kind of order: its number and word, its fields after the kind, and whether a path follows them.
+pub struct Kind {
+    pub number: u64,
+    pub word: &'static str,
+    pub fields: &'static [Field],
+    /// The last field is the number of hops that follow.
+    pub path: bool,
+}
+
+pub const KINDS: [Kind; 2] = [
+    Kind {
+        number: REGISTER,
+        word: "register",
+        fields: &REGISTRATION,
+        path: true,
+    },
+    Kind {
+        number: RELEASE,
+        word: "release",
+        fields: &[NUMBER],
+        path: false,
+    },
+];
+
+impl Kind {
+    /// Columns before the path, if there is one.
+    pub fn head(&self) -> usize {
+        self.fields.last().map_or(KIND.last, |field| field.last)
     }
-    match field(line.bytes, 1, 2).ok_or(10u64)? {
-        REGISTER => read_registration(line.bytes),
-        RELEASE => read_release(line.bytes),
-        _ => Err(11),
+}
+
+/// Every field that an order line can have, in the columns where it stands, hops of the longest path among them.
+pub fn all_fields() -> Vec<Field> {
+    let longest = KINDS.iter().max_by_key(|kind| kind.head());
+    let kind = longest.expect("a kind of order");
+    let mut fields = vec![KIND];
+    fields.extend(kind.fields);
+    for hop in 0..MOST_HOPS as usize {
+        fields.extend(HOP.map(|field| field.moved(kind.head() + HOP_COLUMNS * hop)));
+    }
+    fields
+}
+
+/// A line: its order where nothing is wrong with it, else all that is.
+pub fn examine(line: &Line) -> Result<Order, Vec<Fault>> {
+    if !line.ended {
+        return Err(vec![Fault {
+            column: line.bytes.len() + 1,
+            field: "",
+            what: What::Unended,
+        }]);
+    }
+    let number = KIND.read(line.bytes).map_err(|fault| vec![fault])?;
+    match KINDS.iter().find(|kind| kind.number == number) {
+        Some(kind) => examine_kind(kind, line.bytes),
+        None => Err(KIND.fault_of(number).into_iter().collect()),
+    }
+}
+
+fn examine_kind(kind: &Kind, line: &[u8]) -> Result<Order, Vec<Fault>> {
+    let mut faults = Vec::new();
+    let values = read_fields(kind.fields, line, &mut faults);
+    let mut hops = Vec::new();
+    match (kind.path, values.last()) {
+        (false, _) => faults.extend(long_fault(line, kind.head())),
+        (true, Some(&Some(count))) if (1..=MOST_HOPS).contains(&count) => {
+            hops = read_hops(line, kind.head(), count as usize, &mut faults);
+        }
+        // With a hop count out of range, nothing after it is read.
+        (true, _) => {}
+    }
+    if !faults.is_empty() {
+        return Err(faults);
+    }
+    let values: Vec<u64> = values.into_iter().flatten().collect();
+    Ok(match kind.number {
+        REGISTER => Order::Register(Flow {
+            number: values[0],
+            rate: values[1],
+            burst: values[2],
+            frame: values[3],
+            deadline: values[4],
+            hops,
+        }),
+        _ => Order::Release(values[0]),
+    })
+}
+
+/// The fields' numbers, each with its range judged; none where a field is malformed.
+fn read_fields(fields: &[Field], line: &[u8], faults: &mut Vec<Fault>) -> Vec<Option<u64>> {
+    let mut values = Vec::new();
+    for field in fields {
+        match field.read(line) {
+            Ok(value) => {
+                faults.extend(field.fault_of(value));
+                values.push(Some(value));
+            }
+            Err(fault) => {
+                faults.push(fault);
+                values.push(None);
+            }
+        }
+    }
+    values
+}
+
+fn read_hops(line: &[u8], head: usize, count: usize, faults: &mut Vec<Fault>) -> Vec<Hop> {
+    let mut hops = Vec::new();
+    for hop in 0..count {
+        let fields = HOP.map(|field| field.moved(head + HOP_COLUMNS * hop));
+        let values = read_fields(&fields, line, faults);
+        if let [Some(link), Some(level)] = values[..] {
+            hops.push(Hop { link, level });
+        }
+    }
+    faults.extend(long_fault(line, head + HOP_COLUMNS * count));
+    hops
+}
+
+fn long_fault(line: &[u8], most: usize) -> Option<Fault> {
+    (line.len() > most).then(|| Fault {
+        column: most + 1,
+        field: "",
+        what: What::Long {
+            columns: line.len(),
+            most,
+        },
+    })
+}
+
+/// The order that a line gives, or code 10 or 11.
+pub fn read_order(line: &Line) -> Result<Order, u64> {
+    examine(line).map_err(|faults| code_of(&faults))
+}
+
+/// The code of a line with these faults.
+pub fn code_of(faults: &[Fault]) -> u64 {
+    match first_class(faults) {
+        Some(Class::Columns) => causes::COLUMNS,
+        _ => causes::RANGE,
     }
 }
 
@@ -49,83 +204,48 @@ pub fn read_order(line: &Line) -> Result<Order, u64> {
 pub fn read_call(kind: u64, bytes: &[u8]) -> Result<Order, u64> {
     let given = lines(bytes);
     let [line] = given.as_slice() else {
-        return Err(10);
+        return Err(causes::COLUMNS);
     };
     if !line.ended {
-        return Err(10);
+        return Err(causes::COLUMNS);
     }
-    if field(line.bytes, 1, 2).ok_or(10u64)? != kind {
-        return Err(11);
+    match KIND.read(line.bytes) {
+        Err(_) => Err(causes::COLUMNS),
+        Ok(other) if other != kind => Err(causes::RANGE),
+        Ok(_) => read_order(line),
     }
-    read_order(line)
-}
-
-fn read_release(line: &[u8]) -> Result<Order, u64> {
-    let number = field(line, 3, 8).ok_or(10u64)?;
-    if line.len() != 8 {
-        return Err(10);
-    }
-    if !number_in_range(number) {
-        return Err(11);
-    }
-    Ok(Order::Release(number))
-}
-
-fn read_registration(line: &[u8]) -> Result<Order, u64> {
-    let mut flow = Flow {
-        number: field(line, 3, 8).ok_or(10u64)?,
-        rate: field(line, 9, 17).ok_or(10u64)?,
-        burst: field(line, 18, 25).ok_or(10u64)?,
-        frame: field(line, 26, 30).ok_or(10u64)?,
-        deadline: field(line, 31, 38).ok_or(10u64)?,
-        hops: Vec::new(),
-    };
-    let count = field(line, 39, 41).ok_or(10u64)?;
-    if !(1..=MOST_HOPS).contains(&count) {
-        return Err(11);
-    }
-    let count = count as usize;
-    if line.len() != 41 + 6 * count {
-        return Err(10);
-    }
-    for hop in 0..count {
-        let before = 41 + 6 * hop;
-        let link = field(line, before + 1, before + 4).ok_or(10u64)?;
-        let level = field(line, before + 5, before + 6).ok_or(10u64)?;
-        flow.hops.push(Hop { link, level });
-    }
-    if !flow_in_range(&flow) {
-        return Err(11);
-    }
-    Ok(Order::Register(flow))
-}
-
-fn number_in_range(number: u64) -> bool {
-    (1..=65_535).contains(&number)
 }
 
 /// Code 11's ranges.
 pub fn flow_in_range(flow: &Flow) -> bool {
-    number_in_range(flow.number)
-        && (1..=10_000_000).contains(&flow.rate)
-        && (84..=1_000_000).contains(&flow.burst)
-        && (84..=1_542).contains(&flow.frame)
-        && (1..=10_000_000).contains(&flow.deadline)
-        && (1..=MOST_HOPS).contains(&(flow.hops.len() as u64))
+    let values = head_values(flow);
+    let mut fields = REGISTRATION.iter().zip(values);
+    fields.all(|(field, value)| field.fault_of(value).is_none())
+}
+
+/// A flow's numbers in the order of its fields.
+fn head_values(flow: &Flow) -> [u64; 6] {
+    let hops = flow.hops.len() as u64;
+    [
+        flow.number,
+        flow.rate,
+        flow.burst,
+        flow.frame,
+        flow.deadline,
+        hops,
+    ]
 }
 
 /// A flow's columns 3 onward, without LF.
 pub fn write_flow(flow: &Flow) -> Vec<u8> {
     let mut columns = Vec::new();
-    put(&mut columns, flow.number, 6);
-    put(&mut columns, flow.rate, 9);
-    put(&mut columns, flow.burst, 8);
-    put(&mut columns, flow.frame, 5);
-    put(&mut columns, flow.deadline, 8);
-    put(&mut columns, flow.hops.len() as u64, 3);
+    for (field, value) in REGISTRATION.iter().zip(head_values(flow)) {
+        field.put(&mut columns, value);
+    }
     for hop in &flow.hops {
-        put(&mut columns, hop.link, 4);
-        put(&mut columns, hop.level, 2);
+        for (field, value) in HOP.iter().zip([hop.link, hop.level]) {
+            field.put(&mut columns, value);
+        }
     }
     columns
 }
@@ -133,7 +253,7 @@ pub fn write_flow(flow: &Flow) -> Vec<u8> {
 /// A registration's whole line with its LF.
 pub fn write_registration(flow: &Flow) -> Vec<u8> {
     let mut line = Vec::new();
-    put(&mut line, REGISTER, 2);
+    put(&mut line, REGISTER, KIND.last);
     line.extend(write_flow(flow));
     line.push(b'\n');
     line
@@ -142,8 +262,8 @@ pub fn write_registration(flow: &Flow) -> Vec<u8> {
 /// A release's whole line with its LF.
 pub fn write_release(number: u64) -> Vec<u8> {
     let mut line = Vec::new();
-    put(&mut line, RELEASE, 2);
-    put(&mut line, number, 6);
+    put(&mut line, RELEASE, KIND.last);
+    NUMBER.put(&mut line, number);
     line.push(b'\n');
     line
 }

@@ -1,37 +1,54 @@
 //! The batch over byte areas and what the programs `admit` and `replay` print.
 
-use crate::columns::{field, lines, put};
+use crate::causes;
+use crate::columns::{field, lines, put, Line};
 use crate::formula::Aggregate;
 use crate::orders::{read_order, write_flow, Flow, REGISTER, RELEASE};
 use crate::registry::{Answer, Registry};
-use crate::table::Queue;
+use crate::table::{Queue, Refusal};
 
-const ANSWER_BYTES: usize = 20;
-const MOST_ORDER_BYTES: usize = 60_000;
-const MOST_ORDER_LINES: usize = 2_000;
+/// Bytes of an answer line with its LF.
+pub const ANSWER_BYTES: usize = 20;
+pub const MOST_ORDER_BYTES: usize = 60_000;
+pub const MOST_ORDER_LINES: usize = 2_000;
 pub const MOST_CALL_BYTES: usize = 200_000;
 
-/// A batch: code and line number come back, the answers go into the area.
-pub fn batch(table: &[u8], orders: &[u8], answers: &mut [u8]) -> (u64, u64) {
-    let (mut registry, refused) = Registry::open(table);
+/// A batch begun: an empty registry on the table and the lines of the orders, or its refusal but for 40.
+pub fn begin<'a>(table: &[u8], orders: &'a [u8]) -> Result<(Registry, Vec<Line<'a>>), Refusal> {
+    let (registry, refused) = Registry::open(table);
     if let Some(refusal) = refused {
-        return (refusal.code, refusal.line);
+        return Err(refusal);
     }
     let order_lines = lines(orders);
     if orders.len() > MOST_ORDER_BYTES || order_lines.len() > MOST_ORDER_LINES {
-        return (41, 0);
+        let (code, line) = (causes::ORDER_SIZE, 0);
+        return Err(Refusal { code, line });
     }
+    Ok((registry, order_lines))
+}
+
+/// A batch: code and line number come back, the answers go into the area.
+pub fn batch(table: &[u8], orders: &[u8], answers: &mut [u8]) -> (u64, u64) {
+    let (mut registry, order_lines) = match begin(table, orders) {
+        Ok(begun) => begun,
+        Err(refusal) => return (refusal.code, refusal.line),
+    };
     if answers.len() < ANSWER_BYTES * order_lines.len() {
-        return (40, 0);
+        return (causes::AREA, 0);
     }
     for (index, line) in order_lines.iter().enumerate() {
-        let answer = registry.step(read_order(line));
-        let mut text = Vec::new();
-        put(&mut text, index as u64 + 1, 6);
-        put_answer(&mut text, &answer);
+        let text = answer_line(index + 1, &registry.step(read_order(line)));
         answers[ANSWER_BYTES * index..ANSWER_BYTES * (index + 1)].copy_from_slice(&text);
     }
-    (0, order_lines.len() as u64)
+    (causes::DONE, order_lines.len() as u64)
+}
+
+/// The answer line of the order with this line number.
+pub fn answer_line(number: usize, answer: &Answer) -> Vec<u8> {
+    let mut text = Vec::new();
+    put(&mut text, number as u64, 6);
+    put_answer(&mut text, answer);
+    text
 }
 
 fn put_answer(out: &mut Vec<u8>, answer: &Answer) {

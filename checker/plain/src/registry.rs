@@ -1,9 +1,12 @@
-//! Document 01's plain book: the table's queues and a flow or none at each slot. All figures are
-//! worked out anew from the flows each time they are asked for.
+//! Document 01's plain book: the table's queues and a flow or none at each slot. All figures are worked out anew from the
+//! flows each time they are asked for.
 
-use crate::formula::{backlog, burst_at_hop, delay, rate_passes, Aggregate};
+use crate::causes;
+use crate::formula::Aggregate;
 use crate::orders::{read_call, Flow, Hop, Order, REGISTER, RELEASE};
+use crate::slips::Slips;
 use crate::table::{read_table, Queue, Refusal};
+use crate::work::{hops_work, Work};
 
 /// Document 01's places.
 pub const SLOTS: usize = 256;
@@ -20,16 +23,12 @@ pub struct Answer {
 }
 
 impl Answer {
-    fn plain(code: u64) -> Answer {
-        Answer {
-            code,
-            slot: 0,
-            link: 0,
-            level: 0,
-        }
+    pub fn plain(code: u64) -> Answer {
+        let nowhere = Hop { link: 0, level: 0 };
+        Answer::at_hop(code, nowhere)
     }
 
-    fn at_hop(code: u64, hop: Hop) -> Answer {
+    pub fn at_hop(code: u64, hop: Hop) -> Answer {
         Answer {
             code,
             slot: 0,
@@ -40,17 +39,27 @@ impl Answer {
 
     fn done(index: usize) -> Answer {
         Answer {
-            code: 0,
             slot: index as u64 + 1,
-            link: 0,
-            level: 0,
+            ..Answer::plain(causes::DONE)
         }
     }
 }
 
+/// A flow's share in a queue.
+#[derive(Clone, Copy, Debug, PartialEq)]
+pub struct Share {
+    pub number: u64,
+    pub share: Aggregate,
+}
+
+#[derive(Clone)]
 pub struct Registry {
     pub queues: Vec<Queue>,
     pub slots: Vec<Option<Flow>>,
+    /// The rules that are broken on purpose; none but for recognising a trainee's slip.
+    pub slips: Slips,
+    /// What slips left in queues beside the flows; nothing by the rules.
+    residue: Vec<(Hop, Aggregate)>,
 }
 
 impl Registry {
@@ -63,9 +72,16 @@ impl Registry {
     }
 
     pub fn over(queues: Vec<Queue>) -> Registry {
+        Registry::slipping(queues, Slips::NONE)
+    }
+
+    /// An empty registry by rules of which some are broken.
+    pub fn slipping(queues: Vec<Queue>, slips: Slips) -> Registry {
         Registry {
             queues,
             slots: vec![None; SLOTS],
+            slips,
+            residue: Vec::new(),
         }
     }
 
@@ -83,29 +99,65 @@ impl Registry {
     pub fn step(&mut self, order: Result<Order, u64>) -> Answer {
         match order {
             Err(code) => Answer::plain(code),
-            Ok(Order::Register(flow)) => {
-                if let Some(refused) = self.first_cause(&flow) {
-                    return refused;
-                }
-                let free = self
-                    .slots
-                    .iter()
-                    .position(Option::is_none)
-                    .expect("30 was tested");
-                self.slots[free] = Some(flow);
-                Answer::done(free)
-            }
-            Ok(Order::Release(number)) => match self.holder(number) {
-                None => Answer::plain(13),
-                Some(index) => {
-                    self.slots[index] = None;
-                    Answer::done(index)
-                }
-            },
+            Ok(order) => self.perform(&order).0,
         }
     }
 
-    fn holder(&self, number: u64) -> Option<usize> {
+    /// One order; for a registration also what was worked out.
+    pub fn perform(&mut self, order: &Order) -> (Answer, Option<Work>) {
+        match order {
+            Order::Register(flow) => {
+                let work = self.judge(flow);
+                let answer = match work.refused {
+                    Some(refused) => {
+                        self.keep_early(&work);
+                        refused
+                    }
+                    None => self.put_in(flow).expect("30 was tested"),
+                };
+                (answer, Some(work))
+            }
+            Order::Release(number) => {
+                let done = self.take_out(*number);
+                (done.unwrap_or(Answer::plain(causes::NOT_HELD)), None)
+            }
+        }
+    }
+
+    /// A flow in the lowest free slot, unjudged; none where there is no slot.
+    pub fn put_in(&mut self, flow: &Flow) -> Option<Answer> {
+        let free = self.slots.iter().position(Option::is_none)?;
+        self.slots[free] = Some(flow.clone());
+        Some(Answer::done(free))
+    }
+
+    /// The flow with this number out of its slot; none where there is none.
+    pub fn take_out(&mut self, number: u64) -> Option<Answer> {
+        let index = self.holder(number)?;
+        let flow = self.slots[index].take()?;
+        if self.slips.frame_left {
+            for hop in &flow.hops {
+                let left = Aggregate {
+                    frame: u128::from(flow.frame),
+                    ..Aggregate::default()
+                };
+                self.residue.push((*hop, left));
+            }
+        }
+        Some(Answer::done(index))
+    }
+
+    /// The slip of storing a path's first links before a refusal at a later one.
+    pub fn keep_early(&mut self, work: &Work) {
+        if !self.slips.stored_early || work.links.is_empty() {
+            return;
+        }
+        let passed = &work.hops[..work.links.len() - 1];
+        self.residue
+            .extend(passed.iter().map(|hop| (hop.hop, hop.share)));
+    }
+
+    pub fn holder(&self, number: u64) -> Option<usize> {
         self.slots
             .iter()
             .position(|slot| slot.as_ref().is_some_and(|flow| flow.number == number))
@@ -115,36 +167,23 @@ impl Registry {
         self.slots.iter().flatten().collect()
     }
 
-    /// The first cause against a registration whose line is well-formed and in range.
-    fn first_cause(&self, flow: &Flow) -> Option<Answer> {
-        if self.holder(flow.number).is_some() {
-            return Some(Answer::plain(12));
-        }
-        if flow.frame > flow.burst {
-            return Some(Answer::plain(17));
-        }
-        if let Some(refused) = path_cause(&self.queues, flow) {
-            return Some(refused);
-        }
-        if path_thresholds(&self.queues, &flow.hops) > u128::from(flow.deadline) {
-            return Some(Answer::plain(20));
-        }
-        let held = self.held();
-        if held.len() == SLOTS {
-            return Some(Answer::plain(30));
-        }
-        let hops: usize = held.iter().map(|other| other.hops.len()).sum();
-        if hops + flow.hops.len() > HOP_POOL {
-            return Some(Answer::plain(31));
-        }
-        let mut counted_in = held;
-        counted_in.push(flow);
-        links_cause(&self.queues, &counted_in, flow)
-    }
-
     /// The figures of a queue of the table.
     pub fn aggregate(&self, queue: &Queue) -> Aggregate {
-        aggregate(&self.queues, &self.held(), queue)
+        self.figures(queue, None)
+    }
+
+    /// What each held flow and, where one is given, a new one adds at a queue.
+    pub fn shares(&self, at: Hop, new: Option<&Flow>) -> Vec<Share> {
+        let flows: Vec<&Flow> = self.slots.iter().flatten().chain(new).collect();
+        shares(&self.queues, &flows, at, &self.slips)
+    }
+
+    /// The figures of a queue with, where one is given, a new flow counted in.
+    pub fn figures(&self, queue: &Queue, new: Option<&Flow>) -> Aggregate {
+        let at = queue.hop();
+        let left = self.residue.iter().filter(|(hop, _)| *hop == at);
+        let sum = sum_of(&self.shares(at, new));
+        left.fold(sum, |sum, (_, left)| sum.with(*left))
     }
 }
 
@@ -154,123 +193,34 @@ pub fn queue_at(queues: &[Queue], hop: Hop) -> Option<&Queue> {
         .find(|queue| queue.link == hop.link && queue.level == hop.level)
 }
 
-/// The first of 14, 16 and 15, each over all hops.
-pub fn path_cause(queues: &[Queue], flow: &Flow) -> Option<Answer> {
-    let hops = &flow.hops;
-    for &hop in hops {
-        if queue_at(queues, hop).is_none() {
-            return Some(Answer::at_hop(14, hop));
-        }
-    }
-    for i in 0..hops.len() {
-        if hops[..i].iter().any(|earlier| earlier.link == hops[i].link) {
-            return Some(Answer::at_hop(16, hops[i]));
-        }
-    }
-    for i in 1..hops.len() {
-        let ended = queue_at(queues, hops[i - 1]).map(|queue| queue.to);
-        let starts = queue_at(queues, hops[i]).map(|queue| queue.from);
-        if ended != starts {
-            return Some(Answer::at_hop(15, hops[i]));
-        }
-    }
-    None
-}
-
 /// The sum of the thresholds of these hops, µs.
 pub fn path_thresholds(queues: &[Queue], hops: &[Hop]) -> u128 {
     let threshold = |&hop: &Hop| queue_at(queues, hop).map_or(0, |queue| queue.threshold);
     hops.iter().map(threshold).map(u128::from).sum()
 }
 
-/// The first of 21, 22 and 23 along the flow's path, with these flows held.
-pub fn links_cause(queues: &[Queue], flows: &[&Flow], flow: &Flow) -> Option<Answer> {
-    for &hop in &flow.hops {
-        let of_link: Vec<&Queue> = queues
-            .iter()
-            .filter(|queue| queue.link == hop.link)
-            .collect();
-        let levels: Vec<Aggregate> = of_link
-            .iter()
-            .map(|queue| aggregate(queues, flows, queue))
-            .collect();
-        let speed = u128::from(of_link[0].speed);
-        if !rate_passes(speed, &levels) {
-            let whole = Hop {
-                link: hop.link,
-                level: 0,
-            };
-            return Some(Answer::at_hop(21, whole));
-        }
-        for (p, queue) in of_link.iter().enumerate() {
-            if levels[p].rate == 0 {
-                continue;
-            }
-            let failing = Hop {
-                link: queue.link,
-                level: queue.level,
-            };
-            if delay(speed, &levels, p) > u128::from(queue.threshold) {
-                return Some(Answer::at_hop(22, failing));
-            }
-            if backlog(speed, &levels, p) > u128::from(queue.buffer) {
-                return Some(Answer::at_hop(23, failing));
+/// What each of these flows adds at a queue, for every hop it has there.
+pub fn shares(queues: &[Queue], flows: &[&Flow], at: Hop, slips: &Slips) -> Vec<Share> {
+    let mut found = Vec::new();
+    for flow in flows.iter().filter(|flow| flow.hops.contains(&at)) {
+        for hop in hops_work(queues, flow, slips) {
+            if hop.hop == at {
+                found.push(Share {
+                    number: flow.number,
+                    share: hop.share,
+                });
             }
         }
     }
-    None
+    found
 }
 
-/// The figures of a queue over these flows. A rate is at least 1, so a queue without a flow is one
-/// whose rate sum is 0.
+fn sum_of(shares: &[Share]) -> Aggregate {
+    let none = Aggregate::default();
+    shares.iter().fold(none, |sum, share| sum.with(share.share))
+}
+
+/// The figures of a queue over these flows.
 pub fn aggregate(queues: &[Queue], flows: &[&Flow], queue: &Queue) -> Aggregate {
-    let mut sums = Aggregate::default();
-    for flow in flows {
-        for (i, hop) in flow.hops.iter().enumerate() {
-            if hop.link != queue.link || hop.level != queue.level {
-                continue;
-            }
-            let earlier = path_thresholds(queues, &flow.hops[..i]);
-            sums.rate += u128::from(flow.rate);
-            sums.burst += burst_at_hop(u128::from(flow.burst), u128::from(flow.rate), earlier);
-            sums.frame = sums.frame.max(u128::from(flow.frame));
-        }
-    }
-    sums
-}
-
-/// Document 01's "in order", for a table, the flow or none at each slot and the stored figures of
-/// each queue.
-pub fn consistent(queues: &[Queue], slots: &[Option<Flow>], stored: &[Aggregate]) -> bool {
-    for (i, queue) in queues.iter().enumerate() {
-        let before = if i == 0 { None } else { queues.get(i - 1) };
-        if crate::table::fault(queue, before).is_some() {
-            return false;
-        }
-    }
-    let held: Vec<&Flow> = slots.iter().flatten().collect();
-    let hops: usize = held.iter().map(|flow| flow.hops.len()).sum();
-    if slots.len() != SLOTS || hops > HOP_POOL {
-        return false;
-    }
-    let each_alone = held.iter().all(|flow| {
-        crate::orders::flow_in_range(flow)
-            && held
-                .iter()
-                .filter(|other| other.number == flow.number)
-                .count()
-                == 1
-            && flow.frame <= flow.burst
-            && path_cause(queues, flow).is_none()
-            && path_thresholds(queues, &flow.hops) <= u128::from(flow.deadline)
-    });
-    each_alone
-        && held
-            .iter()
-            .all(|flow| links_cause(queues, &held, flow).is_none())
-        && stored.len() == queues.len()
-        && queues
-            .iter()
-            .zip(stored)
-            .all(|(queue, &kept)| aggregate(queues, &held, queue) == kept)
+    sum_of(&shares(queues, flows, queue.hop(), &Slips::NONE))
 }

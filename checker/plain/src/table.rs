@@ -1,13 +1,15 @@
 //! Document 01's queue table: what a table text says, or the code and line of its first fault.
 
-use crate::columns::{field, lines, Line};
+use crate::causes;
+use crate::columns::{lines, Field, Line};
+use crate::faults::{first_class, Class, Fault, What};
+use crate::orders::Hop;
 
 pub const MOST_LINKS: u64 = 64;
 pub const MOST_LEVELS: u64 = 8;
-pub const MOST_TABLE_BYTES: usize = 18_944;
 
 /// One line of the table.
-#[derive(Clone, Debug, PartialEq)]
+#[derive(Clone, Debug, Default, PartialEq)]
 pub struct Queue {
     pub link: u64,
     pub from: u64,
@@ -21,6 +23,65 @@ pub struct Queue {
     pub buffer: u64,
 }
 
+impl Queue {
+    /// The hop that names it.
+    pub fn hop(&self) -> Hop {
+        Hop {
+            link: self.link,
+            level: self.level,
+        }
+    }
+}
+
+/// Whose number a field of the table holds.
+#[derive(Clone, Copy, Debug, PartialEq)]
+pub enum Of {
+    /// Link or level itself, which must come in turn.
+    Turn,
+    /// The link's, the same in all its lines.
+    Link,
+    Queue,
+}
+
+/// A field of a table line and the queue's number that it gives.
+pub struct Entry {
+    pub field: Field,
+    pub of: Of,
+    pub get: fn(&Queue) -> u64,
+    set: fn(&mut Queue, u64),
+}
+
+macro_rules! entry {
+    ($of:expr, $number:ident, $name:literal, $unit:literal, $columns:expr, $ranges:expr) => {
+        Entry {
+            field: Field::new($name, $unit, $columns, $ranges),
+            of: $of,
+            get: |queue| queue.$number,
+            set: |queue, value| queue.$number = value,
+        }
+    };
+}
+
+/// The fields of a table line, in their columns.
+#[rustfmt::skip]
+pub const ENTRIES: [Entry; 7] = [
+    entry!(Of::Turn, link, "link", "", (1, 4), &[]),
+    entry!(Of::Link, from, "from node", "", (5, 8), &[(1, 9_999)]),
+    entry!(Of::Link, to, "to node", "", (9, 12), &[(1, 9_999)]),
+    entry!(Of::Link, speed, "speed", "Mbit/s", (13, 18), &[(1, 10_000)]),
+    entry!(Of::Turn, level, "level", "", (19, 20), &[]),
+    entry!(Of::Queue, threshold, "threshold", "µs", (21, 27), &[(1, 100_000)]),
+    entry!(Of::Queue, buffer, "buffer", "bytes", (28, 36), &[(1, 16_777_215)]),
+];
+
+/// The lengths that a table line may have, shortest first; a field past its end is 0.
+pub const LENGTHS: [usize; 1] = [36];
+
+const LONGEST: usize = LENGTHS[LENGTHS.len() - 1];
+
+/// A text of as many of the longest lines as there can be queues.
+pub const MOST_TABLE_BYTES: usize = (MOST_LINKS * MOST_LEVELS) as usize * (LONGEST + 1);
+
 /// A refused batch or table.
 #[derive(Clone, Copy, Debug, PartialEq)]
 pub struct Refusal {
@@ -30,15 +91,19 @@ pub struct Refusal {
 
 pub fn read_table(text: &[u8]) -> Result<Vec<Queue>, Refusal> {
     if text.len() > MOST_TABLE_BYTES {
-        return Err(Refusal { code: 5, line: 0 });
+        return Err(Refusal {
+            code: causes::TABLE_SIZE,
+            line: 0,
+        });
     }
     let mut queues: Vec<Queue> = Vec::new();
     for (index, line) in lines(text).iter().enumerate() {
-        match read_line(line, queues.last()) {
-            Ok(queue) => queues.push(queue),
-            Err(code) => {
+        let (queue, faults) = examine(line, queues.last());
+        match (queue, first_class(&faults)) {
+            (Some(queue), None) => queues.push(queue),
+            (_, class) => {
                 return Err(Refusal {
-                    code,
+                    code: class.map_or(causes::TABLE_COLUMNS, code_of),
                     line: index as u64 + 1,
                 })
             }
@@ -47,39 +112,86 @@ pub fn read_table(text: &[u8]) -> Result<Vec<Queue>, Refusal> {
     Ok(queues)
 }
 
-fn read_line(line: &Line, before: Option<&Queue>) -> Result<Queue, u64> {
-    let queue = columns_of(line).ok_or(1u64)?;
-    match fault(&queue, before) {
-        Some(code) => Err(code),
-        None => Ok(queue),
+fn code_of(class: Class) -> u64 {
+    match class {
+        Class::Columns => causes::TABLE_COLUMNS,
+        Class::Range => causes::TABLE_RANGE,
+        Class::Turn => causes::TABLE_TURN,
+        Class::Ends => causes::TABLE_ENDS,
     }
 }
 
-fn columns_of(line: &Line) -> Option<Queue> {
-    if !line.ended || line.bytes.len() != 36 {
+/// A line after the queue before it: its queue where the columns are right, and all that is wrong with it.
+pub fn examine(line: &Line, before: Option<&Queue>) -> (Option<Queue>, Vec<Fault>) {
+    if !line.ended {
+        let fault = Fault {
+            column: line.bytes.len() + 1,
+            field: "",
+            what: What::Unended,
+        };
+        return (None, vec![fault]);
+    }
+    let mut queue = Queue::default();
+    let mut faults: Vec<Fault> = length_fault(line.bytes.len()).into_iter().collect();
+    let shortest = LENGTHS[0];
+    for entry in &ENTRIES {
+        if entry.field.last > shortest.max(line.bytes.len()) {
+            continue;
+        }
+        match entry.field.read(line.bytes) {
+            Ok(value) => (entry.set)(&mut queue, value),
+            Err(fault) => faults.push(fault),
+        }
+    }
+    if !faults.is_empty() {
+        return (None, faults);
+    }
+    let faults = value_faults(&queue, before);
+    (Some(queue), faults)
+}
+
+fn length_fault(columns: usize) -> Option<Fault> {
+    if columns < LENGTHS[0] || LENGTHS.contains(&columns) {
+        // A line that is too short lacks a field, which is said of that field.
         return None;
     }
-    Some(Queue {
-        link: field(line.bytes, 1, 4)?,
-        from: field(line.bytes, 5, 8)?,
-        to: field(line.bytes, 9, 12)?,
-        speed: field(line.bytes, 13, 18)?,
-        level: field(line.bytes, 19, 20)?,
-        threshold: field(line.bytes, 21, 27)?,
-        buffer: field(line.bytes, 28, 36)?,
+    let what = if columns > LONGEST {
+        What::Long {
+            columns,
+            most: LONGEST,
+        }
+    } else {
+        What::Length { columns }
+    };
+    Some(Fault {
+        column: columns.min(LONGEST) + 1,
+        field: "",
+        what,
     })
 }
 
 /// The first of 2 to 4 that a queue meets after the queue before it.
 pub fn fault(queue: &Queue, before: Option<&Queue>) -> Option<u64> {
-    let in_range = (1..=9_999).contains(&queue.from)
-        && (1..=9_999).contains(&queue.to)
-        && (1..=10_000).contains(&queue.speed)
-        && (1..=100_000).contains(&queue.threshold)
-        && (1..=16_777_215).contains(&queue.buffer);
-    if !in_range {
-        return Some(2);
-    }
+    first_class(&value_faults(queue, before)).map(code_of)
+}
+
+/// All of 2 to 4 that a queue meets after the queue before it.
+fn value_faults(queue: &Queue, before: Option<&Queue>) -> Vec<Fault> {
+    let values = ENTRIES.iter().map(|entry| (entry, (entry.get)(queue)));
+    let mut faults: Vec<Fault> = values
+        .filter_map(|(entry, value)| entry.field.fault_of(value))
+        .collect();
+    faults.extend(turn_fault(queue, before));
+    faults.extend(end_faults(queue, before));
+    faults
+}
+
+fn named(name: &str) -> &'static Field {
+    let found = ENTRIES.iter().find(|entry| entry.field.name == name);
+    &found.expect("a field of the table").field
+}
+
+fn turn_fault(queue: &Queue, before: Option<&Queue>) -> Option<Fault> {
     let in_turn = match before {
         None => queue.link == 1 && queue.level == 1,
         Some(last) => {
@@ -88,39 +200,59 @@ pub fn fault(queue: &Queue, before: Option<&Queue>) -> Option<u64> {
             next_level || next_link
         }
     };
-    if !in_turn || queue.link > MOST_LINKS || queue.level > MOST_LEVELS {
-        return Some(3);
-    }
+    let (name, what) = if !in_turn {
+        let what = What::Turn {
+            value: (queue.link, queue.level),
+            before: before.map(|last| (last.link, last.level)),
+        };
+        ("link", what)
+    } else if queue.link > MOST_LINKS {
+        let (value, most) = (queue.link, MOST_LINKS);
+        ("link", What::Past { value, most })
+    } else if queue.level > MOST_LEVELS {
+        let (value, most) = (queue.level, MOST_LEVELS);
+        ("level", What::Past { value, most })
+    } else {
+        return None;
+    };
+    Some(Fault {
+        column: named(name).first,
+        field: named(name).name,
+        what,
+    })
+}
+
+fn end_faults(queue: &Queue, before: Option<&Queue>) -> Vec<Fault> {
+    let mut faults = Vec::new();
     if queue.from == queue.to {
-        return Some(4);
+        let field = named("to node");
+        faults.push(Fault {
+            column: field.first,
+            field: field.name,
+            what: What::SameEnds { node: queue.to },
+        });
     }
-    match before {
-        Some(last) if last.link == queue.link => {
-            let same = (last.from, last.to, last.speed) == (queue.from, queue.to, queue.speed);
-            if same {
-                None
-            } else {
-                Some(4)
-            }
+    let Some(last) = before.filter(|last| last.link == queue.link) else {
+        return faults;
+    };
+    for entry in ENTRIES.iter().filter(|entry| entry.of == Of::Link) {
+        let (value, before) = ((entry.get)(queue), (entry.get)(last));
+        if value != before {
+            faults.push(Fault {
+                column: entry.field.first,
+                field: entry.field.name,
+                what: What::Differs { value, before },
+            });
         }
-        _ => None,
     }
+    faults
 }
 
 /// A queue as its table line.
 pub fn write_queue(queue: &Queue) -> Vec<u8> {
-    let fields = [
-        (queue.link, 4),
-        (queue.from, 4),
-        (queue.to, 4),
-        (queue.speed, 6),
-        (queue.level, 2),
-        (queue.threshold, 7),
-        (queue.buffer, 9),
-    ];
     let mut line = Vec::new();
-    for (value, columns) in fields {
-        crate::columns::put(&mut line, value, columns);
+    for entry in &ENTRIES {
+        entry.field.put(&mut line, (entry.get)(queue));
     }
     line.push(b'\n');
     line

@@ -6,8 +6,9 @@ use crate::views::Version;
 use halls::rng::Rng;
 use halls::Input;
 use plain::columns::lines;
+use plain::consistency::consistent;
 use plain::orders::{REGISTER, RELEASE};
-use plain::registry::{consistent, Answer, Registry};
+use plain::registry::{Answer, Registry};
 use std::collections::BTreeMap;
 
 /// How often each code occurred.

@@ -2,7 +2,7 @@
 
 use super::hall::Hall;
 use super::run::{Stay, Watch};
-use crate::numbers::{commas, counted};
+use crate::numbers::commas;
 use plain::table::Queue;
 
 /// The most that was seen of a queue.
@@ -110,19 +110,17 @@ impl Verdict {
         let Some(closest) = self.closest else {
             return "no frame sent".to_string();
         };
-        let (late, nearest) = match self.late {
-            0 => ("no frame late".to_string(), "closest"),
-            late => (
-                counted(late as usize, "stay too long", "stays too long"),
-                "longest",
-            ),
-        };
-        let mut words = format!(
-            "{late}; {nearest} {}, {} of {} µs",
+        let place = format!(
+            "{}, {} of {} µs",
             hall.place(closest.queue),
             commas(closest.length()),
             commas(hall.queues[closest.queue].threshold)
         );
+        let mut words = match self.late {
+            0 => format!("no frame late; closest {place}"),
+            1 => format!("a frame late: {place}"),
+            late => format!("a frame late: {place}; {} late stays in all", commas(late)),
+        };
         for &queue in &self.exceeded {
             words += &format!(
                 "; buffer exceeded at {}, {} of {} bytes",

@@ -17,6 +17,7 @@ pub mod watch;
 use crate::arguments::{Arguments, Choice, Command};
 use crate::folder::{read_file, Folder};
 use crate::numbers::counted;
+use crate::session::{remark, Session};
 use crate::status::{Outcome, Status};
 use figures::{Figures, Seen, Verdict};
 use hall::Hall;
@@ -51,9 +52,13 @@ pub const COMMAND: Command = Command {
 };
 
 fn traffic(arguments: &Arguments) -> Outcome {
-    prepare(arguments)
-        .and_then(Job::run)
-        .unwrap_or_else(|failed| failed)
+    match prepare(arguments) {
+        Err(failed) => failed,
+        Ok(job) => job
+            .run()
+            .unwrap_or_else(|failed| failed)
+            .with_remark(remark()),
+    }
 }
 
 fn usage(what: &str) -> Outcome {
@@ -131,16 +136,7 @@ fn arrivals(arguments: &Arguments) -> Result<Arrivals, Outcome> {
 
 /// The hall with the flows held after its orders.
 fn held(folder: &Folder) -> Result<Hall, Outcome> {
-    let (mut registry, refused) = plain::registry::Registry::open(&folder.table);
-    if let Some(refusal) = refused {
-        return Err(unreadable(format!(
-            "table.txt:{}: refused with code {}",
-            refusal.line, refusal.code
-        )));
-    }
-    for line in plain::columns::lines(&folder.orders) {
-        registry.step(plain::orders::read_order(&line));
-    }
+    let registry = Session::run(folder)?.registry;
     let flows = registry.held().into_iter().cloned().collect();
     Ok(Hall::new(registry.queues, flows))
 }

@@ -3,6 +3,7 @@
 use super::figures::Seen;
 use super::hall::Hall;
 use super::run::Stay;
+use crate::bounds::aligned;
 use crate::numbers::commas;
 
 /// Each with its unit.
@@ -52,30 +53,14 @@ pub fn rows(hall: &Hall, seen: &[Seen]) -> Vec<[String; 8]> {
 
 /// The rows under their headings.
 pub fn table(hall: &Hall, seen: &[Seen]) -> String {
-    let rows = rows(hall, seen);
-    let mut text = String::new();
-    let width = |column: usize| {
-        let of_rows = rows.iter().map(|row| row[column].chars().count());
-        let (upper, lower) = HEADINGS[column];
-        let of_heads = upper.chars().count().max(lower.chars().count());
-        of_rows.max().unwrap_or(0).max(of_heads)
-    };
-    let mut line = |cells: [&str; 8]| {
-        let mut written = String::new();
-        for (column, cell) in cells.iter().enumerate() {
-            let pad = width(column) - cell.chars().count();
-            match column {
-                7 => written += cell,
-                _ => written += &format!("{}{cell}  ", " ".repeat(pad)),
-            }
-        }
-        text.push_str(written.trim_end());
-        text.push('\n');
-    };
-    line(HEADINGS.map(|(upper, _)| upper));
-    line(HEADINGS.map(|(_, lower)| lower));
-    for row in &rows {
-        line([0, 1, 2, 3, 4, 5, 6, 7].map(|column: usize| row[column].as_str()));
-    }
-    text
+    let heads = [
+        HEADINGS.map(|(name, _)| name.to_string()),
+        HEADINGS.map(|(_, unit)| unit.to_string()),
+    ];
+    let all: Vec<Vec<String>> = heads
+        .into_iter()
+        .chain(rows(hall, seen))
+        .map(Vec::from)
+        .collect();
+    aligned(&all)
 }

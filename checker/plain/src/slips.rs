@@ -1,0 +1,71 @@
+//! Document 01, "Where trainees and programs slip": each slip is a switch that turns one rule wrong, so that an answer can
+//! be recognised by the slip that gives it. All else goes by the rules; with no switch on, everything does.
+
+use crate::formula::{burst_at_hop, growth, Sums};
+
+/// The rules that are broken; none by default.
+#[derive(Clone, Copy, Debug, Default, PartialEq)]
+pub struct Slips {
+    /// Only the new flow's level and those below are checked.
+    pub only_below: bool,
+    /// A release leaves the largest frame as it stood.
+    pub frame_left: bool,
+    /// The links before a refusing one keep the flow's share.
+    pub stored_early: bool,
+    /// The source's burst is taken at every hop.
+    pub source_burst: bool,
+    /// A delay's fraction is dropped before it is compared.
+    pub fraction_dropped: bool,
+    /// A burst is rounded up at each hop in place of once.
+    pub rounded_each_hop: bool,
+}
+
+impl Slips {
+    pub const NONE: Slips = Slips {
+        only_below: false,
+        frame_left: false,
+        stored_early: false,
+        source_burst: false,
+        fraction_dropped: false,
+        rounded_each_hop: false,
+    };
+
+    /// Each slip by itself, in document 01's order, with its name.
+    #[rustfmt::skip]
+    pub const EACH: [(&'static str, Slips); 6] = [
+        ("only the levels below checked", Slips { only_below: true, ..Slips::NONE }),
+        ("largest frame left on release", Slips { frame_left: true, ..Slips::NONE }),
+        ("first links stored before a refusal at the last", Slips { stored_early: true, ..Slips::NONE }),
+        ("source's burst at every hop", Slips { source_burst: true, ..Slips::NONE }),
+        ("fraction dropped", Slips { fraction_dropped: true, ..Slips::NONE }),
+        ("rounding at each hop", Slips { rounded_each_hop: true, ..Slips::NONE }),
+    ];
+
+    /// Burst at a hop after earlier hops with these thresholds.
+    pub fn burst(&self, burst: u128, rate: u128, earlier: &[u128]) -> u128 {
+        if self.source_burst {
+            return burst;
+        }
+        if self.rounded_each_hop {
+            return burst
+                + earlier
+                    .iter()
+                    .map(|&t| growth(rate, t).ceiling())
+                    .sum::<u128>();
+        }
+        burst_at_hop(burst, rate, earlier.iter().sum())
+    }
+
+    /// The delay bound, µs.
+    pub fn delay(&self, sums: &Sums) -> u128 {
+        if self.fraction_dropped {
+            return sums.delay().floor();
+        }
+        sums.delay().ceiling()
+    }
+
+    /// Whether a level that carries a flow is checked for a new flow at level `own`.
+    pub fn checks(&self, level: u64, own: u64) -> bool {
+        !self.only_below || level >= own
+    }
+}

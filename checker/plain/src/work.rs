@@ -1,0 +1,235 @@
+//! A registration judged, with all that is worked out on the way: the sums on paper, up to the first cause.
+
+use crate::causes;
+use crate::formula::{rate_limit, rate_sum, Aggregate, Sums};
+use crate::orders::{Flow, Hop};
+use crate::registry::{queue_at, Answer, Registry, HOP_POOL, SLOTS};
+use crate::slips::Slips;
+use crate::table::Queue;
+
+/// What a flow adds at one hop of its path.
+#[derive(Clone, Debug, PartialEq)]
+pub struct HopWork {
+    pub hop: Hop,
+    pub threshold: u64,
+    /// S: the thresholds of the earlier hops, summed.
+    pub earlier: u128,
+    pub share: Aggregate,
+}
+
+/// A level of a link with its figures; bounds where it carries a flow and the rate rule holds.
+#[derive(Clone, Debug, PartialEq)]
+pub struct LevelWork {
+    pub queue: Queue,
+    pub figures: Aggregate,
+    pub bounds: Option<Bounds>,
+}
+
+/// A queue's bounds and the sums that they come from.
+#[derive(Clone, Copy, Debug, PartialEq)]
+pub struct Bounds {
+    pub sums: Sums,
+    /// µs.
+    pub delay: u128,
+    /// Bytes.
+    pub backlog: u128,
+}
+
+/// A link's rate rule and its levels.
+#[derive(Clone, Debug, PartialEq)]
+pub struct LinkWork {
+    pub link: u64,
+    pub rate_sum: u128,
+    pub rate_limit: u128,
+    pub levels: Vec<LevelWork>,
+}
+
+/// What was worked out for a registration that was read.
+#[derive(Clone, Debug, Default)]
+pub struct Work {
+    /// The first cause against it.
+    pub refused: Option<Answer>,
+    /// Along the path; empty where 14 is met at the latest.
+    pub hops: Vec<HopWork>,
+    /// Held slots and held hop entries before it.
+    pub held: (usize, usize),
+    /// Along the path, the refusing link the last; empty where an earlier cause is met.
+    pub links: Vec<LinkWork>,
+}
+
+impl Work {
+    /// The thresholds along the path, summed.
+    pub fn thresholds(&self) -> u128 {
+        self.hops.iter().map(|hop| u128::from(hop.threshold)).sum()
+    }
+
+    /// The queue that decides, with its bounds: the failing one for 22 and 23, for an admission the flow's own at the last
+    /// hop.
+    pub fn deciding(&self) -> Option<&LevelWork> {
+        let at = match self.refused {
+            None => self.hops.last()?.hop,
+            Some(answer) => Hop {
+                link: answer.link,
+                level: answer.level,
+            },
+        };
+        let level = |level: &&LevelWork| level.queue.hop() == at && level.bounds.is_some();
+        let link = self.links.iter().find(|link| link.link == at.link)?;
+        link.levels.iter().find(level)
+    }
+}
+
+impl LinkWork {
+    /// A link's levels with these figures. A slip may round a bound.
+    pub fn of(levels: Vec<(Queue, Aggregate)>, slips: &Slips) -> LinkWork {
+        let figures: Vec<Aggregate> = levels.iter().map(|(_, figures)| *figures).collect();
+        let (link, speed) = levels
+            .first()
+            .map_or((0, 0), |(queue, _)| (queue.link, u128::from(queue.speed)));
+        let (sum, limit) = (rate_sum(&figures), rate_limit(speed));
+        let bounds = |p: usize| {
+            if figures[p].is_empty() || sum >= limit {
+                return None;
+            }
+            let sums = Sums::of(speed, &figures, p);
+            Some(Bounds {
+                sums,
+                delay: slips.delay(&sums),
+                backlog: figures[p].burst + sums.rise().ceiling(),
+            })
+        };
+        let level = |(p, (queue, figures)): (usize, (Queue, Aggregate))| LevelWork {
+            queue,
+            figures,
+            bounds: bounds(p),
+        };
+        LinkWork {
+            link,
+            rate_sum: sum,
+            rate_limit: limit,
+            levels: levels.into_iter().enumerate().map(level).collect(),
+        }
+    }
+
+    /// The first of 21, 22 and 23 that a new flow at level `own` meets here; an empty level isn't checked.
+    pub fn first_cause(&self, own: u64, slips: &Slips) -> Option<Answer> {
+        if self.rate_sum >= self.rate_limit {
+            let whole = Hop {
+                link: self.link,
+                level: 0,
+            };
+            return Some(Answer::at_hop(causes::RATE, whole));
+        }
+        for level in &self.levels {
+            let Some(bounds) = &level.bounds else {
+                continue;
+            };
+            let queue = &level.queue;
+            if !slips.checks(queue.level, own) {
+                continue;
+            }
+            let failing = queue.hop();
+            if bounds.delay > u128::from(queue.threshold) {
+                return Some(Answer::at_hop(causes::DELAY, failing));
+            }
+            if bounds.backlog > u128::from(queue.buffer) {
+                return Some(Answer::at_hop(causes::BACKLOG, failing));
+            }
+        }
+        None
+    }
+}
+
+/// What a flow adds at each hop of its path; at a hop without a queue a threshold of 0 counts.
+pub fn hops_work(queues: &[Queue], flow: &Flow, slips: &Slips) -> Vec<HopWork> {
+    let mut earlier: Vec<u128> = Vec::new();
+    let mut hops = Vec::new();
+    for &hop in &flow.hops {
+        let threshold = queue_at(queues, hop).map_or(0, |queue| queue.threshold);
+        let (burst, rate) = (u128::from(flow.burst), u128::from(flow.rate));
+        hops.push(HopWork {
+            hop,
+            threshold,
+            earlier: earlier.iter().sum(),
+            share: Aggregate {
+                rate,
+                burst: slips.burst(burst, rate, &earlier),
+                frame: u128::from(flow.frame),
+            },
+        });
+        earlier.push(u128::from(threshold));
+    }
+    hops
+}
+
+/// The first of 14, 16 and 15 of this code, first hop first.
+fn path_cause(queues: &[Queue], hops: &[Hop], code: u64) -> Option<Answer> {
+    let meets = |i: usize| match code {
+        causes::NO_QUEUE => queue_at(queues, hops[i]).is_none(),
+        causes::LOOP => hops[..i].iter().any(|earlier| earlier.link == hops[i].link),
+        _ => {
+            let ended = |hop| queue_at(queues, hop).map(|queue| queue.to);
+            let starts = |hop| queue_at(queues, hop).map(|queue| queue.from);
+            i > 0 && ended(hops[i - 1]) != starts(hops[i])
+        }
+    };
+    let at = (0..hops.len()).find(|&i| meets(i))?;
+    Some(Answer::at_hop(code, hops[at]))
+}
+
+impl Registry {
+    /// Judges a registration whose line is well-formed and in range: cause after cause, in document 01's order.
+    pub fn judge(&self, flow: &Flow) -> Work {
+        let held = self.held();
+        let mut work = Work {
+            held: (held.len(), held.iter().map(|flow| flow.hops.len()).sum()),
+            ..Work::default()
+        };
+        for group in causes::REGISTRATION {
+            work.refused = self.cause(group[0], flow, &mut work);
+            if work.refused.is_some() {
+                break;
+            }
+        }
+        work
+    }
+
+    fn cause(&self, code: u64, flow: &Flow, work: &mut Work) -> Option<Answer> {
+        let met = match code {
+            causes::HELD => self.holder(flow.number).is_some(),
+            causes::FRAME => flow.frame > flow.burst,
+            causes::NO_QUEUE | causes::LOOP | causes::APART => {
+                return path_cause(&self.queues, &flow.hops, code);
+            }
+            causes::DEADLINE => {
+                work.hops = hops_work(&self.queues, flow, &self.slips);
+                work.thresholds() > u128::from(flow.deadline)
+            }
+            causes::NO_SLOT => work.held.0 == SLOTS,
+            causes::NO_HOPS => work.held.1 + flow.hops.len() > HOP_POOL,
+            _ => return self.links_cause(flow, work),
+        };
+        met.then(|| Answer::plain(code))
+    }
+
+    fn links_cause(&self, flow: &Flow, work: &mut Work) -> Option<Answer> {
+        for hop in &flow.hops {
+            let link = self.link_work(hop.link, Some(flow));
+            let refused = link.first_cause(hop.level, &self.slips);
+            work.links.push(link);
+            if refused.is_some() {
+                return refused;
+            }
+        }
+        None
+    }
+
+    /// A link of the table over the held flows and, where one is given, a new one.
+    pub fn link_work(&self, link: u64, new: Option<&Flow>) -> LinkWork {
+        let of_link = self.queues.iter().filter(|queue| queue.link == link);
+        let levels = of_link
+            .map(|queue| (queue.clone(), self.figures(queue, new)))
+            .collect();
+        LinkWork::of(levels, &self.slips)
+    }
+}

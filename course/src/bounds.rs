@@ -1,0 +1,200 @@
+//! `course bounds`: every queue's figures and bounds, and every flow's end-to-end bound.
+
+use crate::arguments::{Arguments, Choice, Command};
+use crate::folder::Folder;
+use crate::numbers::{commas, counted, per_cent};
+use crate::session::{remark, Session};
+use crate::status::Outcome;
+use crate::titles::link_title;
+use plain::orders::Flow;
+use plain::registry::{path_thresholds, Registry, HOP_POOL, SLOTS};
+use plain::table::{Of, ENTRIES};
+use plain::work::{LevelWork, LinkWork};
+
+pub const COMMAND: Command = Command {
+    name: "bounds",
+    usage: "FOLDER [--after N]",
+    about: "every queue's figures and bounds, every flow's end-to-end bound",
+    help: "\
+After the orders of orders.txt (with --after N after the first N of them): for each link its rate sum against its speed,
+for each queue rate sum, burst sum and largest frame, Res, Y, the delay bound against the threshold (µs), the backlog bound
+against the buffer (bytes), each with its per cent, rounded up. An empty queue has no bound. For each flow the sum of the
+delay bounds of its queues, the sum of their thresholds, which is what is promised, and its deadline (µs).
+
+Exit status: 0; 1 a refused batch or an unreadable file; 2 usage.",
+    words: 1..=1,
+    choices: &[Choice {
+        name: "--after",
+        value: Some("N"),
+    }],
+    run,
+};
+
+fn run(arguments: &Arguments) -> Outcome {
+    bounds(arguments).unwrap_or_else(|failed| failed)
+}
+
+fn bounds(arguments: &Arguments) -> Result<Outcome, Outcome> {
+    let after = arguments.number("--after")?;
+    let folder = Folder::read(&arguments.words[0])?;
+    let session = Session::run_to(&folder, after.map(|after| after as usize))?;
+    let orders = session.steps.len();
+    let printed = report(&session.registry, orders);
+    Ok(Outcome::fine(printed).with_remark(remark()))
+}
+
+/// Each link of the registry's table over its held flows.
+pub fn links(registry: &Registry) -> Vec<LinkWork> {
+    let mut numbers: Vec<u64> = registry.queues.iter().map(|queue| queue.link).collect();
+    numbers.dedup();
+    numbers
+        .iter()
+        .map(|&link| registry.link_work(link, None))
+        .collect()
+}
+
+/// The sum of the delay bounds of a held flow's queues, µs.
+pub fn end_to_end(links: &[LinkWork], flow: &Flow) -> u128 {
+    let levels = links.iter().flat_map(|link| &link.levels);
+    levels
+        .filter(|level| flow.hops.contains(&level.queue.hop()))
+        .filter_map(|level| level.bounds)
+        .map(|bounds| bounds.delay)
+        .sum()
+}
+
+fn report(registry: &Registry, orders: usize) -> String {
+    let links = links(registry);
+    let held = registry.held();
+    let hops: usize = held.iter().map(|flow| flow.hops.len()).sum();
+    let mut text = format!(
+        "after {}: {} of {SLOTS} places held, {} of {} hop entries\n",
+        counted(orders, "order", "orders"),
+        held.len(),
+        commas(hops),
+        commas(HOP_POOL)
+    );
+    for link in &links {
+        text += &link_report(link);
+    }
+    text + &flow_report(registry, &links)
+}
+
+fn link_report(link: &LinkWork) -> String {
+    let Some(first) = link.levels.first() else {
+        return String::new();
+    };
+    let mut rows = vec![level_heads()];
+    rows.extend(link.levels.iter().map(level_row));
+    format!(
+        "\n{}; rates {} of {} kbit/s, {} %\n{}",
+        link_title(&first.queue),
+        commas(link.rate_sum),
+        commas(link.rate_limit),
+        per_cent(link.rate_sum, link.rate_limit),
+        aligned(&rows)
+    )
+}
+
+/// Fields of a queue beside threshold and buffer, which stand with their bounds.
+fn further() -> impl Iterator<Item = &'static plain::table::Entry> {
+    let paired = ["threshold", "buffer"];
+    ENTRIES
+        .iter()
+        .filter(move |entry| entry.of == Of::Queue && !paired.contains(&entry.field.name))
+}
+
+fn level_heads() -> Vec<String> {
+    let heads = [
+        "level",
+        "rate",
+        "burst",
+        "frame",
+        "Res",
+        "Y",
+        "delay",
+        "threshold",
+        "%",
+        "backlog",
+        "buffer",
+        "%",
+    ];
+    let further = further().map(|entry| entry.field.name.to_string());
+    heads
+        .map(str::to_string)
+        .into_iter()
+        .chain(further)
+        .collect()
+}
+
+fn level_row(level: &LevelWork) -> Vec<String> {
+    let (queue, figures) = (&level.queue, &level.figures);
+    let none = || "-".to_string();
+    let bound = |value: &dyn Fn(&plain::work::Bounds) -> String| {
+        level.bounds.as_ref().map_or_else(none, value)
+    };
+    let row = [
+        queue.level.to_string(),
+        commas(figures.rate),
+        commas(figures.burst),
+        commas(figures.frame),
+        bound(&|bounds| commas(bounds.sums.residual)),
+        bound(&|bounds| commas(bounds.sums.ahead())),
+        bound(&|bounds| commas(bounds.delay)),
+        commas(queue.threshold),
+        bound(&|bounds| per_cent(bounds.delay, u128::from(queue.threshold))),
+        bound(&|bounds| commas(bounds.backlog)),
+        commas(queue.buffer),
+        bound(&|bounds| per_cent(bounds.backlog, u128::from(queue.buffer))),
+    ];
+    let further = further().map(|entry| commas((entry.get)(queue)));
+    row.into_iter().chain(further).collect()
+}
+
+fn flow_report(registry: &Registry, links: &[LinkWork]) -> String {
+    let heads = [
+        "place",
+        "flow",
+        "hops",
+        "bounds",
+        "thresholds",
+        "deadline",
+        "%",
+    ];
+    let mut rows = vec![heads.map(str::to_string).to_vec()];
+    for (index, slot) in registry.slots.iter().enumerate() {
+        let Some(flow) = slot else { continue };
+        let bound = end_to_end(links, flow);
+        rows.push(vec![
+            (index + 1).to_string(),
+            commas(flow.number),
+            flow.hops.len().to_string(),
+            commas(bound),
+            commas(path_thresholds(&registry.queues, &flow.hops)),
+            commas(flow.deadline),
+            per_cent(bound, u128::from(flow.deadline)),
+        ]);
+    }
+    if rows.len() == 1 {
+        return "\nno flow is held\n".to_string();
+    }
+    format!("\nflows, end to end in µs\n{}", aligned(&rows))
+}
+
+/// Rows of words, each column as wide as its widest word, from the right.
+pub fn aligned(rows: &[Vec<String>]) -> String {
+    let width = |column: usize| {
+        let words = rows.iter().filter_map(|row| row.get(column));
+        words.map(|word| word.chars().count()).max().unwrap_or(0)
+    };
+    let columns = rows.iter().map(Vec::len).max().unwrap_or(0);
+    let widths: Vec<usize> = (0..columns).map(width).collect();
+    let mut text = String::new();
+    for row in rows {
+        for (word, width) in row.iter().zip(&widths) {
+            text += &format!("  {word:>width$}");
+        }
+        text.push('\n');
+    }
+    text
+}

@@ -1,0 +1,151 @@
+//! The mistakes of one line, told so that one slip of the typist is one mistake.
+
+use super::words::words;
+use super::Mistake;
+use crate::numbers::counted;
+use plain::columns::{Field, Line};
+use plain::faults::{first_class, Class, Fault, What};
+
+const MARK: &[u8] = b"\xef\xbb\xbf";
+
+/// How a kind of line is read: all that is wrong with it, and where its fields stand.
+pub struct Reader<'a> {
+    pub faults: &'a dyn Fn(&Line) -> Vec<Fault>,
+    pub fields: &'a [Field],
+}
+
+fn told(fault: &Fault) -> Mistake {
+    Mistake {
+        line: 0,
+        column: fault.column,
+        field: fault.field.to_string(),
+        words: words(&fault.what),
+    }
+}
+
+fn named(column: usize, field: &str, words: String) -> Mistake {
+    Mistake {
+        line: 0,
+        column,
+        field: field.to_string(),
+        words,
+    }
+}
+
+/// The mistakes of a line; none exactly where it has no fault.
+pub fn mistakes(line: &Line, reader: &Reader) -> Vec<Mistake> {
+    let faults = (reader.faults)(line);
+    if faults.is_empty() || !line.ended {
+        return faults.iter().map(told).collect();
+    }
+    if let Some(rest) = line.bytes.strip_prefix(MARK) {
+        let mark = named(
+            1,
+            "",
+            "a byte order mark before the first column".to_string(),
+        );
+        return with_rest(mark, rest, MARK.len(), reader);
+    }
+    if let Some(rest) = line.bytes.strip_suffix(b"\r") {
+        let mark = named(line.bytes.len(), "", "a CR before the LF".to_string());
+        return with_rest(mark, rest, 0, reader);
+    }
+    if let Some((moved, repaired)) = shift(line.bytes, &faults, reader) {
+        let rest = (reader.faults)(&whole(&repaired));
+        return std::iter::once(moved)
+            .chain(rest.iter().map(told))
+            .collect();
+    }
+    if out_of_step(&faults) {
+        return few(&faults);
+    }
+    faults.iter().map(told).collect()
+}
+
+fn whole(bytes: &[u8]) -> Line<'_> {
+    Line { bytes, ended: true }
+}
+
+/// A mistake and those of the line without what it names, their columns as in the file.
+fn with_rest(first: Mistake, rest: &[u8], offset: usize, reader: &Reader) -> Vec<Mistake> {
+    let mut all = vec![first];
+    for mut mistake in mistakes(&whole(rest), reader) {
+        mistake.column += offset;
+        all.push(mistake);
+    }
+    all
+}
+
+/// Whether the faults look like those of a line some of whose columns are too many or too few.
+fn out_of_step(faults: &[Fault]) -> bool {
+    let length = |what: &What| {
+        matches!(
+            what,
+            What::Short { .. } | What::Long { .. } | What::Length { .. }
+        )
+    };
+    let apart = |what: &What| matches!(what, What::Gap | What::Blank);
+    let count = |test: &dyn Fn(&What) -> bool| faults.iter().filter(|f| test(&f.what)).count();
+    count(&length) > 0 || count(&apart) > 1
+}
+
+/// Where a line would be right with some blanks more or fewer before one field: that, and the line so mended.
+fn shift(line: &[u8], faults: &[Fault], reader: &Reader) -> Option<(Mistake, Vec<u8>)> {
+    let wrong = |fault: &&Fault| fault.class() == Class::Columns;
+    let first = faults
+        .iter()
+        .filter(wrong)
+        .map(|fault| fault.column)
+        .min()?;
+    let before = reader.fields.iter().filter(|field| field.first <= first);
+    for field in before.rev() {
+        for count in 1..=field.last + 1 - field.first {
+            let few = with_blanks(line, field.first - 1, count);
+            let many = without_blanks(line, field.first - 1, count);
+            for (repaired, word) in [(few, "few"), (many, "many")] {
+                let Some(repaired) = repaired else { continue };
+                let left = first_class(&(reader.faults)(&whole(&repaired)));
+                if left != Some(Class::Columns) {
+                    let words = format!(
+                        "{} too {word} before its number",
+                        counted(count, "column", "columns")
+                    );
+                    return Some((named(field.first, field.name, words), repaired));
+                }
+            }
+        }
+    }
+    None
+}
+
+fn with_blanks(line: &[u8], at: usize, count: usize) -> Option<Vec<u8>> {
+    let (before, after) = line.split_at_checked(at)?;
+    Some([before, &vec![b' '; count], after].concat())
+}
+
+fn without_blanks(line: &[u8], at: usize, count: usize) -> Option<Vec<u8>> {
+    let taken = line.get(at..at + count)?;
+    let blank = taken.iter().all(|&byte| byte == b' ');
+    blank.then(|| [&line[..at], &line[at + count..]].concat())
+}
+
+/// Of a line of a wrong length: bytes that are no digit, else the first field that is wrong, and the length. The fields
+/// after a slip are wrong only because of it.
+fn few(faults: &[Fault]) -> Vec<Mistake> {
+    let foreign = |fault: &&Fault| matches!(fault.what, What::Byte(_));
+    let mut kept: Vec<&Fault> = faults.iter().filter(foreign).collect();
+    if kept.is_empty() {
+        kept.extend(
+            faults
+                .iter()
+                .min_by_key(|fault| (fault.class(), fault.column)),
+        );
+    }
+    let long = |fault: &&Fault| matches!(fault.what, What::Long { .. } | What::Length { .. });
+    for fault in faults.iter().filter(long) {
+        if !kept.contains(&fault) {
+            kept.push(fault);
+        }
+    }
+    kept.into_iter().map(told).collect()
+}

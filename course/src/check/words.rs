@@ -1,0 +1,83 @@
+//! What is wrong with a line, in words.
+
+use crate::numbers::{commas, counted};
+use plain::faults::What;
+
+/// `1 to 65,535`; several ranges joined by `or`.
+fn ranges(ranges: &[(u64, u64)]) -> String {
+    let one = |&(least, most): &(u64, u64)| {
+        if least == most {
+            commas(least)
+        } else {
+            format!("{} to {}", commas(least), commas(most))
+        }
+    };
+    ranges.iter().map(one).collect::<Vec<_>>().join(" or ")
+}
+
+/// A byte that is neither a digit nor a blank.
+fn byte(byte: u8) -> String {
+    match byte {
+        b',' => "a comma".to_string(),
+        b'.' => "a point".to_string(),
+        b'+' | b'-' => format!("a sign, `{}`", char::from(byte)),
+        b'\t' => "a tab".to_string(),
+        b'\r' => "a CR".to_string(),
+        letter if letter.is_ascii_alphabetic() => format!("a letter, `{}`", char::from(letter)),
+        other if other.is_ascii_graphic() => format!("`{}`, no digit", char::from(other)),
+        other => format!("byte {other:#04x}, no digit"),
+    }
+}
+
+fn turn(value: (u64, u64), before: Option<(u64, u64)>) -> String {
+    let (link, level) = value;
+    let expected = match before {
+        None => "link 1 level 1 comes first".to_string(),
+        Some((last, below)) => format!(
+            "link {last} level {} or link {} level 1 comes here",
+            below + 1,
+            last + 1
+        ),
+    };
+    format!(
+        "link {} level {} is out of turn: {expected}",
+        commas(link),
+        level
+    )
+}
+
+pub fn words(what: &What) -> String {
+    match what {
+        What::Unended => "no LF at the end of the last line".to_string(),
+        What::Short { columns } => {
+            format!(
+                "the line ends after {}",
+                counted(*columns, "column", "columns")
+            )
+        }
+        What::Long { columns, most } => format!(
+            "{} too many: the line has {}, {most} are right",
+            counted(columns - most, "column", "columns"),
+            commas(columns)
+        ),
+        What::Length { columns } => format!("no line has {columns} columns"),
+        What::Blank => "no number".to_string(),
+        What::Byte(found) => byte(*found),
+        What::Gap => "a blank right of a digit".to_string(),
+        What::LeadingZero => "a leading zero".to_string(),
+        What::Range {
+            value,
+            ranges: allowed,
+        } => {
+            format!("{} is out of range, {}", commas(value), ranges(allowed))
+        }
+        What::Turn { value, before } => turn(*value, *before),
+        What::Past { value, most } => format!("{value} is past the last, {most}"),
+        What::SameEnds { node } => format!("the link ends where it starts, at node {node}"),
+        What::Differs { value, before } => format!(
+            "{} differs from {} in the line before, of the same link",
+            commas(value),
+            commas(before)
+        ),
+    }
+}

@@ -1,0 +1,125 @@
+//! `course explain`: each order with its answer, a sentence, and the sums worked out as on paper.
+
+mod sentences;
+mod sums;
+
+use crate::arguments::{Arguments, Choice, Command};
+use crate::folder::Folder;
+use crate::numbers::commas;
+use crate::session::{remark, walk, Step};
+use crate::status::{Outcome, Status};
+use crate::titles::order_title;
+use plain::causes;
+use plain::orders::Order;
+use plain::registry::{Answer, Registry};
+
+pub const COMMAND: Command = Command {
+    name: "explain",
+    usage: "FOLDER [--line N]",
+    about: "each order with its answer, why, and the sums worked out as on paper",
+    help: "\
+For each line of orders.txt (with --line N for that one): the answer as `admit` prints it, the order in words, one
+sentence why, the causes in document 01's order (`+` passed, `!` met, `.` not reached), and the sums up to the first
+cause: thresholds against the deadline, the burst at each hop, and link by link along the path the rate sum and, for each
+level that carries a flow, Res, Y, delay and backlog. 21, 22 and 23 are met link by link: a `.` behind a `!` among them
+means that the link, or the level, before it decides. For a refusal by 21, 22 or 23 also the flows that fill the queue.
+
+Exit status: 0, whatever the orders are answered; 1 a refused batch or an unreadable file; 2 usage.",
+    words: 1..=1,
+    choices: &[Choice {
+        name: "--line",
+        value: Some("N"),
+    }],
+    run,
+};
+
+fn run(arguments: &Arguments) -> Outcome {
+    explain(arguments).unwrap_or_else(|failed| failed)
+}
+
+fn explain(arguments: &Arguments) -> Result<Outcome, Outcome> {
+    let wanted = arguments.number("--line")?;
+    let folder = Folder::read(&arguments.words[0])?;
+    let mut printed = String::new();
+    let mut count = 0;
+    walk(&folder, |step, before, _| {
+        count = step.number as u64;
+        if wanted.is_none_or(|line| line == step.number as u64) {
+            if !printed.is_empty() {
+                printed.push('\n');
+            }
+            printed += &explained(&step, before);
+        }
+    })?;
+    if let Some(line) = wanted.filter(|line| !(1..=count).contains(line)) {
+        let words = format!(
+            "course: --line {line}: orders.txt has {} lines",
+            commas(count)
+        );
+        return Err(Outcome::failed(Status::Usage, words));
+    }
+    Ok(Outcome::fine(printed).with_remark(remark()))
+}
+
+/// An order's whole explanation; the registry is the one before it.
+pub fn explained(step: &Step, before: &Registry) -> String {
+    let mut text = format!(
+        "line {}: {}\n",
+        commas(step.number),
+        answer_words(&step.answer)
+    );
+    let mut say = |line: &str| {
+        if !line.is_empty() {
+            text += &format!("    {line}\n");
+        }
+    };
+    let flow = match &step.order {
+        Ok(Order::Register(flow)) => Some(flow),
+        _ => None,
+    };
+    if step.order.is_ok() {
+        say(&order_title(&step.text, flow));
+    }
+    say(&sentences::sentence(step, before));
+    say(&format!("causes {}", turn(step)));
+    if let (Some(flow), Some(work)) = (flow, &step.work) {
+        for line in sums::sums(flow, work, before) {
+            say(&line);
+        }
+    }
+    text
+}
+
+/// `22 at link 3 level 2: delay above the threshold`.
+pub fn answer_words(answer: &Answer) -> String {
+    let place = match (answer.slot, answer.link, answer.level) {
+        (0, 0, 0) => String::new(),
+        (0, link, 0) => format!(" at link {}", commas(link)),
+        (0, link, level) => format!(" at link {} level {level}", commas(link)),
+        (slot, _, _) => format!(" place {slot}"),
+    };
+    format!("{}{place}: {}", answer.code, causes::meaning(answer.code))
+}
+
+/// The causes in their order, each passed, met or not reached.
+fn turn(step: &Step) -> String {
+    let groups: &[&[u64]] = match &step.order {
+        Ok(Order::Release(_)) => &causes::RELEASE,
+        Ok(Order::Register(_)) => &causes::REGISTRATION,
+        Err(_) => &[],
+    };
+    let reading = causes::READING.iter();
+    let mut met = false;
+    let mut shown = Vec::new();
+    for &code in reading.chain(groups.iter().copied().flatten()) {
+        let here = code == step.answer.code;
+        let mark = match (met, here) {
+            (true, _) => '.',
+            (false, true) => '!',
+            (false, false) => '+',
+        };
+        met |= here;
+        shown.push(format!("{code}{mark}"));
+    }
+    shown.join(" ")
+}

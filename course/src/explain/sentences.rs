@@ -1,0 +1,148 @@
+//! One sentence for each answer.
+
+use crate::check;
+use crate::numbers::commas;
+use crate::session::Step;
+use crate::titles::queue_name;
+use plain::causes;
+use plain::orders::{Flow, Hop, Order};
+use plain::registry::{queue_at, Registry, HOP_POOL, SLOTS};
+use plain::work::{LevelWork, Work};
+
+/// Why the order was answered as it was; the registry is the one before it.
+pub fn sentence(step: &Step, before: &Registry) -> String {
+    match (&step.order, &step.work) {
+        (Err(_), _) => unread(step),
+        (Ok(Order::Release(number)), _) => released(step, *number),
+        (Ok(Order::Register(flow)), Some(work)) => registered(step, flow, work, before),
+        (Ok(Order::Register(_)), None) => String::new(),
+    }
+}
+
+/// The typing mistakes of a line that can't be read or is out of range.
+fn unread(step: &Step) -> String {
+    let mistakes = check::order_line(&step.text, step.ended);
+    let one = |mistake: &check::Mistake| match mistake.field.as_str() {
+        "" => format!("column {}: {}", mistake.column, mistake.words),
+        field => format!("column {}, {field}: {}", mistake.column, mistake.words),
+    };
+    let told: Vec<String> = mistakes.iter().map(one).collect();
+    format!("A typing mistake: {}.", told.join("; "))
+}
+
+fn released(step: &Step, number: u64) -> String {
+    let number = commas(number);
+    match step.answer.code {
+        causes::DONE => format!(
+            "Released: flow {number} gives back place {} and its hop entries.",
+            step.answer.slot
+        ),
+        _ => format!(
+            "No held flow has the number {number}: it was never admitted, or is released already."
+        ),
+    }
+}
+
+fn registered(step: &Step, flow: &Flow, work: &Work, before: &Registry) -> String {
+    let answer = step.answer;
+    let at = Hop {
+        link: answer.link,
+        level: answer.level,
+    };
+    match answer.code {
+        causes::DONE => format!(
+            "Admitted: no cause is met, and {} is the lowest free place.",
+            answer.slot
+        ),
+        causes::HELD => held(flow, before),
+        causes::FRAME => format!(
+            "The largest frame, {} bytes, is above the burst, {} bytes.",
+            commas(flow.frame),
+            commas(flow.burst)
+        ),
+        causes::NO_QUEUE => no_queue(at, before),
+        causes::LOOP => format!("Link {} stands on the path twice.", at.link),
+        causes::APART => apart(flow, at, before),
+        causes::DEADLINE => format!(
+            "The thresholds along the path sum to {} µs, above the deadline of {} µs.",
+            commas(work.thresholds()),
+            commas(flow.deadline)
+        ),
+        causes::NO_SLOT => format!("All {SLOTS} places are held."),
+        causes::NO_HOPS => format!(
+            "Held paths have {} hop entries; with this path's {} that is above {}.",
+            commas(work.held.1),
+            flow.hops.len(),
+            commas(HOP_POOL)
+        ),
+        _ => link_refusal(answer.code, at, work),
+    }
+}
+
+fn held(flow: &Flow, before: &Registry) -> String {
+    let place = before.holder(flow.number).map_or(0, |index| index + 1);
+    format!(
+        "Flow {} is held already, at place {place}.",
+        commas(flow.number)
+    )
+}
+
+fn no_queue(at: Hop, before: &Registry) -> String {
+    let levels = before.queues.iter().filter(|queue| queue.link == at.link);
+    match levels.map(|queue| queue.level).max() {
+        Some(last) => format!(
+            "The table has no {}: the last level of link {} is {last}.",
+            queue_name(at),
+            at.link
+        ),
+        None => {
+            let links = before.queues.last().map_or(0, |queue| queue.link);
+            format!(
+                "The table has no link {}: it has {links} links.",
+                commas(at.link)
+            )
+        }
+    }
+}
+
+fn apart(flow: &Flow, at: Hop, before: &Registry) -> String {
+    let index = flow.hops.iter().position(|&hop| hop == at).unwrap_or(0);
+    let earlier = flow.hops[index.saturating_sub(1)];
+    let starts = queue_at(&before.queues, at).map_or(0, |queue| queue.from);
+    let ended = queue_at(&before.queues, earlier).map_or(0, |queue| queue.to);
+    format!(
+        "Link {} starts at node {starts}, but link {} before it ends at node {ended}.",
+        at.link, earlier.link
+    )
+}
+
+fn link_refusal(code: u64, at: Hop, work: &Work) -> String {
+    let Some(link) = work.links.last() else {
+        return String::new();
+    };
+    if code == causes::RATE {
+        return format!(
+            "With this flow the rates on link {} sum to {} kbit/s, which isn't below {} kbit/s.",
+            at.link,
+            commas(link.rate_sum),
+            commas(link.rate_limit)
+        );
+    }
+    let level = work.deciding();
+    let shown =
+        |number: fn(&LevelWork) -> u128| level.map_or(String::new(), |level| commas(number(level)));
+    if code == causes::DELAY {
+        return format!(
+            "With this flow a frame could stay {} µs in the queue of {}, above its threshold of {} µs.",
+            shown(|level| level.bounds.map_or(0, |bounds| bounds.delay)),
+            queue_name(at),
+            shown(|level| u128::from(level.queue.threshold))
+        );
+    }
+    format!(
+        "With this flow the queue of {} could hold {} bytes, above its buffer of {} bytes.",
+        queue_name(at),
+        shown(|level| level.bounds.map_or(0, |bounds| bounds.backlog)),
+        shown(|level| u128::from(level.queue.buffer))
+    )
+}

@@ -1,0 +1,211 @@
+//! A registration's sums, written as on paper.
+
+use crate::numbers::commas;
+use crate::titles::{link_title, queue_name};
+use plain::causes;
+use plain::formula::growth;
+use plain::orders::{Flow, Hop};
+use plain::registry::{Answer, Registry, Share};
+use plain::work::{HopWork, LevelWork, LinkWork, Work};
+
+fn plus(numbers: impl Iterator<Item = u128>) -> String {
+    let shown: Vec<String> = numbers.map(commas).collect();
+    shown.join(" + ")
+}
+
+/// `1,500 + 1,800 + 300 = 3,600`; one number stands alone.
+fn summed(numbers: &[u128]) -> String {
+    let sum: u128 = numbers.iter().sum();
+    match numbers {
+        [_] => commas(sum),
+        _ => format!("{} = {}", plus(numbers.iter().copied()), commas(sum)),
+    }
+}
+
+/// A value against what it must not exceed.
+fn against(value: u128, limit: u64, unit: &str) -> String {
+    let above = if value > u128::from(limit) {
+        ": above"
+    } else {
+        ""
+    };
+    format!("{} of {} {unit}{above}", commas(value), commas(limit))
+}
+
+/// All sums of a registration, up to the first cause; the registry is the one before it.
+pub fn sums(flow: &Flow, work: &Work, before: &Registry) -> Vec<String> {
+    let mut lines = Vec::new();
+    if work.hops.is_empty() {
+        return lines;
+    }
+    let thresholds: Vec<u128> = work
+        .hops
+        .iter()
+        .map(|hop| u128::from(hop.threshold))
+        .collect();
+    let above = work.thresholds() > u128::from(flow.deadline);
+    lines.push(format!(
+        "thresholds {} of {} µs{}",
+        summed(&thresholds),
+        commas(flow.deadline),
+        if above { ": above" } else { "" }
+    ));
+    if work.links.is_empty() {
+        return lines;
+    }
+    lines.push("bursts along the path".to_string());
+    lines.extend(work.hops.iter().map(|hop| burst(flow, hop)));
+    for link in &work.links {
+        let refused = work.refused.filter(|answer| answer.link == link.link);
+        lines.extend(link_sums(link, refused));
+    }
+    if let Some(answer) = work.refused {
+        lines.extend(filling(flow, answer, before));
+    }
+    lines
+}
+
+fn burst(flow: &Flow, hop: &HopWork) -> String {
+    let at = queue_name(hop.hop);
+    if hop.earlier == 0 {
+        return format!("  {at}: {}", commas(hop.share.burst));
+    }
+    let grown = growth(hop.share.rate, hop.earlier);
+    format!(
+        "  {at}: {} + ceil({} × {} / {}) = {}",
+        commas(flow.burst),
+        commas(flow.rate),
+        commas(hop.earlier),
+        grown.divisor,
+        commas(hop.share.burst)
+    )
+}
+
+/// A link's rate sum and its levels, up to the one that refuses.
+fn link_sums(link: &LinkWork, refused: Option<Answer>) -> Vec<String> {
+    let title = link.levels.first().map(|level| link_title(&level.queue));
+    let mut lines = vec![title.unwrap_or_default()];
+    let rates: Vec<u128> = link.levels.iter().map(|level| level.figures.rate).collect();
+    let verdict = if link.rate_sum < link.rate_limit {
+        "below"
+    } else {
+        "not below"
+    };
+    let limit = commas(link.rate_limit);
+    lines.push(format!(
+        "  rates {}, {verdict} {limit} kbit/s",
+        summed(&rates)
+    ));
+    let refused = refused.filter(|answer| answer.code != causes::RATE);
+    if link.rate_sum >= link.rate_limit {
+        return lines;
+    }
+    for level in &link.levels {
+        lines.extend(level_sums(link, level, refused));
+        if refused.is_some_and(|answer| answer.level == level.queue.level) {
+            break;
+        }
+    }
+    lines
+}
+
+fn level_sums(link: &LinkWork, level: &LevelWork, refused: Option<Answer>) -> Vec<String> {
+    let queue = &level.queue;
+    let Some(bounds) = &level.bounds else {
+        return vec![format!("  level {}: empty, not checked", queue.level)];
+    };
+    let sums = &bounds.sums;
+    let above = link.rate_limit - sums.residual;
+    let residual = match above {
+        0 => commas(sums.residual),
+        above => format!(
+            "{} − {} = {}",
+            commas(link.rate_limit),
+            commas(above),
+            commas(sums.residual)
+        ),
+    };
+    let parts = [sums.above, sums.below, sums.own.frame];
+    let mut lines = vec![
+        format!(
+            "  level {}: Res {residual}, Y {}",
+            queue.level,
+            summed(&parts)
+        ),
+        format!(
+            "    delay ceil(8000 × ({} + {}) / {}) = {}",
+            commas(sums.ahead()),
+            commas(sums.own.burst),
+            commas(sums.residual),
+            against(bounds.delay, queue.threshold, "µs")
+        ),
+    ];
+    let here = refused.filter(|answer| answer.level == queue.level);
+    if here.is_none_or(|answer| answer.code == causes::BACKLOG) {
+        lines.push(format!(
+            "    backlog {} + ceil({} × {} / {}) = {}",
+            commas(sums.own.burst),
+            commas(sums.own.rate),
+            commas(sums.ahead()),
+            commas(sums.residual),
+            against(bounds.backlog, queue.buffer, "bytes")
+        ));
+    }
+    lines
+}
+
+/// Which flows fill the link or queue that refuses.
+fn filling(flow: &Flow, answer: Answer, before: &Registry) -> Vec<String> {
+    let at = Hop {
+        link: answer.link,
+        level: answer.level,
+    };
+    let of_link = before.queues.iter().filter(|queue| queue.link == at.link);
+    let levels: Vec<(u64, Vec<Share>)> = of_link
+        .map(|queue| (queue.level, before.shares(queue.hop(), Some(flow))))
+        .collect();
+    let name = |share: &Share, number: u128| {
+        let new = if share.number == flow.number {
+            " (this order)"
+        } else {
+            ""
+        };
+        format!("flow {}{new} {}", commas(share.number), commas(number))
+    };
+    let list = |wanted: &dyn Fn(u64) -> bool, number: fn(&Share) -> u128| {
+        let shares = levels.iter().filter(|(level, _)| wanted(*level));
+        let names: Vec<String> = shares
+            .flat_map(|(_, shares)| shares.iter().map(|share| name(share, number(share))))
+            .collect();
+        names.join(", ")
+    };
+    let burst = |share: &Share| share.share.burst;
+    let mut lines = Vec::new();
+    let mut say = |title: String, names: String| {
+        if !names.is_empty() {
+            lines.push(format!("{title}: {names}"));
+        }
+    };
+    match answer.code {
+        causes::RATE => say(
+            format!("rates on link {}", at.link),
+            list(&|_| true, |share| share.share.rate),
+        ),
+        causes::DELAY | causes::BACKLOG => {
+            say(
+                format!("bursts in {}", queue_name(at)),
+                list(&|level| level == at.level, burst),
+            );
+            say(
+                "bursts above it".to_string(),
+                list(&|level| level < at.level, burst),
+            );
+            say(
+                "largest frames in it and below".to_string(),
+                list(&|level| level >= at.level, |share| share.share.frame),
+            );
+        }
+        _ => {}
+    }
+    lines
+}

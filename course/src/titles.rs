@@ -1,0 +1,49 @@
+//! What a line of a file says, in words: each field with its name and unit, as the plain version lists them.
+
+use crate::numbers::commas;
+use plain::columns::Field;
+use plain::orders::{Flow, Hop, KIND, KINDS};
+use plain::table::{Of, Queue, ENTRIES};
+
+/// A field's number: `rate 20,000 kbit/s`.
+pub fn named(field: &Field, value: u64) -> String {
+    let words = [field.name, &commas(value), field.unit].join(" ");
+    words.trim_end().to_string()
+}
+
+/// `link 3 level 2`.
+pub fn queue_name(hop: Hop) -> String {
+    format!("link {} level {}", commas(hop.link), hop.level)
+}
+
+/// A link with its own numbers: `link 3: from node 3, to node 4, speed 100 Mbit/s`.
+pub fn link_title(queue: &Queue) -> String {
+    let own = ENTRIES.iter().filter(|entry| entry.of == Of::Link);
+    let numbers: Vec<String> = own
+        .map(|entry| named(&entry.field, (entry.get)(queue)))
+        .collect();
+    format!("link {}: {}", queue.link, numbers.join(", "))
+}
+
+/// An order line that was read: `register: flow number 202, rate 20,000 kbit/s, .., over link 2 level 2, link 3 level 2`.
+pub fn order_title(line: &[u8], flow: Option<&Flow>) -> String {
+    let number = KIND.read(line).ok();
+    let Some(kind) = KINDS.iter().find(|kind| Some(kind.number) == number) else {
+        return String::new();
+    };
+    let fields = kind.fields.iter();
+    let numbers: Vec<String> = fields
+        .filter_map(|field| Some(named(field, field.read(line).ok()?)))
+        .collect();
+    let title = format!("{}: {}", kind.word, numbers.join(", "));
+    match flow {
+        None => title,
+        Some(flow) => format!("{title}, over {}", path(&flow.hops)),
+    }
+}
+
+/// `link 2 level 2, link 3 level 2`.
+pub fn path(hops: &[Hop]) -> String {
+    let names: Vec<String> = hops.iter().map(|&hop| queue_name(hop)).collect();
+    names.join(", ")
+}
