@@ -31,22 +31,59 @@ use std::path::Path;
 
 pub const COMMAND: Command = Command {
     name: "traffic",
-    usage: "FOLDER SENDS [--page FILE.html [--from INSTANT] [--to INSTANT]] [--trace FILE.tsv] [--arrivals first|last|SEED] [--anyway]",
+    usage: "FOLDER SENDS [--page FILE.html] [--trace FILE.tsv] [--arrivals WORD] [--anyway]",
     about: "puts traffic on the flows held after the orders: exercises three and four",
     help: include_str!("help.txt"),
     words: 1..=2,
     choices: &[
-        Choice { name: "--page", value: Some("FILE.html") },
-        Choice { name: "--from", value: Some("INSTANT") },
-        Choice { name: "--to", value: Some("INSTANT") },
-        Choice { name: "--trace", value: Some("FILE.tsv") },
-        Choice { name: "--arrivals", value: Some("first, last or a seed") },
-        Choice { name: "--anyway", value: None },
-        Choice { name: "--search", value: None },
-        Choice { name: "--seconds", value: Some("SECONDS") },
-        Choice { name: "--tries", value: Some("COUNT") },
-        Choice { name: "--seed", value: Some("SEED") },
-        Choice { name: "--out", value: Some("SENDS") },
+        Choice {
+            name: "--page",
+            value: Some("FILE.html"),
+        },
+        Choice {
+            name: "--from",
+            value: Some("INSTANT"),
+        },
+        Choice {
+            name: "--to",
+            value: Some("INSTANT"),
+        },
+        Choice {
+            name: "--trace",
+            value: Some("FILE.tsv"),
+        },
+        Choice {
+            name: "--arrivals",
+            value: Some("first, last or a seed"),
+        },
+        Choice {
+            name: "--anyway",
+            value: None,
+        },
+        Choice {
+            name: "--search",
+            value: None,
+        },
+        Choice {
+            name: "--seconds",
+            value: Some("SECONDS"),
+        },
+        Choice {
+            name: "--tries",
+            value: Some("COUNT"),
+        },
+        Choice {
+            name: "--seed",
+            value: Some("SEED"),
+        },
+        Choice {
+            name: "--queue",
+            value: Some("LINK.LEVEL"),
+        },
+        Choice {
+            name: "--out",
+            value: Some("SENDS"),
+        },
     ],
     run: traffic,
 };
@@ -94,7 +131,10 @@ fn prepare(arguments: &Arguments) -> Result<Job<'_>, Outcome> {
         (true, 2) => return Err(usage("--search writes SENDS, it reads none")),
         (false, 1) => return Err(usage("SENDS is missing")),
         (true, _) => only(&["--anyway"], "SENDS")?,
-        (false, _) => only(&["--seconds", "--tries", "--seed", "--out"], "--search")?,
+        (false, _) => only(
+            &["--seconds", "--tries", "--seed", "--queue", "--out"],
+            "--search",
+        )?,
     }
     if !arguments.has("--page") {
         only(&["--from", "--to"], "--page")?;

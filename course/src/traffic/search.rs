@@ -6,7 +6,7 @@ use super::hall::Hall;
 use super::network::Network;
 use super::run::{run, Arrivals, Send, Stay};
 use super::schedule;
-use super::{cannot_write, unreadable};
+use super::{cannot_write, unreadable, usage};
 use crate::arguments::Arguments;
 use crate::numbers::{commas, counted};
 use crate::status::Outcome;
@@ -47,6 +47,8 @@ pub struct Search<'a> {
     network: Network,
     arrivals: &'a Arrivals,
     rng: Rng,
+    /// The queues that are looked at.
+    targets: Vec<usize>,
     pub tries: u64,
     pub best: Option<Best>,
 }
@@ -72,8 +74,17 @@ fn frames(hall: &Hall, sources: &Sources) -> Vec<Send> {
 }
 
 impl<'a> Search<'a> {
-    pub fn new(hall: &'a Hall, arrivals: &'a Arrivals, seed: u64) -> Search<'a> {
+    /// Looks at one queue, or at all that carry a flow.
+    pub fn new(
+        hall: &'a Hall,
+        arrivals: &'a Arrivals,
+        seed: u64,
+        only: Option<usize>,
+    ) -> Search<'a> {
+        let carries = |&queue: &usize| hall.bounds[queue].is_some();
+        let all = (0..hall.queues.len()).filter(carries).collect();
         Search {
+            targets: only.map_or(all, |queue| vec![queue]),
             hall,
             network: Network::new(&hall.queues, &hall.flows),
             arrivals,
@@ -85,12 +96,10 @@ impl<'a> Search<'a> {
 
     /// Climbs at one queue after the other until the limits are met; `tell` hears of each climb.
     pub fn climb_all(&mut self, limits: &Limits, mut tell: impl FnMut(&Search)) {
-        let loaded: Vec<usize> = (0..self.hall.queues.len())
-            .filter(|&queue| self.hall.bounds[queue].is_some())
-            .collect();
+        let targets = self.targets.clone();
         let mut known: Vec<Option<Sources>> = vec![None; self.hall.queues.len()];
-        while !loaded.is_empty() && !self.over(limits) {
-            for &queue in &loaded {
+        while !targets.is_empty() && !self.over(limits) {
+            for &queue in &targets {
                 let start = match known[queue].take() {
                     Some(sources) if !self.rng.once_in(3) => sources,
                     _ => self.aligned(queue),
@@ -112,7 +121,8 @@ impl<'a> Search<'a> {
         let mut figures = Figures::new(&self.hall.queues);
         run(&self.network, &list, self.arrivals.clone(), &mut figures);
         let threshold = |stay: &Stay| self.hall.queues[stay.queue].threshold;
-        for stay in figures.seen.iter().filter_map(|seen| seen.longest) {
+        let looked_at = self.targets.iter().map(|&target| &figures.seen[target]);
+        for stay in looked_at.filter_map(|seen| seen.longest) {
             let longer = self.best.as_ref().is_none_or(|best| {
                 let (of_best, of_stay) = (threshold(&best.stay), threshold(&stay));
                 greater_share(stay.length(), of_stay, best.stay.length(), of_best)
@@ -213,7 +223,11 @@ pub fn command(
         tries: arguments.number("--tries")?.unwrap_or(u64::MAX),
     };
     let seed = arguments.number("--seed")?.unwrap_or(1);
-    let mut search = Search::new(hall, arrivals, seed);
+    let only = arguments
+        .value("--queue")
+        .map(|word| queue_named(hall, word))
+        .transpose()?;
+    let mut search = Search::new(hall, arrivals, seed, only);
     let terminal = std::io::stderr().is_terminal();
     search.climb_all(&limits, |search| {
         if terminal {
@@ -246,6 +260,22 @@ pub fn command(
             Ok((path.to_string(), text, format!("{path}: {words}\n")))
         }
     }
+}
+
+/// The queue that `LINK.LEVEL` names; it must carry a flow.
+fn queue_named(hall: &Hall, word: &str) -> Result<usize, Outcome> {
+    let named = |index: &usize| {
+        let queue = &hall.queues[*index];
+        format!("{}.{}", queue.link, queue.level) == word
+    };
+    let found = (0..hall.queues.len()).find(named);
+    found
+        .filter(|&queue| hall.bounds[queue].is_some())
+        .ok_or_else(|| {
+            usage(&format!(
+                "--queue {word}: no such queue carries a flow; LINK.LEVEL is expected"
+            ))
+        })
 }
 
 impl Search<'_> {

@@ -2,7 +2,7 @@
 
 use super::colours;
 use super::places::{places, Spot};
-use super::svg::{Drawing, Rect};
+use super::svg::{Drawing, Rect, WIDTH};
 use crate::numbers::per_cent;
 use crate::traffic::figures::Seen;
 use crate::traffic::hall::Hall;
@@ -11,8 +11,9 @@ use std::collections::BTreeMap;
 const NODE: f64 = 13.0;
 const BOX: f64 = 62.0;
 const ROW: f64 = 11.0;
-/// With more links than this there is no room for a box at each.
-const MOST_BOXES: usize = 20;
+const IN_ROW: usize = 8;
+/// A hall with more links or nodes than this is shown link by link.
+const MOST_DRAWN: usize = 20;
 
 /// A link as it is drawn: a curve from node to node, bent at one point.
 struct Curve {
@@ -101,67 +102,87 @@ fn spread(boxes: &mut [(Spot, f64)]) {
     }
 }
 
+/// The height of a box with so many levels.
+fn tall(levels: usize) -> f64 {
+    14.0 + ROW * levels as f64
+}
+
 pub fn map(hall: &Hall, seen: &[Seen]) -> String {
     let spots = places(&hall.queues);
-    let curves = curves(hall, &spots);
-    let boxed = curves.len() <= MOST_BOXES;
-    let tall = |curve: &Curve| 14.0 + ROW * curve.queues.len() as f64;
-    let mut boxes: Vec<(Spot, f64)> = match boxed {
-        true => curves
-            .iter()
-            .map(|curve| (curve.middle(), tall(curve)))
-            .collect(),
-        false => Vec::new(),
-    };
+    match hall.links().len().max(spots.len()) > MOST_DRAWN {
+        true => grid(hall, seen),
+        false => network(hall, seen, &spots),
+    }
+}
+
+/// Nodes, curves and boxes.
+fn network(hall: &Hall, seen: &[Seen], spots: &BTreeMap<u64, Spot>) -> String {
+    let curves = curves(hall, spots);
+    let at_curve = |curve: &Curve| (curve.middle(), tall(curve.queues.len()));
+    let mut boxes: Vec<(Spot, f64)> = curves.iter().map(at_curve).collect();
     spread(&mut boxes);
-    let tops = boxes.iter().map(|(spot, high)| spot.y - high / 2.0);
-    let top = tops
-        .chain(spots.values().map(|spot| spot.y - NODE))
-        .fold(f64::MAX, f64::min);
-    let ends = boxes.iter().map(|(spot, high)| spot.y + high / 2.0);
-    let end = ends
-        .chain(spots.values().map(|spot| spot.y + NODE))
+    let nodes = || spots.values().map(|spot| (*spot, 2.0 * NODE));
+    let edges = || boxes.iter().copied().chain(nodes());
+    let top = edges()
+        .map(|(spot, high)| spot.y - high / 2.0)
+        .fold(0.0, f64::min);
+    let end = edges()
+        .map(|(spot, high)| spot.y + high / 2.0)
         .fold(0.0, f64::max);
     let mut drawing = Drawing::default();
-    drawing.raw("<defs><marker id=\"tip\" viewBox=\"0 0 8 8\" refX=\"7\" refY=\"4\" markerWidth=\"7\" markerHeight=\"7\" orient=\"auto\"><path d=\"M0 0L8 4L0 8Z\" fill=\"#555\"/></marker></defs>");
+    drawing.raw(
+        "<defs><marker id=\"tip\" viewBox=\"0 0 8 8\" refX=\"7\" refY=\"4\" markerWidth=\"7\" markerHeight=\"7\" \
+         orient=\"auto\"><path d=\"M0 0L8 4L0 8Z\" fill=\"#555\"/></marker></defs>",
+    );
     drawing.raw(&format!("<g transform=\"translate(0 {:.1})\">", 6.0 - top));
     for curve in &curves {
-        draw_curve(&mut drawing, hall, seen, curve, boxed);
+        draw_curve(&mut drawing, hall, curve);
     }
-    for (curve, (spot, high)) in curves.iter().zip(&boxes) {
-        draw_box(&mut drawing, hall, seen, curve, *spot, *high);
+    for (curve, (spot, _)) in curves.iter().zip(&boxes) {
+        let name = format!("link {}", hall.queues[curve.queues[0]].link);
+        draw_box(&mut drawing, hall, seen, &curve.queues, *spot, &name);
     }
-    for (node, spot) in &spots {
+    for (node, spot) in spots {
         drawing.raw(&format!(
             "<circle class=\"node\" cx=\"{:.2}\" cy=\"{:.2}\" r=\"{NODE}\"/>",
             spot.x, spot.y
         ));
-        drawing.text(
-            (spot.x, spot.y + 4.0),
-            "class=\"name\" text-anchor=\"middle\"",
-            &node.to_string(),
-        );
+        let look = "class=\"name\" text-anchor=\"middle\"";
+        drawing.text((spot.x, spot.y + 4.0), look, &node.to_string());
     }
     drawing.raw("</g>");
     drawing.finish(end - top + 12.0, "the hall's nodes and links")
 }
 
-fn draw_curve(drawing: &mut Drawing, hall: &Hall, seen: &[Seen], curve: &Curve, boxed: bool) {
+/// A box for each link, row by row, named `link: from, to`.
+fn grid(hall: &Hall, seen: &[Seen]) -> String {
+    let mut drawing = Drawing::default();
+    let mut top = 4.0;
+    for row in hall.links().chunks(IN_ROW) {
+        let high = row
+            .iter()
+            .map(|queues| tall(queues.len()))
+            .fold(0.0, f64::max);
+        for (column, queues) in row.iter().enumerate() {
+            let link = &hall.queues[queues[0]];
+            let spot = Spot {
+                x: WIDTH / IN_ROW as f64 * (column as f64 + 0.5),
+                y: top + tall(queues.len()) / 2.0,
+            };
+            let name = format!("{}: {}→{}", link.link, link.from, link.to);
+            draw_box(&mut drawing, hall, seen, queues, spot, &name);
+        }
+        top += high + 8.0;
+    }
+    drawing.finish(top, "the hall's links")
+}
+
+fn draw_curve(drawing: &mut Drawing, hall: &Hall, curve: &Curve) {
     let start = short_of(curve.bend, curve.from, NODE);
     let end = short_of(curve.bend, curve.to, NODE + 1.0);
-    let used = curve
-        .queues
-        .iter()
-        .map(|&queue| (seen[queue].stay(), hall.queues[queue].threshold));
-    let most = used.reduce(|a, b| if b.0 * a.1 > a.0 * b.1 { b } else { a });
-    let colour = match most {
-        Some((stay, threshold)) if !boxed => colours::share(stay, threshold),
-        _ => "#777",
-    };
     drawing.raw(&format!(
-        "<path d=\"M{:.2} {:.2}Q{:.2} {:.2} {:.2} {:.2}\" fill=\"none\" stroke=\"{colour}\" stroke-width=\"{}\" marker-end=\"url(#tip)\"><title>link {}</title></path>",
+        "<path class=\"link\" d=\"M{:.2} {:.2}Q{:.2} {:.2} {:.2} {:.2}\" marker-end=\"url(#tip)\"><title>link {}</title></path>",
         start.x, start.y, curve.bend.x, curve.bend.y, end.x, end.y,
-        if boxed { "1.4" } else { "3" },
         hall.queues[curve.queues[0]].link
     ));
 }
@@ -171,10 +192,11 @@ fn draw_box(
     drawing: &mut Drawing,
     hall: &Hall,
     seen: &[Seen],
-    curve: &Curve,
+    queues: &[usize],
     spot: Spot,
-    high: f64,
+    name: &str,
 ) {
+    let high = tall(queues.len());
     let (x, top) = (spot.x - BOX / 2.0, spot.y - high / 2.0);
     drawing.rect(
         Rect {
@@ -185,13 +207,12 @@ fn draw_box(
         },
         "class=\"box\"",
     );
-    let name = format!("link {}", hall.queues[curve.queues[0]].link);
     drawing.text(
         (spot.x, top + 10.0),
         "class=\"tiny\" font-weight=\"bold\" text-anchor=\"middle\"",
-        &name,
+        name,
     );
-    for (row, &queue) in curve.queues.iter().enumerate() {
+    for (row, &queue) in queues.iter().enumerate() {
         let y = top + 13.0 + row as f64 * ROW;
         let (stay, threshold) = (seen[queue].stay(), hall.queues[queue].threshold);
         let room = BOX - 14.0;
