@@ -4,7 +4,7 @@ use crate::arguments::{Arguments, Choice, Command};
 use crate::folder::Folder;
 use crate::numbers::{commas, counted, per_cent};
 use crate::session::{remark, Session};
-use crate::status::Outcome;
+use crate::status::{Outcome, Status};
 use crate::titles::link_title;
 use plain::orders::Flow;
 use plain::registry::{path_thresholds, Registry, HOP_POOL, SLOTS};
@@ -39,6 +39,13 @@ fn bounds(arguments: &Arguments) -> Result<Outcome, Outcome> {
     let folder = Folder::read(&arguments.words[0])?;
     let session = Session::run_to(&folder, after.map(|after| after as usize))?;
     let orders = session.steps.len();
+    if let Some(after) = after.filter(|&after| after > orders as u64) {
+        let words = format!(
+            "course: --after {after}: orders.txt has {} lines",
+            commas(orders)
+        );
+        return Err(Outcome::failed(Status::Usage, words));
+    }
     let printed = report(&session.registry, orders);
     Ok(Outcome::fine(printed).with_remark(remark()))
 }

@@ -6,6 +6,8 @@ pub mod bounds;
 pub mod check;
 pub mod explain;
 pub mod folder;
+pub mod hall;
+pub mod mark;
 pub mod numbers;
 pub mod session;
 pub mod status;
@@ -20,6 +22,8 @@ pub const COMMANDS: &[&Command] = &[
     &check::COMMAND,
     &explain::COMMAND,
     &bounds::COMMAND,
+    &mark::COMMAND,
+    &hall::COMMAND,
     &traffic::COMMAND,
 ];
 

@@ -105,46 +105,56 @@ impl Registry {
 
     /// One order; for a registration also what was worked out.
     pub fn perform(&mut self, order: &Order) -> (Answer, Option<Work>) {
+        let (answer, work) = self.answer_to(order);
+        match (order, &work) {
+            (Order::Register(_), Some(work)) if work.refused.is_some() => self.keep_early(work),
+            (Order::Register(flow), _) => {
+                self.put_in(flow);
+            }
+            (Order::Release(number), _) => {
+                self.take_out(*number);
+            }
+        }
+        (answer, work)
+    }
+
+    /// What an order would be answered, and what is worked out for it.
+    pub fn answer_to(&self, order: &Order) -> (Answer, Option<Work>) {
         match order {
             Order::Register(flow) => {
                 let work = self.judge(flow);
-                let answer = match work.refused {
-                    Some(refused) => {
-                        self.keep_early(&work);
-                        refused
-                    }
-                    None => self.put_in(flow).expect("30 was tested"),
-                };
+                let free = self.slots.iter().position(Option::is_none);
+                let done = free.map(Answer::done);
+                let answer = work.refused.or(done).expect("30 was tested");
                 (answer, Some(work))
             }
             Order::Release(number) => {
-                let done = self.take_out(*number);
+                let done = self.holder(*number).map(Answer::done);
                 (done.unwrap_or(Answer::plain(causes::NOT_HELD)), None)
             }
         }
     }
 
-    /// A flow in the lowest free slot, unjudged; none where there is no slot.
-    pub fn put_in(&mut self, flow: &Flow) -> Option<Answer> {
-        let free = self.slots.iter().position(Option::is_none)?;
-        self.slots[free] = Some(flow.clone());
-        Some(Answer::done(free))
+    /// A flow in the lowest free slot, unjudged; nothing where there is none.
+    pub fn put_in(&mut self, flow: &Flow) {
+        if let Some(free) = self.slots.iter_mut().find(|slot| slot.is_none()) {
+            *free = Some(flow.clone());
+        }
     }
 
-    /// The flow with this number out of its slot; none where there is none.
-    pub fn take_out(&mut self, number: u64) -> Option<Answer> {
-        let index = self.holder(number)?;
-        let flow = self.slots[index].take()?;
+    /// The flow with this number out of its slot; nothing where it isn't held.
+    pub fn take_out(&mut self, number: u64) {
+        let held = self.holder(number);
+        let Some(flow) = held.and_then(|index| self.slots[index].take()) else {
+            return;
+        };
         if self.slips.frame_left {
-            for hop in &flow.hops {
-                let left = Aggregate {
-                    frame: u128::from(flow.frame),
-                    ..Aggregate::default()
-                };
-                self.residue.push((*hop, left));
-            }
+            let left = Aggregate {
+                frame: u128::from(flow.frame),
+                ..Aggregate::default()
+            };
+            self.residue.extend(flow.hops.iter().map(|&hop| (hop, left)));
         }
-        Some(Answer::done(index))
     }
 
     /// The slip of storing a path's first links before a refusal at a later one.

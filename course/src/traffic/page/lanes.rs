@@ -23,6 +23,11 @@ struct Scale {
 }
 
 impl Scale {
+    /// Whether a bar between these instants has a part in the stretch.
+    fn shows(&self, from: f64, to: f64) -> bool {
+        to > self.stretch.from as f64 && from < self.stretch.to as f64
+    }
+
     /// Cut off at the ends of the stretch.
     fn x(&self, instant: f64) -> f64 {
         let Stretch { from, to } = self.stretch;
@@ -187,6 +192,9 @@ impl Lanes<'_> {
         commas(stay.frame), commas(stay.bytes), commas(stay.came), commas(stay.length()), commas(queue.threshold)
     ));
         let mut bar = |from: f64, to: f64, look: &str| {
+            if !scale.shows(from, to) {
+                return 0.0;
+            }
             let (x, end) = (scale.x(from), scale.x(to));
             let rect = Rect {
                 x,

@@ -207,11 +207,10 @@ fn draw_box(
         },
         "class=\"box\"",
     );
-    drawing.text(
-        (spot.x, top + 10.0),
-        "class=\"tiny\" font-weight=\"bold\" text-anchor=\"middle\"",
-        name,
-    );
+    // Numbers of four digits at both ends need smaller letters.
+    let size = if name.chars().count() > 10 { 7.5 } else { 10.0 };
+    let look = format!("style=\"font-size:{size}px\" font-weight=\"bold\" text-anchor=\"middle\"");
+    drawing.text((spot.x, top + 10.0), &look, name);
     for (row, &queue) in queues.iter().enumerate() {
         let y = top + 13.0 + row as f64 * ROW;
         let (stay, threshold) = (seen[queue].stay(), hall.queues[queue].threshold);

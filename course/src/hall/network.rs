@@ -1,0 +1,151 @@
+//! A bottling hall by seed: stations in a row, an inspection, a cabinet, a packer with an old slow link.
+
+use halls::rng::Rng;
+use plain::orders::{Flow, Hop, LARGEST_FRAME};
+use plain::table::Queue;
+
+/// A network and what its links are for.
+pub struct Network {
+    pub queues: Vec<Queue>,
+    /// Links 1 to this lead from station to station, the last of them to the inspection.
+    pub row: u64,
+    /// From the inspection to the cabinet.
+    pub trunk: u64,
+    /// From the inspection to the packer.
+    pub packer: u64,
+    /// From the packer to the cabinet, slow.
+    pub slow: u64,
+}
+
+/// A threshold and a buffer for each level of a link.
+type Limits = Vec<(u64, u64)>;
+
+/// A number from `low` to `high` in steps.
+fn stepped(rng: &mut Rng, low: u64, high: u64, step: u64) -> u64 {
+    step * rng.between(low / step, high / step)
+}
+
+fn row_limits(rng: &mut Rng) -> Limits {
+    let mut limits = vec![
+        (stepped(rng, 200, 350, 10), stepped(rng, 3_000, 6_000, 500)),
+        (
+            stepped(rng, 900, 1_800, 100),
+            stepped(rng, 14_000, 30_000, 1_000),
+        ),
+    ];
+    if rng.once_in(2) {
+        limits.push((stepped(rng, 3_000, 5_000, 500), 40_000));
+    }
+    limits
+}
+
+impl Network {
+    pub fn random(rng: &mut Rng) -> Network {
+        let row = rng.between(3, 5);
+        let (inspection, cabinet, packer) = (row + 1, row + 2, row + 3);
+        let mut network = Network {
+            queues: Vec::new(),
+            row,
+            trunk: row + 1,
+            packer: row + 2,
+            slow: row + 3,
+        };
+        for link in 1..=row {
+            let limits = row_limits(rng);
+            network.add((link, link + 1), 100, &limits);
+        }
+        network.add(
+            (inspection, cabinet),
+            1_000,
+            &[(100, 8_000), (300, 40_000), (2_000, 120_000)],
+        );
+        let gate = stepped(rng, 100, 150, 10);
+        network.add((inspection, packer), 100, &[(gate, 2_000), (1_000, 16_000)]);
+        let small = stepped(rng, 1_800, 2_400, 100);
+        network.add((packer, cabinet), 10, &[(3_000, small), (8_000, 6_000)]);
+        network
+    }
+
+    fn add(&mut self, ends: (u64, u64), speed: u64, limits: &[(u64, u64)]) {
+        let link = self.queues.last().map_or(1, |queue| queue.link + 1);
+        for (index, &(threshold, buffer)) in limits.iter().enumerate() {
+            self.queues.push(Queue {
+                link,
+                from: ends.0,
+                to: ends.1,
+                speed,
+                level: index as u64 + 1,
+                threshold,
+                buffer,
+            });
+        }
+    }
+
+    pub fn levels(&self, link: u64) -> u64 {
+        let of_link = self.queues.iter().filter(|queue| queue.link == link);
+        of_link.map(|queue| queue.level).max().unwrap_or(0)
+    }
+
+    /// The path over these links, each at a level or at its last where it has fewer.
+    pub fn path(&self, links: impl Iterator<Item = u64>, level: u64) -> Vec<Hop> {
+        links
+            .map(|link| Hop {
+                link,
+                level: level.min(self.levels(link)),
+            })
+            .collect()
+    }
+
+    /// From some station to the cabinet.
+    fn to_cabinet(&self, rng: &mut Rng, level: u64) -> Vec<Hop> {
+        let start = rng.between(1, self.row);
+        self.path(start..=self.trunk, level)
+    }
+
+    /// A drive, camera, gate, picture or counter; the number is the caller's.
+    pub fn flow(&self, rng: &mut Rng, number: u64) -> Flow {
+        let frame = LARGEST_FRAME;
+        let (rate, burst, frame, hops) = match rng.between(0, 7) {
+            0 | 1 => (
+                stepped(rng, 200, 1_000, 100),
+                200,
+                200,
+                self.to_cabinet(rng, 1),
+            ),
+            2..=4 => {
+                let frames = rng.between(2, 6);
+                let rate = stepped(rng, 10_000, 30_000, 5_000);
+                (rate, frames * frame, frame, self.to_cabinet(rng, 2))
+            }
+            5 => (500, 168, 84, self.path(std::iter::once(self.packer), 1)),
+            6 => {
+                let frame = rng.pick(&[600, 900, 1_200, frame]);
+                (
+                    2_000,
+                    stepped(rng, 3_000, 8_000, 1_000),
+                    frame,
+                    self.path(std::iter::once(self.packer), 2),
+                )
+            }
+            _ => {
+                let frame = rng.pick(&[84, 500, frame]);
+                let rate = stepped(rng, 100, 600, 100);
+                (
+                    rate,
+                    frame + rng.pick(&[0, 84, 500]),
+                    frame,
+                    self.path(std::iter::once(self.slow), 1),
+                )
+            }
+        };
+        let thresholds = plain::registry::path_thresholds(&self.queues, &hops) as u64;
+        Flow {
+            number,
+            rate,
+            burst,
+            frame,
+            deadline: (thresholds / 1_000 + rng.between(1, 2)) * 1_000,
+            hops,
+        }
+    }
+}

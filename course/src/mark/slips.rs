@@ -1,0 +1,154 @@
+//! Which slip gives a wrong row.
+
+use super::sheet::Row;
+use plain::causes;
+use plain::orders::Order;
+use plain::registry::{Answer, Registry};
+use plain::slips::Slips;
+use plain::work::Work;
+
+/// What a row should hold.
+#[derive(Clone, Debug, PartialEq)]
+pub struct Expected {
+    pub answer: [u64; 4],
+    /// Delay and backlog at the deciding queue, and the delay there with the flows held at the end.
+    pub bounds: [Option<u128>; 3],
+}
+
+impl Expected {
+    /// `last` holds the flows that are held after all orders.
+    pub fn of(answer: &Answer, work: Option<&Work>, last: &Registry) -> Expected {
+        let deciding = work.and_then(Work::deciding);
+        let bounds = deciding.and_then(|level| level.bounds);
+        let stay = deciding.map(|level| {
+            let link = last.link_work(level.queue.link, None);
+            let found = link.levels.iter().find(|other| other.queue == level.queue);
+            let bounds = found.and_then(|other| other.bounds);
+            bounds.map_or(0, |bounds| bounds.delay)
+        });
+        Expected {
+            answer: [answer.code, answer.slot, answer.link, answer.level],
+            bounds: [
+                bounds.map(|bounds| bounds.delay),
+                bounds.map(|bounds| bounds.backlog),
+                stay,
+            ],
+        }
+    }
+
+    /// Which of a row's bounds differ; one that isn't given doesn't.
+    pub fn wrong_bounds(&self, row: &Row) -> [bool; 3] {
+        [0, 1, 2]
+            .map(|index| row.bounds[index].is_some() && row.bounds[index] != self.bounds[index])
+    }
+
+    pub fn is_met(&self, row: &Row) -> bool {
+        self.answer == row.answer && self.wrong_bounds(row) == [false; 3]
+    }
+}
+
+/// A registry that goes along with the trainee's own rows, by rules of which one may be broken.
+struct Follower {
+    name: &'static str,
+    registry: Registry,
+    /// The flows that are held in truth after all orders, by the same rules.
+    last: Registry,
+}
+
+impl Follower {
+    fn expected(&self, order: &Order) -> Expected {
+        let (answer, work) = self.registry.answer_to(order);
+        Expected::of(&answer, work.as_ref(), &self.last)
+    }
+
+    /// Whether these rules give the row where the true ones don't.
+    fn fits(&self, order: &Order, row: &Row, truth: &Expected) -> bool {
+        let own = self.expected(order);
+        let wrong = truth.wrong_bounds(row);
+        let given = (0..3).filter(|&index| wrong[index]);
+        own.answer == row.answer
+            && given
+                .into_iter()
+                .all(|index| row.bounds[index] == own.bounds[index])
+    }
+
+    /// Takes the trainee's word for what became of an order.
+    fn follow(&mut self, order: &Order, done: bool) {
+        match order {
+            Order::Register(flow) if done => {
+                if self.registry.holder(flow.number).is_none() {
+                    self.registry.put_in(flow);
+                }
+            }
+            Order::Register(flow) => {
+                if self.registry.slips.stored_early {
+                    let work = self.registry.judge(flow);
+                    self.registry.keep_early(&work);
+                }
+            }
+            Order::Release(number) if done => self.registry.take_out(*number),
+            Order::Release(_) => {}
+        }
+    }
+}
+
+/// Why a wrong row is what it is.
+#[derive(Clone, Debug, PartialEq)]
+pub enum Why {
+    /// It is right after the trainee's own earlier rows.
+    Follows,
+    /// One of document 01's slips gives it.
+    Slips(Vec<&'static str>),
+    Unknown,
+}
+
+/// The rules, and the rules with each slip, along the trainee's rows.
+pub struct Followers {
+    true_rules: Follower,
+    slipping: Vec<Follower>,
+}
+
+impl Followers {
+    /// `last` is the true registry after all orders.
+    pub fn new(last: &Registry) -> Followers {
+        let follower = |name, slips: Slips| {
+            let mut held = last.clone();
+            held.slips = slips;
+            Follower {
+                name,
+                registry: Registry::slipping(last.queues.clone(), slips),
+                last: held,
+            }
+        };
+        Followers {
+            true_rules: follower("", Slips::NONE),
+            slipping: Slips::EACH
+                .map(|(name, slips)| follower(name, slips))
+                .into(),
+        }
+    }
+
+    pub fn why(&self, order: &Order, row: &Row, truth: &Expected) -> Why {
+        if self.true_rules.fits(order, row, truth) {
+            return Why::Follows;
+        }
+        let fitting = self
+            .slipping
+            .iter()
+            .filter(|slip| slip.fits(order, row, truth));
+        let names: Vec<&str> = fitting.map(|slip| slip.name).collect();
+        if names.is_empty() {
+            Why::Unknown
+        } else {
+            Why::Slips(names)
+        }
+    }
+
+    /// Goes on by the trainee's row, or where there is none by the true answer.
+    pub fn follow(&mut self, order: &Order, row: Option<&Row>, answer: &Answer) {
+        let code = row.map_or(answer.code, |row| row.answer[0]);
+        for follower in std::iter::once(&mut self.true_rules).chain(&mut self.slipping) {
+            follower.follow(order, code == causes::DONE);
+        }
+    }
+}
