@@ -62,5 +62,9 @@ pub fn table(hall: &Hall, seen: &[Seen]) -> String {
         .chain(rows(hall, seen))
         .map(Vec::from)
         .collect();
-    aligned(&all)
+    let table = aligned(&all);
+    table
+        .lines()
+        .map(|line| format!("{}\n", line.trim_end()))
+        .collect()
 }

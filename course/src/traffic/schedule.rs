@@ -10,52 +10,59 @@ use crate::numbers::commas;
 /// Single frames are tried up to so many; beyond, whole flows alone.
 const MOST_SINGLES: usize = 400;
 
-/// The longest stay at a queue.
-fn stay_at(
-    network: &Network,
-    hall: &Hall,
-    arrivals: &Arrivals,
-    list: &[Send],
-    queue: usize,
-) -> u64 {
-    let mut figures = Figures::new(&hall.queues);
-    run(network, list, arrivals.clone(), &mut figures);
-    figures.seen[queue].stay()
+/// Takes frames out of a schedule for as long as the stay at its queue doesn't get shorter.
+struct Pruning<'a> {
+    hall: &'a Hall,
+    network: Network,
+    arrivals: &'a Arrivals,
+    best: Best,
 }
 
-/// Fewer frames with as long a stay. A source that leaves frames out still conforms. The first
-/// frame goes at instant 0.
-pub fn pruned(hall: &Hall, arrivals: &Arrivals, best: Best) -> Vec<Send> {
-    let network = Network::new(&hall.queues, &hall.flows);
-    let (queue, longest) = (best.stay.queue, best.stay.length());
-    let keeps = |list: &[Send]| stay_at(&network, hall, arrivals, list, queue) >= longest;
-    let mut list = best.sends;
-    let try_without = |list: &mut Vec<Send>, drop: &dyn Fn(usize, &Send) -> bool| {
-        let fewer: Vec<Send> = list
-            .iter()
-            .enumerate()
+impl Pruning<'_> {
+    fn without(&mut self, drop: impl Fn(usize, &Send) -> bool) {
+        let indexed = self.best.sends.iter().enumerate();
+        let fewer: Vec<Send> = indexed
             .filter(|(index, send)| !drop(*index, send))
             .map(|(_, send)| *send)
             .collect();
-        if fewer.len() < list.len() && keeps(&fewer) {
-            *list = fewer;
+        if fewer.len() == self.best.sends.len() {
+            return;
         }
+        let mut figures = Figures::new(&self.hall.queues);
+        run(&self.network, &fewer, self.arrivals.clone(), &mut figures);
+        let longest = figures.seen[self.best.stay.queue].longest;
+        if let Some(stay) = longest.filter(|stay| stay.length() >= self.best.stay.length()) {
+            self.best = Best { stay, sends: fewer };
+        }
+    }
+}
+
+/// Fewer frames with as long a stay, or a longer one. A source that leaves frames out still
+/// conforms. The first frame goes at instant 0.
+pub fn pruned(hall: &Hall, arrivals: &Arrivals, best: Best) -> Best {
+    let mut pruning = Pruning {
+        hall,
+        network: Network::new(&hall.queues, &hall.flows),
+        arrivals,
+        best,
     };
-    let gone = best.stay.gone;
-    try_without(&mut list, &|_, send| send.instant >= gone);
+    let gone = pruning.best.stay.gone;
+    pruning.without(|_, send| send.instant >= gone);
     for flow in 0..hall.flows.len() {
-        try_without(&mut list, &|_, send| send.flow == flow);
+        pruning.without(|_, send| send.flow == flow);
     }
-    if list.len() <= MOST_SINGLES {
-        for single in (0..list.len()).rev() {
-            try_without(&mut list, &|index, _| index == single);
+    let count = pruning.best.sends.len();
+    if count <= MOST_SINGLES {
+        for single in (0..count).rev() {
+            pruning.without(|index, _| index == single);
         }
     }
-    let first = list.first().map_or(0, |send| send.instant);
-    for send in &mut list {
+    let mut best = pruning.best;
+    let first = best.sends.first().map_or(0, |send| send.instant);
+    for send in &mut best.sends {
         send.instant -= first;
     }
-    list
+    best
 }
 
 /// SENDS; neighbours that are alike are one line.

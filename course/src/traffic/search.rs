@@ -237,18 +237,15 @@ pub fn command(
     if terminal {
         let _ = writeln!(std::io::stderr());
     }
-    let (words, tries) = (
-        search.words(),
-        counted(search.tries as usize, "run", "runs"),
-    );
-    let Some(best) = search.best else {
+    let Some(best) = search.best.take() else {
         return Err(unreadable("no time for a single run".to_string()));
     };
-    let text = schedule::write(
-        hall,
-        &schedule::pruned(hall, arrivals, best),
-        &format!("found by --search --seed {seed} in {tries}"),
-    );
+    let best = schedule::pruned(hall, arrivals, best);
+    let tries = counted(search.tries as usize, "run", "runs");
+    let how = format!("found by --search --seed {seed} in {tries}");
+    let text = schedule::write(hall, &best.sends, &how);
+    search.best = Some(best);
+    let words = search.words();
     match arguments.value("--out") {
         None => Ok((
             "the SENDS found".to_string(),

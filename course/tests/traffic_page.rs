@@ -1,0 +1,235 @@
+//! The page: well-formed, on its own, and its figures are those of the trace.
+
+mod support;
+
+use course::numbers::commas;
+use course::status::Status;
+use std::collections::{BTreeMap, BTreeSet};
+use support::{call, example, fresh, verdict, well_formed, Tag};
+
+/// A trace's columns: flow, frame, link, level, came, started, started_bit, gone, stay, threshold, bytes.
+type Row = [u64; 11];
+
+fn trace_rows(text: &str) -> Vec<Row> {
+    let mut lines = text.lines();
+    let header =
+        "flow\tframe\tlink\tlevel\tcame\tstarted\tstarted_bit\tgone\tstay\tthreshold\tbytes";
+    assert_eq!(lines.next(), Some(header));
+    let row = |line: &str| {
+        let numbers: Vec<u64> = line.split('\t').map(|word| word.parse().unwrap()).collect();
+        Row::try_from(numbers).unwrap()
+    };
+    lines.map(row).collect()
+}
+
+/// Longest stay and greatest backlog of each queue, from the trace alone: bytes of the frames that
+/// have come and are not gone, after each instant's arrivals.
+fn figures(rows: &[Row]) -> BTreeMap<(u64, u64), (u64, u64)> {
+    let mut found: BTreeMap<(u64, u64), (u64, u64)> = BTreeMap::new();
+    for row in rows {
+        let [_, _, link, level, came, _, _, gone, stay, _, _] = *row;
+        assert_eq!(stay, gone - came);
+        let held = rows.iter().filter(|other| {
+            (other[2], other[3]) == (link, level) && (other[4]..other[7]).contains(&came)
+        });
+        let backlog: u64 = held.map(|other| other[10]).sum();
+        let most = found.entry((link, level)).or_default();
+        *most = (most.0.max(stay), most.1.max(backlog));
+    }
+    found
+}
+
+struct Made {
+    page: String,
+    rows: Vec<Row>,
+    verdict: String,
+    printed: String,
+}
+
+fn made(name: &str, folder: &str, sends: &str, options: &[&str], status: Status) -> Made {
+    let place = fresh(name);
+    let path = |file: &str| place.join(file).display().to_string();
+    let (page, trace) = (path("page.html"), path("trace.tsv"));
+    let (folder, sends) = (example(folder), example(sends));
+    let words = [
+        "traffic", &folder, &sends, "--page", &page, "--trace", &trace,
+    ];
+    let outcome = call(&[&words[..], options].concat());
+    assert_eq!(outcome.status, status, "{}", outcome.errors);
+    Made {
+        page: std::fs::read_to_string(page).unwrap(),
+        rows: trace_rows(&std::fs::read_to_string(trace).unwrap()),
+        verdict: verdict(&outcome).to_string(),
+        printed: outcome.printed,
+    }
+}
+
+/// The frames drawn are those of the trace that meet the stretch, number by number.
+fn frames_agree(made: &Made, tags: &[Tag]) {
+    let stretch = tags
+        .iter()
+        .find(|tag| tag.get("id") == Some("stretch"))
+        .unwrap();
+    let (from, to) = (stretch.number("data-from"), stretch.number("data-to"));
+    let names = [
+        "flow",
+        "frame",
+        "link",
+        "level",
+        "came",
+        "started",
+        "bit",
+        "gone",
+        "stay",
+        "threshold",
+        "bytes",
+    ];
+    let drawn: BTreeSet<Row> = tags
+        .iter()
+        .filter(|tag| tag.get("class") == Some("frame"))
+        .map(|tag| names.map(|name| tag.number(&format!("data-{name}"))))
+        .collect();
+    let meeting = made
+        .rows
+        .iter()
+        .filter(|row| row[4] <= to && row[7] >= from);
+    assert_eq!(drawn, meeting.copied().collect());
+    assert!(!drawn.is_empty());
+}
+
+/// The table's numbers, as data and as text, are those of the trace.
+fn table_agrees(made: &Made, tags: &[Tag]) {
+    let known = figures(&made.rows);
+    let rows: Vec<&Tag> = tags
+        .iter()
+        .filter(|tag| tag.name == "tr" && tag.get("data-link").is_some())
+        .collect();
+    let mut met = 0;
+    for row in rows {
+        let (link, level) = (row.number("data-link"), row.number("data-level"));
+        let (stay, backlog) = known.get(&(link, level)).copied().unwrap_or_default();
+        assert_eq!(
+            (row.number("data-stay"), row.number("data-backlog")),
+            (stay, backlog)
+        );
+        let start = format!("data-link=\"{link}\" data-level=\"{level}\" data-stay=\"{stay}\"");
+        let line = made
+            .page
+            .lines()
+            .find(|line| line.starts_with("<tr") && line.contains(&start))
+            .unwrap();
+        let cells: Vec<&str> = line
+            .split("<td>")
+            .skip(1)
+            .map(|cell| cell.split("</td>").next().unwrap())
+            .collect();
+        let shown = if known.contains_key(&(link, level)) {
+            commas(stay)
+        } else {
+            "-".to_string()
+        };
+        assert_eq!(&cells[..3], [&link.to_string(), &level.to_string(), &shown]);
+        assert_eq!(cells[5], commas(backlog));
+        assert!(made.printed.contains(cells[7]));
+        met += usize::from(known.contains_key(&(link, level)));
+    }
+    assert_eq!(met, known.len());
+}
+
+fn check(made: &Made) {
+    let tags = well_formed(&made.page).unwrap_or_else(|why| panic!("{why}"));
+    frames_agree(made, &tags);
+    table_agrees(made, &tags);
+    assert!(made
+        .page
+        .contains(&format!("id=\"verdict\">{}</p>", made.verdict)));
+    for outside in ["http", "<script", "src=", "href=", "@import", "<link"] {
+        assert!(!made.page.contains(outside), "{outside}");
+    }
+    assert_eq!(
+        made.page.matches("url(").count(),
+        made.page.matches("url(#tip)").count()
+    );
+}
+
+#[test]
+fn the_pages_figures_are_those_of_the_trace() {
+    let folder = "hall";
+    for (index, sends) in ["hall/sends.txt", "hall/greedy.txt"].iter().enumerate() {
+        check(&made(
+            &format!("hall-{index}"),
+            folder,
+            sends,
+            &[],
+            Status::Fine,
+        ));
+        let shuffled = ["--arrivals", "7"];
+        check(&made(
+            &format!("shuffled-{index}"),
+            folder,
+            sends,
+            &shuffled,
+            Status::Fine,
+        ));
+    }
+    check(&made(
+        "two",
+        "two-flows",
+        "two-flows/sends.txt",
+        &[],
+        Status::Fine,
+    ));
+    check(&made(
+        "late",
+        "shared",
+        "shared/doubled.txt",
+        &["--anyway"],
+        Status::Late,
+    ));
+}
+
+#[test]
+fn a_long_run_shows_the_stretch_around_the_closest_frame() {
+    let around = made("around", "hall", "hall/greedy.txt", &[], Status::Fine);
+    check(&around);
+    let tags = well_formed(&around.page).unwrap();
+    let drawn = tags
+        .iter()
+        .filter(|tag| tag.get("class") == Some("frame"))
+        .count();
+    assert!(drawn < around.rows.len());
+    // The closest frame is flow 101's frame 21 at link 3 level 1, instants 40,332 to 40,455.
+    let closest = |tag: &&Tag| {
+        tag.get("data-flow") == Some("101")
+            && tag.get("data-frame") == Some("21")
+            && tag.get("data-link") == Some("3")
+    };
+    assert_eq!(tags.iter().filter(closest).count(), 1);
+    assert!(around.page.contains("class=\"closest\""));
+    let chosen = ["--from", "100", "--to", "400"];
+    let chosen = made("chosen", "hall", "hall/greedy.txt", &chosen, Status::Fine);
+    check(&chosen);
+    assert!(chosen.page.contains("data-from=\"100\" data-to=\"400\""));
+}
+
+/// The check of tags finds what is wrong.
+#[test]
+fn tags_out_of_turn_are_found() {
+    let page = |body: &str| format!("<!DOCTYPE html>\n<p>{body}</p>\n");
+    for good in ["", "a &amp; b", "<b a=\"1\"/>", "<b><i/></b>"] {
+        assert!(well_formed(&page(good)).is_ok(), "{good}");
+    }
+    for bad in [
+        "<b>",
+        "</b>",
+        "<b><i></b></i>",
+        "a & b",
+        "a > b",
+        "<b a=1/>",
+        "<b a=\"1\" a=\"2\"/>",
+        "<b a=\"&\"/>",
+    ] {
+        assert!(well_formed(&page(bad)).is_err(), "{bad}");
+    }
+    assert!(well_formed("<p></p>").is_err());
+}
