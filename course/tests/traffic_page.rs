@@ -206,10 +206,14 @@ fn a_long_run_shows_the_stretch_around_the_closest_frame() {
     };
     assert_eq!(tags.iter().filter(closest).count(), 1);
     assert!(around.page.contains("class=\"closest\""));
-    let chosen = ["--from", "100", "--to", "400"];
-    let chosen = made("chosen", "hall", "hall/greedy.txt", &chosen, Status::Fine);
-    check(&chosen);
-    assert!(chosen.page.contains("data-from=\"100\" data-to=\"400\""));
+    // At 316 the first frame of flow 101 leaves link 1 and reaches link 2.
+    for (from, to) in [("100", "400"), ("316", "400"), ("200", "316")] {
+        let chosen = ["--from", from, "--to", to];
+        let chosen = made("chosen", "hall", "hall/greedy.txt", &chosen, Status::Fine);
+        check(&chosen);
+        let stretch = format!("data-from=\"{from}\" data-to=\"{to}\"");
+        assert!(chosen.page.contains(&stretch));
+    }
 }
 
 /// The check of tags finds what is wrong.

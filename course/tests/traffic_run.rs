@@ -199,6 +199,50 @@ fn has_the_worked_runs_figures() {
     assert_eq!(stays.0, worked);
 }
 
+/// One frame of 1,542 bytes on a link of 100 Mbit/s is gone after 124 µs: what is just within its
+/// limits is kept.
+#[test]
+fn limits_are_met_exactly() {
+    let kept = |threshold, buffer| {
+        let queue = Queue {
+            link: 1,
+            from: 1,
+            to: 2,
+            speed: 100,
+            level: 1,
+            threshold,
+            buffer,
+        };
+        let flow = Flow {
+            number: 7,
+            rate: 1_000,
+            burst: 1_542,
+            frame: 1_542,
+            deadline: 1_000,
+            hops: vec![Hop { link: 1, level: 1 }],
+        };
+        let hall = Hall::new(vec![queue], vec![flow]);
+        let list = sends::expand(
+            &sends::read("5 7 1542", &hall.flows).unwrap(),
+            &hall.flows,
+            0,
+        );
+        let mut figures = Figures::new(&hall.queues);
+        let network = Network::new(&hall.queues, &hall.flows);
+        run(
+            &network,
+            &list.unwrap(),
+            Arrivals::ForwardedFirst,
+            &mut figures,
+        );
+        let verdict = Verdict::of(&hall.queues, &figures.seen);
+        (verdict.late, verdict.exceeded.len(), verdict.kept())
+    };
+    assert_eq!(kept(124, 1_542), (0, 0, true));
+    assert_eq!(kept(123, 1_542), (1, 0, false));
+    assert_eq!(kept(124, 1_541), (0, 1, false));
+}
+
 /// Tables whose thresholds and buffers are the very bounds, every source greedy from an instant
 /// of its own.
 #[test]
