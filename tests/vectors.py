@@ -14,7 +14,7 @@ from pathlib import Path
 
 ROOT = Path(__file__).resolve().parent.parent
 STORED = ROOT / "tests" / "vectors"
-EXAMPLES = [ROOT / "examples", ROOT / "examples" / "hall"]
+EXAMPLES = [ROOT / "examples", ROOT / "examples" / "hall", ROOT / "examples" / "fragmented"]
 FOLDER = object()  # stands for a folder in a file's place
 SECONDS = 60
 

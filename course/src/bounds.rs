@@ -70,7 +70,8 @@ pub fn end_to_end(links: &[LinkWork], flow: &Flow) -> u128 {
         .sum()
 }
 
-fn report(registry: &Registry, orders: usize) -> String {
+/// Figures and bounds of every queue and flow, after so many orders.
+pub fn report(registry: &Registry, orders: usize) -> String {
     let links = links(registry);
     let held = registry.held();
     let hops: usize = held.iter().map(|flow| flow.hops.len()).sum();

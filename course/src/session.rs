@@ -11,6 +11,7 @@ use plain::programs::{answer_line, begin, ANSWER_BYTES};
 use plain::registry::{Answer, Registry};
 use plain::table::Refusal;
 use plain::work::Work;
+use proved::Batch;
 
 /// One order line.
 pub struct Step {
@@ -45,14 +46,20 @@ pub fn remark() -> &'static str {
 
 /// Goes through a hall's orders; `visit` sees each with the registry before it and the one after. A batch that is refused, or
 /// answered otherwise by the proved library, ends the command.
-pub fn walk(
+pub fn walk(folder: &Folder, visit: impl FnMut(Step, &Registry, &Registry)) -> Result<(), Outcome> {
+    walk_beside(proved::BATCH, folder, visit)
+}
+
+/// The same beside this batch, where there is one.
+pub fn walk_beside(
+    beside: Option<Batch>,
     folder: &Folder,
     mut visit: impl FnMut(Step, &Registry, &Registry),
 ) -> Result<(), Outcome> {
     let (mut registry, lines) = match begin(&folder.table, &folder.orders) {
         Ok(begun) => begun,
         Err(refusal) => {
-            compare_refusal(folder, refusal)?;
+            compare_refusal(beside, folder, refusal)?;
             return Err(refused(folder, refusal));
         }
     };
@@ -75,7 +82,7 @@ pub fn walk(
         };
         visit(step, &before, &registry);
     }
-    compare_answers(folder, &answers)
+    compare_answers(beside, folder, &answers)
 }
 
 impl Session {
@@ -134,8 +141,12 @@ fn differs(what: String) -> Outcome {
     )
 }
 
-fn compare_refusal(folder: &Folder, refusal: Refusal) -> Result<(), Outcome> {
-    let Some(batch) = proved::BATCH else {
+fn compare_refusal(
+    beside: Option<Batch>,
+    folder: &Folder,
+    refusal: Refusal,
+) -> Result<(), Outcome> {
+    let Some(batch) = beside else {
         return Ok(());
     };
     let (code, line) = batch(&folder.table, &folder.orders, &mut []);
@@ -151,8 +162,12 @@ fn compare_refusal(folder: &Folder, refusal: Refusal) -> Result<(), Outcome> {
     )))
 }
 
-fn compare_answers(folder: &Folder, known: &[Answer]) -> Result<(), Outcome> {
-    let Some(batch) = proved::BATCH else {
+fn compare_answers(
+    beside: Option<Batch>,
+    folder: &Folder,
+    known: &[Answer],
+) -> Result<(), Outcome> {
+    let Some(batch) = beside else {
         return Ok(());
     };
     let mut answers = vec![0; ANSWER_BYTES * known.len()];

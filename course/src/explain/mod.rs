@@ -90,7 +90,7 @@ pub fn explained(step: &Step, before: &Registry) -> String {
     text
 }
 
-/// `22 at link 3 level 2: delay above the threshold`.
+/// `22 at link 3 level 2 (delay above the threshold)`.
 pub fn answer_words(answer: &Answer) -> String {
     let place = match (answer.slot, answer.link, answer.level) {
         (0, 0, 0) => String::new(),
@@ -98,7 +98,7 @@ pub fn answer_words(answer: &Answer) -> String {
         (0, link, level) => format!(" at link {} level {level}", commas(link)),
         (slot, _, _) => format!(" place {slot}"),
     };
-    format!("{}{place}: {}", answer.code, causes::meaning(answer.code))
+    format!("{}{place} ({})", answer.code, causes::meaning(answer.code))
 }
 
 /// The causes in their order, each passed, met or not reached.

@@ -10,9 +10,9 @@ use crate::numbers::{commas, counted};
 use crate::session::{remark, Session, Step};
 use crate::status::{Outcome, Status};
 use plain::registry::Answer;
+use plain::slips::Slips;
 use sheet::{Row, BOUND_NAMES};
 use slips::{Expected, Followers, Why};
-use std::collections::BTreeMap;
 use std::ops::RangeInclusive;
 use std::path::Path;
 
@@ -213,14 +213,12 @@ fn summary(marks: &[Mark], right: usize) -> String {
         commas(right),
         counted(marks.len(), "row", "rows")
     );
-    let mut slips: BTreeMap<&str, Vec<String>> = BTreeMap::new();
-    for mark in marks {
-        for name in &mark.slips {
-            slips.entry(name).or_default().push(commas(mark.line));
+    for (name, _) in Slips::EACH {
+        let fitting = marks.iter().filter(|mark| mark.slips.contains(&name));
+        let lines: Vec<String> = fitting.map(|mark| commas(mark.line)).collect();
+        if !lines.is_empty() {
+            text += &format!("slip: {name}: line {}\n", lines.join(", "));
         }
-    }
-    for (name, lines) in slips {
-        text += &format!("slip: {name}: line {}\n", lines.join(", "));
     }
     text
 }

@@ -1,0 +1,68 @@
+//! What the tests share: commands run in process, folders that go when their test ends.
+#![allow(dead_code)]
+
+use course::folder::Folder;
+use course::status::Outcome;
+use std::fs;
+use std::path::{Path, PathBuf};
+use std::sync::atomic::{AtomicU64, Ordering};
+
+pub fn course(words: &[&str]) -> Outcome {
+    let words: Vec<String> = words.iter().map(|word| word.to_string()).collect();
+    course::run(&words)
+}
+
+pub fn root() -> PathBuf {
+    Path::new(env!("CARGO_MANIFEST_DIR")).join("..")
+}
+
+pub fn hall() -> String {
+    root().join("examples/hall").display().to_string()
+}
+
+pub fn hall_folder(table: &[u8], orders: &[u8]) -> Folder {
+    Folder {
+        path: PathBuf::from("hall"),
+        table: table.to_vec(),
+        orders: orders.to_vec(),
+    }
+}
+
+/// A folder of its own; it goes when this does.
+pub struct Temporary(pub PathBuf);
+
+static COUNT: AtomicU64 = AtomicU64::new(0);
+
+impl Temporary {
+    pub fn new() -> Temporary {
+        let number = COUNT.fetch_add(1, Ordering::Relaxed);
+        let name = format!("course-{}-{number}", std::process::id());
+        let path = std::env::temp_dir().join(name);
+        fs::create_dir_all(&path).unwrap();
+        Temporary(path)
+    }
+
+    pub fn with(table: &[u8], orders: &[u8]) -> Temporary {
+        let folder = Temporary::new();
+        folder.write("table.txt", table);
+        folder.write("orders.txt", orders);
+        folder
+    }
+
+    pub fn write(&self, name: &str, content: &[u8]) -> String {
+        let path = self.0.join(name);
+        fs::write(&path, content).unwrap();
+        path.display().to_string()
+    }
+
+    pub fn word(&self) -> String {
+        self.0.display().to_string()
+    }
+}
+
+impl Drop for Temporary {
+    fn drop(&mut self) {
+        // A folder left behind in the temporary one does no harm.
+        let _ = fs::remove_dir_all(&self.0);
+    }
+}

@@ -1,0 +1,87 @@
+//! Each command on a full hall of 256 flows within a second.
+
+mod common;
+
+use common::{course, Temporary};
+use course::status::Status;
+use halls::rng::Rng;
+use halls::tables::{full_ring, table_text, MOST_BUFFER, MOST_THRESHOLD};
+use plain::orders::{write_registration, write_release, Flow, Hop};
+use std::time::{Duration, Instant};
+
+fn flow(rng: &mut Rng, number: u64) -> Flow {
+    let start = rng.between(0, 63);
+    let hops = (0..4).map(|hop| Hop {
+        link: (start + hop) % 64 + 1,
+        level: rng.between(1, 8),
+    });
+    let hops = hops.collect();
+    Flow {
+        number,
+        rate: rng.between(1, 5_000),
+        burst: rng.between(1_542, 9_999),
+        frame: rng.between(84, 1_542),
+        deadline: 10_000_000,
+        hops,
+    }
+}
+
+/// 256 flows of four hops on 512 queues, which fill slots and hop entries, then releases and registrations in turn.
+fn full() -> Temporary {
+    let mut rng = Rng::new(1, 1);
+    let mut lines: Vec<Vec<u8>> = (1..=256)
+        .map(|number| write_registration(&flow(&mut rng, number)))
+        .collect();
+    for number in 1..=500 {
+        lines.push(write_registration(&flow(&mut rng, 1_000 + number)));
+        lines.push(write_release(rng.between(1, 256)));
+    }
+    let mut orders = Vec::new();
+    for line in lines {
+        if orders.len() + line.len() <= 60_000 {
+            orders.extend(line);
+        }
+    }
+    let queues = full_ring(10_000, MOST_THRESHOLD, MOST_BUFFER);
+    Temporary::with(&table_text(&queues), &orders)
+}
+
+#[test]
+fn every_command_takes_less_than_a_second() {
+    let folder = full();
+    let hall = folder.word();
+    let held = course(&["bounds", &hall, "--after", "256"]).printed;
+    assert!(
+        held.starts_with("after 256 orders: 256 of 256 places held, 1,024 of 1,024 hop entries"),
+        "{held}"
+    );
+    let printed = plain::programs::admit(
+        &std::fs::read(folder.0.join("table.txt")).unwrap(),
+        &std::fs::read(folder.0.join("orders.txt")).unwrap(),
+    );
+    let sheet = folder.write("sheet.txt", &printed);
+    // Every place that isn't 0 gets another last digit: nearly all rows are wrong.
+    let mut wrong = printed.clone();
+    for line in wrong.chunks_mut(20) {
+        line[12] = b'0' + (line[12] - b'0' + 1) % 10;
+    }
+    let wrong = folder.write("wrong.txt", &wrong);
+    let out = folder.0.join("made").display().to_string();
+    let commands: [(&[&str], Status); 7] = [
+        (&["check", &hall], Status::Fine),
+        (&["explain", &hall], Status::Fine),
+        (&["explain", &hall, "--line", "256"], Status::Fine),
+        (&["bounds", &hall], Status::Fine),
+        (&["mark", &hall, &sheet], Status::Fine),
+        (&["mark", &hall, &wrong], Status::Wrong),
+        (&["hall", "--seed", "1", "--out", &out], Status::Fine),
+    ];
+    for (words, status) in commands {
+        let start = Instant::now();
+        let outcome = course(words);
+        let taken = start.elapsed();
+        println!("{}: {taken:?}", words[0]);
+        assert_eq!(outcome.status, status, "{words:?}: {}", outcome.errors);
+        assert!(taken < Duration::from_secs(1), "{words:?}: {taken:?}");
+    }
+}

@@ -1,0 +1,222 @@
+//! Random halls: what `bounds` prints against the plain version's figures, the proved answers against the plain ones,
+//! `check` against what a batch refuses, made halls against the answers that they should reach.
+
+mod common;
+
+use common::hall_folder;
+use course::bounds::report;
+use course::check::mistakes;
+use course::hall::make;
+use course::session::Session;
+use halls::input;
+use halls::orders::one_byte;
+use halls::rng::Rng;
+use halls::tables::link_levels;
+use plain::causes;
+use plain::columns::lines;
+use plain::formula::{backlog, delay};
+use plain::orders::{read_order, Flow};
+use plain::programs::begin;
+use plain::registry::Registry;
+use plain::table::{read_table, Queue};
+use std::collections::BTreeSet;
+
+/// What `bounds` should print of a queue: rate, burst, frame, then Res, Y, delay and backlog where it carries a flow.
+fn figures(registry: &Registry, queue: &Queue) -> Vec<u128> {
+    let flows: Vec<&Flow> = registry.held();
+    let levels = link_levels(&registry.queues, &flows, queue.link);
+    let (p, speed) = (queue.level as usize - 1, u128::from(queue.speed));
+    let own = levels[p];
+    let mut numbers = vec![own.rate, own.burst, own.frame];
+    if own.rate > 0 {
+        let above: u128 = levels[..p].iter().map(|level| level.rate).sum();
+        let bursts: u128 = levels[..p].iter().map(|level| level.burst).sum();
+        let below = levels[p + 1..].iter().map(|level| level.frame).max();
+        let ahead = bursts + below.unwrap_or(0) + own.frame;
+        numbers.extend([1000 * speed - above, ahead, delay(speed, &levels, p)]);
+        numbers.push(backlog(speed, &levels, p));
+    }
+    numbers
+}
+
+/// The numbers of a printed row, those that stand for nothing left out.
+fn numbers(row: &str) -> Vec<u128> {
+    let words = row.split_whitespace().map(|word| word.replace(',', ""));
+    words.filter_map(|word| word.parse().ok()).collect()
+}
+
+fn compare_bounds(session: &Session, name: &str) {
+    let registry = &session.registry;
+    let printed = report(registry, session.steps.len());
+    let rows = printed
+        .lines()
+        .filter(|line| line.starts_with("  ") && !line.contains("level"));
+    let mut rows = rows.map(numbers);
+    for queue in &registry.queues {
+        let row = rows.next().expect("a row for each queue");
+        let known = figures(registry, queue);
+        let mut expected = vec![u128::from(queue.level)];
+        expected.extend(&known[..3]);
+        let (threshold, buffer) = (u128::from(queue.threshold), u128::from(queue.buffer));
+        match known[3..] {
+            [residual, ahead, delay, backlog] => {
+                assert!(delay <= threshold && backlog <= buffer, "{name}");
+                expected.extend([residual, ahead, delay, threshold, backlog, buffer]);
+            }
+            _ => expected.extend([threshold, buffer]),
+        }
+        assert_eq!(
+            row, expected,
+            "{name}: link {} level {}",
+            queue.link, queue.level
+        );
+    }
+}
+
+/// 2,000 halls; where the proved library is linked, a session fails on the first answer that differs.
+#[test]
+fn bounds_and_answers_agree() {
+    let (mut done, mut refused) = (0, 0);
+    for index in 0..2_000 {
+        let given = input(&mut Rng::new(15, index), false);
+        let folder = hall_folder(&given.table, &given.orders);
+        let name = format!("hall {index}");
+        match Session::run(&folder) {
+            Ok(session) => {
+                compare_bounds(&session, &name);
+                done += 1;
+            }
+            Err(outcome) => {
+                assert!(
+                    begin(&given.table, &given.orders).is_err(),
+                    "{name}: {}",
+                    outcome.errors
+                );
+                assert!(
+                    !outcome.errors.contains("the plain version differ"),
+                    "{name}: {}",
+                    outcome.errors
+                );
+                refused += 1;
+            }
+        }
+    }
+    assert!(done > 1_000 && refused > 100, "{done} {refused}");
+}
+
+/// Some more damage than the halls have: several bytes, CR LF, a byte order mark, files swapped or cut.
+fn damage(rng: &mut Rng, table: &mut Vec<u8>, orders: &mut Vec<u8>) {
+    for _ in 0..rng.between(0, 3) {
+        one_byte(rng, orders);
+    }
+    if rng.once_in(3) {
+        one_byte(rng, table);
+    }
+    let text: &mut Vec<u8> = if rng.once_in(3) {
+        &mut *table
+    } else {
+        &mut *orders
+    };
+    match rng.between(0, 11) {
+        0 => {
+            *text = String::from_utf8_lossy(text)
+                .replace('\n', "\r\n")
+                .into_bytes()
+        }
+        1 => {
+            text.splice(..0, *b"\xef\xbb\xbf");
+        }
+        2 => std::mem::swap(table, orders),
+        3 => {
+            text.pop();
+        }
+        _ => {}
+    }
+}
+
+/// `check` finds a mistake exactly where a batch would refuse the table, the orders' size, or the line with 10 or 11.
+#[test]
+fn mistakes_are_what_a_batch_refuses() {
+    let mut seen = BTreeSet::new();
+    for index in 0..3_000 {
+        let mut rng = Rng::new(16, index);
+        let given = input(&mut rng, false);
+        let (mut table, mut orders) = (given.table, given.orders);
+        damage(&mut rng, &mut table, &mut orders);
+        let (of_table, of_orders) = mistakes(&table, &orders);
+        let refusal = read_table(&table).err();
+        let order_lines = lines(&orders);
+        let size = orders.len() > 60_000 || order_lines.len() > 2_000;
+        let faulty: Vec<usize> = (0..order_lines.len())
+            .filter(|&i| read_order(&order_lines[i]).is_err())
+            .collect();
+        let words = |found: &[course::check::Mistake]| {
+            found.iter().any(|one| one.words.contains("swapped"))
+        };
+        if words(&of_table) {
+            assert!(refusal.is_some() || !faulty.is_empty(), "{index}");
+            seen.insert("swapped");
+            continue;
+        }
+        assert_eq!(
+            of_table.is_empty(),
+            refusal.is_none(),
+            "table {index}: {of_table:?}"
+        );
+        if let Some(refusal) = refusal {
+            let first = of_table.iter().map(|one| one.line).min();
+            assert_eq!(first, Some(refusal.line as usize), "table {index}");
+            seen.insert("table");
+        }
+        let every =
+            order_lines.len() > 1 && order_lines.iter().all(|line| line.bytes.ends_with(b"\r"));
+        assert_eq!(
+            of_orders.is_empty(),
+            faulty.is_empty() && !size,
+            "orders {index}"
+        );
+        assert_eq!(
+            of_orders.iter().any(|one| one.line == 0),
+            size,
+            "orders {index}"
+        );
+        if every {
+            seen.insert("CR LF");
+            continue;
+        }
+        let told: BTreeSet<usize> = of_orders
+            .iter()
+            .filter(|one| one.line > 0)
+            .map(|one| one.line - 1)
+            .collect();
+        assert_eq!(told, faulty.into_iter().collect(), "orders {index}");
+        seen.insert("orders");
+    }
+    assert_eq!(seen.len(), 4, "{seen:?}");
+}
+
+/// A made hall reaches the usual refusals and admits and releases, and a trainee finds no typing mistake beside those meant.
+#[test]
+fn made_halls_reach_the_usual_answers() {
+    for seed in 0..100 {
+        let made = make(seed);
+        let folder = hall_folder(&made.table, &made.orders);
+        let session =
+            Session::run(&folder).unwrap_or_else(|failed| panic!("{seed}: {}", failed.errors));
+        let codes: BTreeSet<u64> = session.steps.iter().map(|step| step.answer.code).collect();
+        let usual = [0, 10, 11, 12, 13, 14, 15, 16, 17, 20, 21, 22, 23];
+        assert_eq!(codes, BTreeSet::from(usual), "{seed}");
+        let second = &session.steps[made.first_part..];
+        let room = [causes::RATE, causes::DELAY, causes::BACKLOG];
+        assert!(
+            second.iter().any(|step| room.contains(&step.answer.code)),
+            "{seed}"
+        );
+        assert!(
+            second
+                .iter()
+                .any(|step| step.work.is_some() && step.answer.code == 0),
+            "{seed}"
+        );
+    }
+}
