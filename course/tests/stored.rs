@@ -64,7 +64,10 @@ fn the_fragmented_registry() {
     let word = folder.display().to_string();
     compare("bounds-fragmented.txt", &["bounds", &word], Status::Fine);
     let full = course(&["explain", &word, "--line", "171"]).printed;
-    assert!(full.starts_with("line 171: 31 ") && full.contains("have 1,020 hop entries"), "{full}");
+    assert!(
+        full.starts_with("line 171: 31 ") && full.contains("have 1,020 hop entries"),
+        "{full}"
+    );
     let again = course(&["explain", &word, "--line", "257"]).printed;
     assert!(again.starts_with("line 257: 0 place 1 "), "{again}");
     let read = |name: &str| fs::read(folder.join(name)).unwrap();

@@ -1,9 +1,26 @@
 //! `course traffic` as it is called: what it prints and how it ends.
 
-mod support;
+mod common;
 
-use course::status::Status;
-use support::{call, ends, errors, example, file, fresh, verdict};
+use common::{course as call, example, Temporary};
+use course::status::{Outcome, Status};
+
+/// The words on standard error but for the remark on the proved library.
+fn errors(outcome: &Outcome) -> String {
+    let lines = outcome.errors.lines();
+    let own = lines.filter(|line| !line.starts_with("course: the proved library isn't linked"));
+    own.map(|line| format!("{line}\n")).collect()
+}
+
+/// The last line printed.
+fn verdict(outcome: &Outcome) -> &str {
+    outcome.printed.lines().last().unwrap_or_default()
+}
+
+fn ends(outcome: &Outcome, status: Status, verdict_line: &str) {
+    assert_eq!(outcome.status, status, "{}", outcome.errors);
+    assert_eq!(verdict(outcome), verdict_line);
+}
 
 #[test]
 fn document_01s_two_flows() {
@@ -35,12 +52,12 @@ no frame late; closest link 1 level 1, 246 of 371 µs
 
 #[test]
 fn a_bucket_met_exactly_and_one_micros_less() {
-    let folder = fresh("bucket");
+    let folder = Temporary::new();
     let two = example("two-flows");
-    let exact = file(&folder, "exact", "0 8 1542\n1 7 1542\n12337 7 1542\n");
+    let exact = folder.write("exact", b"0 8 1542\n1 7 1542\n12337 7 1542\n");
     let verdict = "no frame late; closest link 1 level 1, 246 of 371 µs";
     ends(&call(&["traffic", &two, &exact]), Status::Fine, verdict);
-    let early = file(&folder, "early", "0 8 1542\n1 7 1542\n12336 7 1542\n");
+    let early = folder.write("early", b"0 8 1542\n1 7 1542\n12336 7 1542\n");
     let outcome = call(&["traffic", &two, &early]);
     assert_eq!(
         (outcome.status, outcome.printed.as_str()),
@@ -109,10 +126,10 @@ fn a_doubled_burst_makes_a_frame_late() {
 /// The order in which one instant's arrivals are appended decides which frame of a level goes first.
 #[test]
 fn arrivals_have_an_order() {
-    let folder = fresh("arrivals");
+    let folder = Temporary::new();
     let hall = example("hall");
     // 202's frame reaches link 3 level 2 at instant 124, just when 203's source adds one there.
-    let sends = file(&folder, "sends", "0 202 1542\n124 203 1542\n");
+    let sends = folder.write("sends", b"0 202 1542\n124 203 1542\n");
     let worst = |order: &str| {
         let outcome = call(&["traffic", &hall, &sends, "--arrivals", order]);
         assert_eq!(outcome.status, Status::Fine);
@@ -132,16 +149,16 @@ fn arrivals_have_an_order() {
 
 #[test]
 fn what_cannot_be_read_is_named() {
-    let folder = fresh("unreadable");
+    let folder = Temporary::new();
     let two = example("two-flows");
-    let sends = file(&folder, "sends", "0 8 1542\n1 9 1542\n");
+    let sends = folder.write("sends", b"0 8 1542\n1 9 1542\n");
     let outcome = call(&["traffic", &two, &sends]);
     assert_eq!(outcome.status, Status::Wrong);
     assert_eq!(
         outcome.errors,
         format!("{sends}:2:3: flow 9 isn't held after the orders\n")
     );
-    let missing = folder.join("none").display().to_string();
+    let missing = folder.0.join("none").display().to_string();
     let outcome = call(&["traffic", &two, &missing]);
     assert_eq!(outcome.status, Status::Wrong);
     assert!(
@@ -151,7 +168,7 @@ fn what_cannot_be_read_is_named() {
         "{}",
         outcome.errors
     );
-    let nowhere = folder.join("none/trace.tsv").display().to_string();
+    let nowhere = folder.0.join("none/trace.tsv").display().to_string();
     let sends = example("two-flows/sends.txt");
     for option in ["--trace", "--page"] {
         let outcome = call(&["traffic", &two, &sends, option, &nowhere]);
@@ -160,13 +177,9 @@ fn what_cannot_be_read_is_named() {
             .errors
             .contains(&format!("{nowhere}: can't be written")));
     }
-    file(
-        &folder,
-        "table.txt",
-        "   1   1   1   100 1    371     2000\n",
-    );
-    file(&folder, "orders.txt", "");
-    let outcome = call(&["traffic", &folder.display().to_string(), &sends]);
+    folder.write("table.txt", b"   1   1   1   100 1    371     2000\n");
+    folder.write("orders.txt", b"");
+    let outcome = call(&["traffic", &folder.word(), &sends]);
     assert_eq!(
         (outcome.status, outcome.printed.as_str()),
         (Status::Wrong, "")
@@ -215,13 +228,12 @@ fn misuse_ends_with_2() {
 /// the machine may do other work.
 #[test]
 fn a_long_run_takes_seconds() {
-    let folder = fresh("long");
-    let sends = file(
-        &folder,
+    let folder = Temporary::new();
+    let sends = folder.write(
         "sends",
-        "0 202 250 x 50000 every 200\n0 203 250 x 50000 every 200\n",
+        b"0 202 250 x 50000 every 200\n0 203 250 x 50000 every 200\n",
     );
-    let trace = folder.join("trace.tsv").display().to_string();
+    let trace = folder.0.join("trace.tsv").display().to_string();
     let start = std::time::Instant::now();
     let outcome = call(&["traffic", &example("hall"), &sends, "--trace", &trace]);
     let took = start.elapsed();
@@ -236,8 +248,8 @@ fn a_long_run_takes_seconds() {
 
 #[test]
 fn the_search_writes_what_reproduces_its_stay() {
-    let folder = fresh("search");
-    let out = folder.join("out").display().to_string();
+    let folder = Temporary::new();
+    let out = folder.0.join("out").display().to_string();
     for (hall, queue) in [("hall", None), ("shared", Some("3.1")), ("two-flows", None)] {
         let place = example(hall);
         let mut words = vec![
@@ -297,8 +309,8 @@ fn the_search_writes_what_reproduces_its_stay() {
 /// The stored schedules of exercise four are what the search finds.
 #[test]
 fn the_near_schedules_are_found() {
-    let folder = fresh("near");
-    let out = folder.join("out").display().to_string();
+    let folder = Temporary::new();
+    let out = folder.0.join("out").display().to_string();
     let shared = example("shared");
     let words = [
         "traffic",

@@ -1,11 +1,12 @@
 //! The page: well-formed, on its own, and its figures are those of the trace.
 
-mod support;
+mod common;
 
+use common::tags::{well_formed, Tag};
+use common::{course as call, example, Temporary};
 use course::numbers::commas;
 use course::status::Status;
 use std::collections::{BTreeMap, BTreeSet};
-use support::{call, example, fresh, verdict, well_formed, Tag};
 
 /// A trace's columns: flow, frame, link, level, came, started, started_bit, gone, stay, threshold, bytes.
 type Row = [u64; 11];
@@ -46,9 +47,9 @@ struct Made {
     printed: String,
 }
 
-fn made(name: &str, folder: &str, sends: &str, options: &[&str], status: Status) -> Made {
-    let place = fresh(name);
-    let path = |file: &str| place.join(file).display().to_string();
+fn made(folder: &str, sends: &str, options: &[&str], status: Status) -> Made {
+    let place = Temporary::new();
+    let path = |file: &str| place.0.join(file).display().to_string();
     let (page, trace) = (path("page.html"), path("trace.tsv"));
     let (folder, sends) = (example(folder), example(sends));
     let words = [
@@ -59,7 +60,7 @@ fn made(name: &str, folder: &str, sends: &str, options: &[&str], status: Status)
     Made {
         page: std::fs::read_to_string(page).unwrap(),
         rows: trace_rows(&std::fs::read_to_string(trace).unwrap()),
-        verdict: verdict(&outcome).to_string(),
+        verdict: outcome.printed.lines().last().unwrap().to_string(),
         printed: outcome.printed,
     }
 }
@@ -155,32 +156,13 @@ fn check(made: &Made) {
 #[test]
 fn the_pages_figures_are_those_of_the_trace() {
     let folder = "hall";
-    for (index, sends) in ["hall/sends.txt", "hall/greedy.txt"].iter().enumerate() {
-        check(&made(
-            &format!("hall-{index}"),
-            folder,
-            sends,
-            &[],
-            Status::Fine,
-        ));
+    for sends in ["hall/sends.txt", "hall/greedy.txt"] {
+        check(&made(folder, sends, &[], Status::Fine));
         let shuffled = ["--arrivals", "7"];
-        check(&made(
-            &format!("shuffled-{index}"),
-            folder,
-            sends,
-            &shuffled,
-            Status::Fine,
-        ));
+        check(&made(folder, sends, &shuffled, Status::Fine));
     }
+    check(&made("two-flows", "two-flows/sends.txt", &[], Status::Fine));
     check(&made(
-        "two",
-        "two-flows",
-        "two-flows/sends.txt",
-        &[],
-        Status::Fine,
-    ));
-    check(&made(
-        "late",
         "shared",
         "shared/doubled.txt",
         &["--anyway"],
@@ -190,7 +172,7 @@ fn the_pages_figures_are_those_of_the_trace() {
 
 #[test]
 fn a_long_run_shows_the_stretch_around_the_closest_frame() {
-    let around = made("around", "hall", "hall/greedy.txt", &[], Status::Fine);
+    let around = made("hall", "hall/greedy.txt", &[], Status::Fine);
     check(&around);
     let tags = well_formed(&around.page).unwrap();
     let drawn = tags
@@ -209,7 +191,7 @@ fn a_long_run_shows_the_stretch_around_the_closest_frame() {
     // At 316 the first frame of flow 101 leaves link 1 and reaches link 2.
     for (from, to) in [("100", "400"), ("316", "400"), ("200", "316")] {
         let chosen = ["--from", from, "--to", to];
-        let chosen = made("chosen", "hall", "hall/greedy.txt", &chosen, Status::Fine);
+        let chosen = made("hall", "hall/greedy.txt", &chosen, Status::Fine);
         check(&chosen);
         let stretch = format!("data-from=\"{from}\" data-to=\"{to}\"");
         assert!(chosen.page.contains(&stretch));
