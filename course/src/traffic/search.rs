@@ -5,18 +5,12 @@ use super::figures::{greater_share, Figures};
 use super::hall::Hall;
 use super::network::Network;
 use super::run::{run, Arrivals, Send, Stay};
-use super::schedule;
-use super::{cannot_write, unreadable, usage};
-use crate::arguments::Arguments;
 use crate::numbers::{commas, counted};
-use crate::status::Outcome;
 use halls::rng::Rng;
 use halls::sources::{sends, Pace, Pattern, Sizes};
 use plain::orders::Flow;
-use std::io::{IsTerminal, Write};
-use std::time::{Duration, Instant};
+use std::time::Instant;
 
-const SECONDS: u64 = 10;
 /// So many changes without a longer stay end a climb.
 const PATIENCE: u32 = 60;
 
@@ -206,78 +200,9 @@ impl<'a> Search<'a> {
     }
 }
 
-/// The command's search: the name of SENDS, its text, and what to print before the report.
-pub fn command(
-    arguments: &Arguments,
-    hall: &Hall,
-    arrivals: &Arrivals,
-) -> Result<(String, String, String), Outcome> {
-    if hall.flows.is_empty() {
-        return Err(unreadable(
-            "no flow is held after the orders: nothing can be sent".to_string(),
-        ));
-    }
-    let seconds = arguments.number("--seconds")?.unwrap_or(SECONDS);
-    let limits = Limits {
-        until: Instant::now() + Duration::from_secs(seconds.min(1_000_000)),
-        tries: arguments.number("--tries")?.unwrap_or(u64::MAX),
-    };
-    let seed = arguments.number("--seed")?.unwrap_or(1);
-    let only = arguments
-        .value("--queue")
-        .map(|word| queue_named(hall, word))
-        .transpose()?;
-    let mut search = Search::new(hall, arrivals, seed, only);
-    let terminal = std::io::stderr().is_terminal();
-    search.climb_all(&limits, |search| {
-        if terminal {
-            let _ = write!(std::io::stderr(), "\r{}", search.words());
-        }
-    });
-    if terminal {
-        let _ = writeln!(std::io::stderr());
-    }
-    let Some(best) = search.best.take() else {
-        return Err(unreadable("no time for a single run".to_string()));
-    };
-    let best = schedule::pruned(hall, arrivals, best);
-    let tries = counted(search.tries as usize, "run", "runs");
-    let how = format!("found by --search --seed {seed} in {tries}");
-    let text = schedule::write(hall, &best.sends, &how);
-    search.best = Some(best);
-    let words = search.words();
-    match arguments.value("--out") {
-        None => Ok((
-            "the SENDS found".to_string(),
-            text.clone(),
-            format!("{text}\n"),
-        )),
-        Some(path) => {
-            std::fs::write(path, &text).map_err(|error| cannot_write(path, &error))?;
-            Ok((path.to_string(), text, format!("{path}: {words}\n")))
-        }
-    }
-}
-
-/// The queue that `LINK.LEVEL` names; it must carry a flow.
-fn queue_named(hall: &Hall, word: &str) -> Result<usize, Outcome> {
-    let named = |index: &usize| {
-        let queue = &hall.queues[*index];
-        format!("{}.{}", queue.link, queue.level) == word
-    };
-    let found = (0..hall.queues.len()).find(named);
-    found
-        .filter(|&queue| hall.bounds[queue].is_some())
-        .ok_or_else(|| {
-            usage(&format!(
-                "--queue {word}: no such queue carries a flow; LINK.LEVEL is expected"
-            ))
-        })
-}
-
 impl Search<'_> {
     /// `1,200 runs; longest 246 of 371 µs at link 1 level 1`.
-    fn words(&self) -> String {
+    pub fn words(&self) -> String {
         let runs = counted(self.tries as usize, "run", "runs");
         match &self.best {
             None => runs,

@@ -187,7 +187,7 @@ fn draw_curve(drawing: &mut Drawing, hall: &Hall, curve: &Curve) {
     ));
 }
 
-/// The link's number and a row for each level: its share as a bar and in per cent.
+/// The link's number and a row for each level.
 fn draw_box(
     drawing: &mut Drawing,
     hall: &Hall,
@@ -198,56 +198,31 @@ fn draw_box(
 ) {
     let high = tall(queues.len());
     let (x, top) = (spot.x - BOX / 2.0, spot.y - high / 2.0);
-    drawing.rect(
-        Rect {
-            x,
-            y: top,
-            width: BOX,
-            height: high,
-        },
-        "class=\"box\"",
-    );
+    drawing.rect(Rect(x, top, BOX, high), "class=\"box\"");
     // Numbers of four digits at both ends need smaller letters.
     let size = if name.chars().count() > 10 { 7.5 } else { 10.0 };
     let look = format!("style=\"font-size:{size}px\" font-weight=\"bold\" text-anchor=\"middle\"");
     drawing.text((spot.x, top + 10.0), &look, name);
     for (row, &queue) in queues.iter().enumerate() {
         let y = top + 13.0 + row as f64 * ROW;
-        let (stay, threshold) = (seen[queue].stay(), hall.queues[queue].threshold);
-        let room = BOX - 14.0;
-        let width = room * (stay as f64 / threshold as f64).min(1.0);
-        drawing.rect(
-            Rect {
-                x: x + 12.0,
-                y,
-                width: room,
-                height: ROW - 2.0,
-            },
-            "class=\"empty\"",
-        );
-        let look = format!("fill=\"{}\"", colours::share(stay, threshold));
-        drawing.rect(
-            Rect {
-                x: x + 12.0,
-                y,
-                width,
-                height: ROW - 2.0,
-            },
-            &look,
-        );
-        drawing.text(
-            (x + 3.0, y + 8.0),
-            "class=\"tiny\"",
-            &hall.queues[queue].level.to_string(),
-        );
-        let words = match hall.bounds[queue] {
-            Some(_) => format!("{} %", per_cent(u128::from(stay), u128::from(threshold))),
-            None => "no flow".to_string(),
-        };
-        drawing.text(
-            (x + BOX - 4.0, y + 8.0),
-            "class=\"tiny\" text-anchor=\"end\"",
-            &words,
-        );
+        draw_share(drawing, hall, queue, seen[queue].stay(), (x, y));
     }
+}
+
+/// A level's share as a bar and in per cent.
+fn draw_share(drawing: &mut Drawing, hall: &Hall, queue: usize, stay: u64, (x, y): (f64, f64)) {
+    let limits = &hall.queues[queue];
+    let (room, height) = (BOX - 14.0, ROW - 2.0);
+    let share = (stay as f64 / limits.threshold as f64).min(1.0);
+    drawing.rect(Rect(x + 12.0, y, room, height), "class=\"empty\"");
+    let look = format!("fill=\"{}\"", colours::share(stay, limits.threshold));
+    drawing.rect(Rect(x + 12.0, y, room * share, height), &look);
+    let level = limits.level.to_string();
+    drawing.text((x + 3.0, y + 8.0), "class=\"tiny\"", &level);
+    let words = match hall.bounds[queue] {
+        Some(_) => format!("{} %", per_cent(stay.into(), limits.threshold.into())),
+        None => "no flow".to_string(),
+    };
+    let look = "class=\"tiny\" text-anchor=\"end\"";
+    drawing.text((x + BOX - 4.0, y + 8.0), look, &words);
 }

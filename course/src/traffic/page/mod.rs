@@ -1,6 +1,7 @@
 //! A run as one HTML file without script: the verdict, the hall's map, the lanes of each link in a
 //! stretch, and the table.
 
+mod charts;
 mod colours;
 mod lanes;
 mod map;

@@ -2,7 +2,8 @@
 
 use super::svg::WIDTH;
 use plain::table::Queue;
-use std::collections::{BTreeMap, BTreeSet, VecDeque};
+use std::collections::btree_map::{BTreeMap, Entry};
+use std::collections::{BTreeSet, VecDeque};
 
 #[derive(Clone, Copy, Debug, PartialEq)]
 pub struct Spot {
@@ -56,14 +57,14 @@ fn columns(queues: &[Queue]) -> Vec<Vec<u64>> {
         while let Some(node) = reached.pop_front() {
             let next = column[&node] + 1;
             for queue in queues.iter().filter(|queue| queue.from == node) {
-                if !column.contains_key(&queue.to) {
-                    column.insert(queue.to, next);
+                if let Entry::Vacant(new) = column.entry(queue.to) {
+                    new.insert(next);
                     reached.push_back(queue.to);
                 }
             }
         }
-        if !column.contains_key(&first) {
-            column.insert(first, 0);
+        if let Entry::Vacant(new) = column.entry(first) {
+            new.insert(0);
             reached.push_back(first);
         }
     }

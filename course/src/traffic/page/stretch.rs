@@ -6,6 +6,7 @@ use crate::traffic::run::{Stay, Watch};
 
 /// More frames than this in one lane can't be told apart.
 const MOST_DRAWN: usize = 1_000;
+const STEPS_ACROSS: u64 = 1_200;
 
 /// From one instant to another, both included.
 #[derive(Clone, Copy, Debug, PartialEq)]
@@ -87,6 +88,14 @@ impl Watch for Recorder {
         if instant <= self.stretch.from {
             steps.clear();
         }
-        steps.push((instant, bytes));
+        // Closer together than a pixel: the greatest and the last of them.
+        let grain = (self.stretch.to - self.stretch.from) / STEPS_ACROSS + 1;
+        match steps.as_mut_slice() {
+            [.., most, last] if most.0 / grain == instant / grain => {
+                most.1 = most.1.max(last.1);
+                *last = (instant, bytes);
+            }
+            _ => steps.push((instant, bytes)),
+        }
     }
 }

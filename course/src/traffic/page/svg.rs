@@ -18,12 +18,8 @@ pub struct Drawing {
     body: String,
 }
 
-pub struct Rect {
-    pub x: f64,
-    pub y: f64,
-    pub width: f64,
-    pub height: f64,
-}
+/// Its left upper corner and its size.
+pub struct Rect(pub f64, pub f64, pub f64, pub f64);
 
 impl Drawing {
     pub fn raw(&mut self, text: &str) {
@@ -33,12 +29,7 @@ impl Drawing {
 
     /// `look` holds further attributes, such as a class.
     pub fn rect(&mut self, rect: Rect, look: &str) {
-        let Rect {
-            x,
-            y,
-            width,
-            height,
-        } = rect;
+        let Rect(x, y, width, height) = rect;
         let _ = writeln!(
             self.body,
             r#"<rect x="{x:.2}" y="{y:.2}" width="{width:.2}" height="{height:.2}" {look}/>"#
@@ -50,6 +41,11 @@ impl Drawing {
             self.body,
             r#"<line x1="{x1:.2}" y1="{y1:.2}" x2="{x2:.2}" y2="{y2:.2}" {look}/>"#
         );
+    }
+
+    /// Small letters beside a lane or along an axis.
+    pub fn note(&mut self, at: (f64, f64), text: &str) {
+        self.text(at, "class=\"small\"", text);
     }
 
     pub fn text(&mut self, (x, y): (f64, f64), look: &str, text: &str) {
