@@ -3,7 +3,7 @@
 use halls::rng::Rng;
 use halls::tables::{full_ring, table_text, MOST_BUFFER};
 use plain::orders::{write_registration, write_release, Flow, Hop, REGISTER, RELEASE};
-use plain::programs::{write_call, MOST_CALL_BYTES};
+use plain::programs::{write_call, MOST_CALL_BYTES, MOST_ORDER_BYTES, MOST_ORDER_LINES};
 
 /// A batch and the part of its lines in which registrations and releases alternate.
 pub struct Load {
@@ -19,9 +19,6 @@ impl Load {
         self.lines[..count].concat()
     }
 }
-
-const MOST_BYTES: usize = 60_000;
-const MOST_LINES: usize = 2_000;
 
 /// The four loads with this seed's numbers; their lines have the same lengths for every seed.
 pub fn loads(seed: u64) -> Vec<Load> {
@@ -126,12 +123,12 @@ pub fn call_lists(seed: u64) -> Vec<Load> {
 /// (a) 2,000 lines, as many registrations as 60,000 bytes allow, 250 held in the steady state.
 fn one_hop(seed: u64) -> Load {
     const HELD: usize = 250;
-    let registrations = (MOST_BYTES - 9 * MOST_LINES) / (48 - 9);
+    let registrations = (MOST_ORDER_BYTES - 9 * MOST_ORDER_LINES) / (48 - 9);
     let pairs = registrations - HELD;
     let mut flows = Flows::new(seed, 1);
     let (mut lines, held) = alternating(&mut flows, 1, HELD, pairs);
     let steady = HELD..lines.len();
-    for &number in held.iter().take(MOST_LINES - lines.len()) {
+    for &number in held.iter().take(MOST_ORDER_LINES - lines.len()) {
         lines.push(write_release(number));
     }
     Load {
@@ -145,7 +142,7 @@ fn one_hop(seed: u64) -> Load {
 /// (b) 256 registrations, then as many as fit that get 30.
 fn refused(seed: u64) -> Load {
     let mut flows = Flows::new(seed, 2);
-    let lines: Vec<Vec<u8>> = (0..MOST_BYTES / 48)
+    let lines: Vec<Vec<u8>> = (0..MOST_ORDER_BYTES / 48)
         .map(|_| write_registration(&flows.next(1)))
         .collect();
     let steady = 256..lines.len();
@@ -160,7 +157,7 @@ fn refused(seed: u64) -> Load {
 /// (c) 2,000 malformed lines.
 fn malformed(seed: u64) -> Load {
     let mut flows = Flows::new(seed, 3);
-    let lines: Vec<Vec<u8>> = (0..MOST_LINES)
+    let lines: Vec<Vec<u8>> = (0..MOST_ORDER_LINES)
         .map(|index| {
             let flow = flows.next(1);
             let mut line = if index % 2 == 0 {
@@ -191,7 +188,7 @@ fn malformed(seed: u64) -> Load {
 fn twelve_hops(seed: u64) -> Load {
     const HELD: usize = 84;
     const LINE: usize = 42 + 6 * 12;
-    let pairs = (MOST_BYTES - HELD * LINE) / (LINE + 9);
+    let pairs = (MOST_ORDER_BYTES - HELD * LINE) / (LINE + 9);
     let mut flows = Flows::new(seed, 4);
     let (lines, _) = alternating(&mut flows, 12, HELD, pairs);
     let steady = HELD..lines.len();

@@ -7,6 +7,7 @@ use course::status::Status;
 use halls::rng::Rng;
 use halls::tables::{full_ring, table_text, MOST_BUFFER, MOST_THRESHOLD};
 use plain::orders::{write_registration, write_release, Flow, Hop};
+use std::sync::OnceLock;
 use std::time::{Duration, Instant};
 
 fn flow(rng: &mut Rng, number: u64) -> Flow {
@@ -46,6 +47,19 @@ fn full() -> Temporary {
     Temporary::with(&table_text(&queues), &orders)
 }
 
+/// The processor time of this thread so far: other work on the machine doesn't count. Where the system doesn't say, the
+/// clock's.
+fn time() -> Duration {
+    static START: OnceLock<Instant> = OnceLock::new();
+    let clock = START.get_or_init(Instant::now).elapsed();
+    let told = std::fs::read_to_string("/proc/thread-self/schedstat").unwrap_or_default();
+    let nanoseconds = told
+        .split_whitespace()
+        .next()
+        .and_then(|word| word.parse().ok());
+    nanoseconds.map_or(clock, Duration::from_nanos)
+}
+
 #[test]
 fn every_command_takes_less_than_a_second() {
     let folder = full();
@@ -77,9 +91,9 @@ fn every_command_takes_less_than_a_second() {
         (&["hall", "--seed", "1", "--out", &out], Status::Fine),
     ];
     for (words, status) in commands {
-        let start = Instant::now();
+        let start = time();
         let outcome = course(words);
-        let taken = start.elapsed();
+        let taken = time() - start;
         println!("{}: {taken:?}", words[0]);
         assert_eq!(outcome.status, status, "{words:?}: {}", outcome.errors);
         assert!(taken < Duration::from_secs(1), "{words:?}: {taken:?}");

@@ -5,7 +5,7 @@ mod common;
 
 use common::hall_folder;
 use course::bounds::report;
-use course::check::mistakes;
+use course::check::{mistakes, Mistake};
 use course::hall::make;
 use course::session::Session;
 use halls::input;
@@ -16,7 +16,7 @@ use plain::causes;
 use plain::columns::lines;
 use plain::formula::{backlog, delay};
 use plain::orders::{read_order, Flow};
-use plain::programs::begin;
+use plain::programs::{begin, MOST_ORDER_BYTES, MOST_ORDER_LINES};
 use plain::registry::Registry;
 use plain::table::{read_table, Queue};
 use std::collections::BTreeSet;
@@ -144,55 +144,66 @@ fn mistakes_are_what_a_batch_refuses() {
         let (mut table, mut orders) = (given.table, given.orders);
         damage(&mut rng, &mut table, &mut orders);
         let (of_table, of_orders) = mistakes(&table, &orders);
-        let refusal = read_table(&table).err();
-        let order_lines = lines(&orders);
-        let size = orders.len() > 60_000 || order_lines.len() > 2_000;
-        let faulty: Vec<usize> = (0..order_lines.len())
-            .filter(|&i| read_order(&order_lines[i]).is_err())
-            .collect();
-        let words = |found: &[course::check::Mistake]| {
-            found.iter().any(|one| one.words.contains("swapped"))
-        };
-        if words(&of_table) {
-            assert!(refusal.is_some() || !faulty.is_empty(), "{index}");
+        if of_table.iter().any(|one| one.words.contains("swapped")) {
+            let refused = read_table(&table).is_err() || !faulty_lines(&orders).is_empty();
+            assert!(refused, "{index}");
             seen.insert("swapped");
             continue;
         }
-        assert_eq!(
-            of_table.is_empty(),
-            refusal.is_none(),
-            "table {index}: {of_table:?}"
-        );
-        if let Some(refusal) = refusal {
-            let first = of_table.iter().map(|one| one.line).min();
-            assert_eq!(first, Some(refusal.line as usize), "table {index}");
-            seen.insert("table");
-        }
-        let every =
-            order_lines.len() > 1 && order_lines.iter().all(|line| line.bytes.ends_with(b"\r"));
-        assert_eq!(
-            of_orders.is_empty(),
-            faulty.is_empty() && !size,
-            "orders {index}"
-        );
-        assert_eq!(
-            of_orders.iter().any(|one| one.line == 0),
-            size,
-            "orders {index}"
-        );
-        if every {
-            seen.insert("CR LF");
-            continue;
-        }
-        let told: BTreeSet<usize> = of_orders
-            .iter()
-            .filter(|one| one.line > 0)
-            .map(|one| one.line - 1)
-            .collect();
-        assert_eq!(told, faulty.into_iter().collect(), "orders {index}");
-        seen.insert("orders");
+        seen.extend(same_table(&table, &of_table, index));
+        seen.insert(same_orders(&orders, &of_orders, index));
     }
     assert_eq!(seen.len(), 4, "{seen:?}");
+}
+
+/// The lines, counted from 1, that a batch answers with 10 or 11.
+fn faulty_lines(orders: &[u8]) -> BTreeSet<usize> {
+    let all = lines(orders).into_iter().enumerate();
+    let faulty = all.filter(|(_, line)| read_order(line).is_err());
+    faulty.map(|(index, _)| index + 1).collect()
+}
+
+fn same_table(table: &[u8], found: &[Mistake], index: u64) -> Option<&'static str> {
+    let refusal = read_table(table).err();
+    assert_eq!(
+        found.is_empty(),
+        refusal.is_none(),
+        "table {index}: {found:?}"
+    );
+    let first = found.iter().map(|one| one.line).min();
+    assert_eq!(
+        first,
+        refusal.map(|refusal| refusal.line as usize),
+        "table {index}"
+    );
+    refusal.map(|_| "table")
+}
+
+fn same_orders(orders: &[u8], found: &[Mistake], index: u64) -> &'static str {
+    let all = lines(orders);
+    let size = orders.len() > MOST_ORDER_BYTES || all.len() > MOST_ORDER_LINES;
+    let faulty = faulty_lines(orders);
+    assert_eq!(
+        found.is_empty(),
+        faulty.is_empty() && !size,
+        "orders {index}"
+    );
+    assert_eq!(
+        found.iter().any(|one| one.line == 0),
+        size,
+        "orders {index}"
+    );
+    if all.len() > 1 && all.iter().all(|line| line.bytes.ends_with(b"\r")) {
+        // Said once, of the first line.
+        return "CR LF";
+    }
+    let of_lines = found.iter().map(|one| one.line).filter(|&line| line > 0);
+    assert_eq!(
+        of_lines.collect::<BTreeSet<usize>>(),
+        faulty,
+        "orders {index}"
+    );
+    "orders"
 }
 
 /// A made hall reaches the usual refusals and admits and releases, and a trainee finds no typing mistake beside those meant.

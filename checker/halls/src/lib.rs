@@ -7,6 +7,7 @@ pub mod tables;
 
 use orders::{flow, one_byte, order_lines, walk, Demand, Mix, LIKE_THE_SUMS, SMALL, WIDE};
 use plain::orders::{write_registration, Flow, Hop};
+use plain::programs::ANSWER_BYTES;
 use plain::registry::Registry;
 use plain::table::Queue;
 use rng::Rng;
@@ -34,7 +35,6 @@ pub const KINDS: [&str; 9] = [
     "cut",
 ];
 
-const ANSWER_BYTES: usize = 20;
 const SPEEDS: [u64; 5] = [1, 10, 100, 1_000, 10_000];
 
 /// One batch. A long run has more lines in each text.

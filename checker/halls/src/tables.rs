@@ -6,8 +6,7 @@ use plain::orders::Flow;
 use plain::registry::{aggregate, path_thresholds};
 use plain::table::{write_queue, Queue};
 
-pub const MOST_THRESHOLD: u64 = 100_000;
-pub const MOST_BUFFER: u64 = 16_777_215;
+pub use plain::table::{MOST_BUFFER, MOST_THRESHOLD};
 
 pub fn table_text(queues: &[Queue]) -> Vec<u8> {
     queues.iter().flat_map(write_queue).collect()

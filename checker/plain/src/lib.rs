@@ -2,6 +2,7 @@
 //! paper stands here once: fields and ranges in `table` and `orders`, sizes beside what they limit, the order of causes in
 //! `causes`, the formulas in `formula`.
 
+mod calls;
 pub mod causes;
 pub mod columns;
 pub mod consistency;

@@ -3,10 +3,9 @@
 
 use crate::causes;
 use crate::formula::Aggregate;
-use crate::orders::{read_call, Flow, Hop, Order, REGISTER, RELEASE};
+use crate::orders::{Flow, Hop};
 use crate::slips::Slips;
 use crate::table::{read_table, Queue, Refusal};
-use crate::work::{hops_work, Work};
 
 /// Document 01's places.
 pub const SLOTS: usize = 256;
@@ -37,7 +36,8 @@ impl Answer {
         }
     }
 
-    fn done(index: usize) -> Answer {
+    /// Done at the slot with this index.
+    pub fn done(index: usize) -> Answer {
         Answer {
             slot: index as u64 + 1,
             ..Answer::plain(causes::DONE)
@@ -59,7 +59,7 @@ pub struct Registry {
     /// The rules that are broken on purpose; none but for recognising a trainee's slip.
     pub slips: Slips,
     /// What slips left in queues beside the flows; nothing by the rules.
-    residue: Vec<(Hop, Aggregate)>,
+    pub(crate) residue: Vec<(Hop, Aggregate)>,
 }
 
 impl Registry {
@@ -85,56 +85,6 @@ impl Registry {
         }
     }
 
-    /// The direct call to register.
-    pub fn register(&mut self, bytes: &[u8]) -> Answer {
-        self.step(read_call(REGISTER, bytes))
-    }
-
-    /// The direct call to release.
-    pub fn release(&mut self, bytes: &[u8]) -> Answer {
-        self.step(read_call(RELEASE, bytes))
-    }
-
-    /// One order, as it was read.
-    pub fn step(&mut self, order: Result<Order, u64>) -> Answer {
-        match order {
-            Err(code) => Answer::plain(code),
-            Ok(order) => self.perform(&order).0,
-        }
-    }
-
-    /// One order; for a registration also what was worked out.
-    pub fn perform(&mut self, order: &Order) -> (Answer, Option<Work>) {
-        let (answer, work) = self.answer_to(order);
-        match (order, &work) {
-            (Order::Register(_), Some(work)) if work.refused.is_some() => self.keep_early(work),
-            (Order::Register(flow), _) => {
-                self.put_in(flow);
-            }
-            (Order::Release(number), _) => {
-                self.take_out(*number);
-            }
-        }
-        (answer, work)
-    }
-
-    /// What an order would be answered, and what is worked out for it.
-    pub fn answer_to(&self, order: &Order) -> (Answer, Option<Work>) {
-        match order {
-            Order::Register(flow) => {
-                let work = self.judge(flow);
-                let free = self.slots.iter().position(Option::is_none);
-                let done = free.map(Answer::done);
-                let answer = work.refused.or(done).expect("30 was tested");
-                (answer, Some(work))
-            }
-            Order::Release(number) => {
-                let done = self.holder(*number).map(Answer::done);
-                (done.unwrap_or(Answer::plain(causes::NOT_HELD)), None)
-            }
-        }
-    }
-
     /// A flow in the lowest free slot, unjudged; nothing where there is none.
     pub fn put_in(&mut self, flow: &Flow) {
         if let Some(free) = self.slots.iter_mut().find(|slot| slot.is_none()) {
@@ -153,18 +103,9 @@ impl Registry {
                 frame: u128::from(flow.frame),
                 ..Aggregate::default()
             };
-            self.residue.extend(flow.hops.iter().map(|&hop| (hop, left)));
+            self.residue
+                .extend(flow.hops.iter().map(|&hop| (hop, left)));
         }
-    }
-
-    /// The slip of storing a path's first links before a refusal at a later one.
-    pub fn keep_early(&mut self, work: &Work) {
-        if !self.slips.stored_early || work.links.is_empty() {
-            return;
-        }
-        let passed = &work.hops[..work.links.len() - 1];
-        self.residue
-            .extend(passed.iter().map(|hop| (hop.hop, hop.share)));
     }
 
     pub fn holder(&self, number: u64) -> Option<usize> {
@@ -177,23 +118,37 @@ impl Registry {
         self.slots.iter().flatten().collect()
     }
 
-    /// The figures of a queue of the table.
+    /// The figures of a queue of the table, by the flows alone.
     pub fn aggregate(&self, queue: &Queue) -> Aggregate {
-        self.figures(queue, None)
+        aggregate(&self.queues, &self.held(), queue)
     }
 
-    /// What each held flow and, where one is given, a new one adds at a queue.
-    pub fn shares(&self, at: Hop, new: Option<&Flow>) -> Vec<Share> {
-        let flows: Vec<&Flow> = self.slots.iter().flatten().chain(new).collect();
-        shares(&self.queues, &flows, at, &self.slips)
+    /// What each held flow and, where one is given, a new one adds at a link, with the level it goes to.
+    pub fn shares<'a>(
+        &'a self,
+        link: u64,
+        new: Option<&'a Flow>,
+    ) -> impl Iterator<Item = (u64, Share)> + 'a {
+        let flows = self.slots.iter().flatten().chain(new);
+        link_shares(&self.queues, flows, link, self.slips)
     }
 
-    /// The figures of a queue with, where one is given, a new flow counted in.
-    pub fn figures(&self, queue: &Queue, new: Option<&Flow>) -> Aggregate {
-        let at = queue.hop();
-        let left = self.residue.iter().filter(|(hop, _)| *hop == at);
-        let sum = sum_of(&self.shares(at, new));
-        left.fold(sum, |sum, (_, left)| sum.with(*left))
+    /// The figures of a link's levels, level 1 first, with, where one is given, a new flow counted in.
+    pub fn figures(&self, link: u64, new: Option<&Flow>) -> Vec<(Queue, Aggregate)> {
+        let of_link = self.queues.iter().filter(|queue| queue.link == link);
+        let none = |queue: &Queue| (queue.clone(), Aggregate::default());
+        let mut levels: Vec<(Queue, Aggregate)> = of_link.map(none).collect();
+        let held = self
+            .shares(link, new)
+            .map(|(level, share)| (level, share.share));
+        let left = self.residue.iter().filter(|(hop, _)| hop.link == link);
+        for (level, share) in held.chain(left.map(|(hop, left)| (hop.level, *left))) {
+            let own = levels.iter_mut().find(|(queue, _)| queue.level == level);
+            if let Some((_, figures)) = own {
+                *figures = figures.with(share);
+            }
+        }
+        levels
     }
 }
 
@@ -203,34 +158,54 @@ pub fn queue_at(queues: &[Queue], hop: Hop) -> Option<&Queue> {
         .find(|queue| queue.link == hop.link && queue.level == hop.level)
 }
 
+pub fn threshold_at(queues: &[Queue], hop: Hop) -> u64 {
+    queue_at(queues, hop).map_or(0, |queue| queue.threshold)
+}
+
 /// The sum of the thresholds of these hops, µs.
 pub fn path_thresholds(queues: &[Queue], hops: &[Hop]) -> u128 {
-    let threshold = |&hop: &Hop| queue_at(queues, hop).map_or(0, |queue| queue.threshold);
-    hops.iter().map(threshold).map(u128::from).sum()
+    let threshold = |&hop: &Hop| u128::from(threshold_at(queues, hop));
+    hops.iter().map(threshold).sum()
 }
 
-/// What each of these flows adds at a queue, for every hop it has there.
-pub fn shares(queues: &[Queue], flows: &[&Flow], at: Hop, slips: &Slips) -> Vec<Share> {
-    let mut found = Vec::new();
-    for flow in flows.iter().filter(|flow| flow.hops.contains(&at)) {
-        for hop in hops_work(queues, flow, slips) {
-            if hop.hop == at {
-                found.push(Share {
-                    number: flow.number,
-                    share: hop.share,
-                });
-            }
-        }
+/// What a flow adds at the hop with this index.
+pub fn share_at(queues: &[Queue], flow: &Flow, index: usize, slips: &Slips) -> Aggregate {
+    let earlier = flow.hops[..index].iter();
+    let thresholds = earlier.map(|&hop| u128::from(threshold_at(queues, hop)));
+    let (burst, rate) = (u128::from(flow.burst), u128::from(flow.rate));
+    Aggregate {
+        rate,
+        burst: slips.burst(burst, rate, thresholds),
+        frame: u128::from(flow.frame),
     }
-    found
 }
 
-fn sum_of(shares: &[Share]) -> Aggregate {
-    let none = Aggregate::default();
-    shares.iter().fold(none, |sum, share| sum.with(share.share))
+/// What each of these flows adds at a link, for every hop it has there, with the hop's level.
+fn link_shares<'a>(
+    queues: &'a [Queue],
+    flows: impl Iterator<Item = &'a Flow> + 'a,
+    link: u64,
+    slips: Slips,
+) -> impl Iterator<Item = (u64, Share)> + 'a {
+    flows.flat_map(move |flow| {
+        let hops = flow.hops.iter().enumerate();
+        let here = hops.filter(move |(_, hop)| hop.link == link);
+        here.map(move |(index, hop)| {
+            let share = Share {
+                number: flow.number,
+                share: share_at(queues, flow, index, &slips),
+            };
+            (hop.level, share)
+        })
+    })
 }
 
 /// The figures of a queue over these flows.
 pub fn aggregate(queues: &[Queue], flows: &[&Flow], queue: &Queue) -> Aggregate {
-    sum_of(&shares(queues, flows, queue.hop(), &Slips::NONE))
+    let flows = flows.iter().copied();
+    let shares = link_shares(queues, flows, queue.link, Slips::NONE);
+    let own = shares.filter(|(level, _)| *level == queue.level);
+    own.fold(Aggregate::default(), |sum, (_, share)| {
+        sum.with(share.share)
+    })
 }

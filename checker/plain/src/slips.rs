@@ -42,18 +42,15 @@ impl Slips {
     ];
 
     /// Burst at a hop after earlier hops with these thresholds.
-    pub fn burst(&self, burst: u128, rate: u128, earlier: &[u128]) -> u128 {
+    pub fn burst(&self, burst: u128, rate: u128, earlier: impl Iterator<Item = u128>) -> u128 {
         if self.source_burst {
             return burst;
         }
         if self.rounded_each_hop {
-            return burst
-                + earlier
-                    .iter()
-                    .map(|&t| growth(rate, t).ceiling())
-                    .sum::<u128>();
+            let grown: u128 = earlier.map(|hop| growth(rate, hop).ceiling()).sum();
+            return burst + grown;
         }
-        burst_at_hop(burst, rate, earlier.iter().sum())
+        burst_at_hop(burst, rate, earlier.sum())
     }
 
     /// The delay bound, µs.

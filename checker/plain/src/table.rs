@@ -7,6 +7,8 @@ use crate::orders::Hop;
 
 pub const MOST_LINKS: u64 = 64;
 pub const MOST_LEVELS: u64 = 8;
+pub const MOST_THRESHOLD: u64 = 100_000;
+pub const MOST_BUFFER: u64 = 16_777_215;
 
 /// One line of the table.
 #[derive(Clone, Debug, Default, PartialEq)]
@@ -70,8 +72,8 @@ pub const ENTRIES: [Entry; 7] = [
     entry!(Of::Link, to, "to node", "", (9, 12), &[(1, 9_999)]),
     entry!(Of::Link, speed, "speed", "Mbit/s", (13, 18), &[(1, 10_000)]),
     entry!(Of::Turn, level, "level", "", (19, 20), &[]),
-    entry!(Of::Queue, threshold, "threshold", "µs", (21, 27), &[(1, 100_000)]),
-    entry!(Of::Queue, buffer, "buffer", "bytes", (28, 36), &[(1, 16_777_215)]),
+    entry!(Of::Queue, threshold, "threshold", "µs", (21, 27), &[(1, MOST_THRESHOLD)]),
+    entry!(Of::Queue, buffer, "buffer", "bytes", (28, 36), &[(1, MOST_BUFFER)]),
 ];
 
 /// The lengths that a table line may have, shortest first; a field past its end is 0.

@@ -3,7 +3,8 @@
 use crate::causes;
 use crate::formula::{rate_limit, rate_sum, Aggregate, Sums};
 use crate::orders::{Flow, Hop};
-use crate::registry::{queue_at, Answer, Registry, HOP_POOL, SLOTS};
+use crate::registry::{path_thresholds, queue_at, share_at, threshold_at, Answer, Registry};
+use crate::registry::{HOP_POOL, SLOTS};
 use crate::slips::Slips;
 use crate::table::Queue;
 
@@ -142,24 +143,13 @@ impl LinkWork {
 
 /// What a flow adds at each hop of its path; at a hop without a queue a threshold of 0 counts.
 pub fn hops_work(queues: &[Queue], flow: &Flow, slips: &Slips) -> Vec<HopWork> {
-    let mut earlier: Vec<u128> = Vec::new();
-    let mut hops = Vec::new();
-    for &hop in &flow.hops {
-        let threshold = queue_at(queues, hop).map_or(0, |queue| queue.threshold);
-        let (burst, rate) = (u128::from(flow.burst), u128::from(flow.rate));
-        hops.push(HopWork {
-            hop,
-            threshold,
-            earlier: earlier.iter().sum(),
-            share: Aggregate {
-                rate,
-                burst: slips.burst(burst, rate, &earlier),
-                frame: u128::from(flow.frame),
-            },
-        });
-        earlier.push(u128::from(threshold));
-    }
-    hops
+    let hop = |(index, &hop): (usize, &Hop)| HopWork {
+        hop,
+        threshold: threshold_at(queues, hop),
+        earlier: path_thresholds(queues, &flow.hops[..index]),
+        share: share_at(queues, flow, index, slips),
+    };
+    flow.hops.iter().enumerate().map(hop).collect()
 }
 
 /// The first of 14, 16 and 15 of this code, first hop first.
@@ -226,10 +216,7 @@ impl Registry {
 
     /// A link of the table over the held flows and, where one is given, a new one.
     pub fn link_work(&self, link: u64, new: Option<&Flow>) -> LinkWork {
-        let of_link = self.queues.iter().filter(|queue| queue.link == link);
-        let levels = of_link
-            .map(|queue| (queue.clone(), self.figures(queue, new)))
-            .collect();
+        let levels = self.figures(link, new);
         LinkWork::of(levels, &self.slips)
     }
 }

@@ -1,5 +1,6 @@
 //! `course explain`: each order with its answer, a sentence, and the sums worked out as on paper.
 
+mod filling;
 mod sentences;
 mod sums;
 

@@ -1,11 +1,12 @@
 //! A registration's sums, written as on paper.
 
+use super::filling::filling;
 use crate::numbers::commas;
 use crate::titles::{link_title, queue_name};
 use plain::causes;
-use plain::formula::growth;
-use plain::orders::{Flow, Hop};
-use plain::registry::{Answer, Registry, Share};
+use plain::formula::{growth, Sums};
+use plain::orders::Flow;
+use plain::registry::{Answer, Registry};
 use plain::work::{HopWork, LevelWork, LinkWork, Work};
 
 fn plus(numbers: impl Iterator<Item = u128>) -> String {
@@ -115,21 +116,12 @@ fn level_sums(link: &LinkWork, level: &LevelWork, refused: Option<Answer>) -> Ve
         return vec![format!("  level {}: empty, not checked", queue.level)];
     };
     let sums = &bounds.sums;
-    let above = link.rate_limit - sums.residual;
-    let residual = match above {
-        0 => commas(sums.residual),
-        above => format!(
-            "{} − {} = {}",
-            commas(link.rate_limit),
-            commas(above),
-            commas(sums.residual)
-        ),
-    };
     let parts = [sums.above, sums.below, sums.own.frame];
     let mut lines = vec![
         format!(
-            "  level {}: Res {residual}, Y {}",
+            "  level {}: Res {}, Y {}",
             queue.level,
+            residual(link, sums),
             summed(&parts)
         ),
         format!(
@@ -154,58 +146,11 @@ fn level_sums(link: &LinkWork, level: &LevelWork, refused: Option<Answer>) -> Ve
     lines
 }
 
-/// Which flows fill the link or queue that refuses.
-fn filling(flow: &Flow, answer: Answer, before: &Registry) -> Vec<String> {
-    let at = Hop {
-        link: answer.link,
-        level: answer.level,
-    };
-    let of_link = before.queues.iter().filter(|queue| queue.link == at.link);
-    let levels: Vec<(u64, Vec<Share>)> = of_link
-        .map(|queue| (queue.level, before.shares(queue.hop(), Some(flow))))
-        .collect();
-    let name = |share: &Share, number: u128| {
-        let new = if share.number == flow.number {
-            " (this order)"
-        } else {
-            ""
-        };
-        format!("flow {}{new} {}", commas(share.number), commas(number))
-    };
-    let list = |wanted: &dyn Fn(u64) -> bool, number: fn(&Share) -> u128| {
-        let shares = levels.iter().filter(|(level, _)| wanted(*level));
-        let names: Vec<String> = shares
-            .flat_map(|(_, shares)| shares.iter().map(|share| name(share, number(share))))
-            .collect();
-        names.join(", ")
-    };
-    let burst = |share: &Share| share.share.burst;
-    let mut lines = Vec::new();
-    let mut say = |title: String, names: String| {
-        if !names.is_empty() {
-            lines.push(format!("{title}: {names}"));
-        }
-    };
-    match answer.code {
-        causes::RATE => say(
-            format!("rates on link {}", at.link),
-            list(&|_| true, |share| share.share.rate),
-        ),
-        causes::DELAY | causes::BACKLOG => {
-            say(
-                format!("bursts in {}", queue_name(at)),
-                list(&|level| level == at.level, burst),
-            );
-            say(
-                "bursts above it".to_string(),
-                list(&|level| level < at.level, burst),
-            );
-            say(
-                "largest frames in it and below".to_string(),
-                list(&|level| level >= at.level, |share| share.share.frame),
-            );
-        }
-        _ => {}
+/// `100,000 − 1,600 = 98,400`; the link's whole rate where nothing is above.
+fn residual(link: &LinkWork, sums: &Sums) -> String {
+    let left = commas(sums.residual);
+    match link.rate_limit - sums.residual {
+        0 => left,
+        above => format!("{} − {} = {left}", commas(link.rate_limit), commas(above)),
     }
-    lines
 }

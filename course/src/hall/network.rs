@@ -104,40 +104,7 @@ impl Network {
 
     /// A drive, camera, gate, picture or counter; the number is the caller's.
     pub fn flow(&self, rng: &mut Rng, number: u64) -> Flow {
-        let frame = LARGEST_FRAME;
-        let (rate, burst, frame, hops) = match rng.between(0, 7) {
-            0 | 1 => (
-                stepped(rng, 200, 1_000, 100),
-                200,
-                200,
-                self.to_cabinet(rng, 1),
-            ),
-            2..=4 => {
-                let frames = rng.between(2, 6);
-                let rate = stepped(rng, 10_000, 30_000, 5_000);
-                (rate, frames * frame, frame, self.to_cabinet(rng, 2))
-            }
-            5 => (500, 168, 84, self.path(std::iter::once(self.packer), 1)),
-            6 => {
-                let frame = rng.pick(&[600, 900, 1_200, frame]);
-                (
-                    2_000,
-                    stepped(rng, 3_000, 8_000, 1_000),
-                    frame,
-                    self.path(std::iter::once(self.packer), 2),
-                )
-            }
-            _ => {
-                let frame = rng.pick(&[84, 500, frame]);
-                let rate = stepped(rng, 100, 600, 100);
-                (
-                    rate,
-                    frame + rng.pick(&[0, 84, 500]),
-                    frame,
-                    self.path(std::iter::once(self.slow), 1),
-                )
-            }
-        };
+        let (rate, burst, frame, hops) = self.demand(rng);
         let thresholds = plain::registry::path_thresholds(&self.queues, &hops) as u64;
         Flow {
             number,
@@ -146,6 +113,34 @@ impl Network {
             frame,
             deadline: (thresholds / 1_000 + rng.between(1, 2)) * 1_000,
             hops,
+        }
+    }
+
+    /// Rate, burst, largest frame and path.
+    fn demand(&self, rng: &mut Rng) -> (u64, u64, u64, Vec<Hop>) {
+        let alone = |link, level| self.path(std::iter::once(link), level);
+        match rng.between(0, 7) {
+            0 | 1 => {
+                let rate = stepped(rng, 200, 1_000, 100);
+                (rate, 200, 200, self.to_cabinet(rng, 1))
+            }
+            2..=4 => {
+                let burst = rng.between(2, 6) * LARGEST_FRAME;
+                let rate = stepped(rng, 10_000, 30_000, 5_000);
+                (rate, burst, LARGEST_FRAME, self.to_cabinet(rng, 2))
+            }
+            5 => (500, 168, 84, alone(self.packer, 1)),
+            6 => {
+                let frame = rng.pick(&[600, 900, 1_200, LARGEST_FRAME]);
+                let burst = stepped(rng, 3_000, 8_000, 1_000);
+                (2_000, burst, frame, alone(self.packer, 2))
+            }
+            _ => {
+                let frame = rng.pick(&[84, 500, LARGEST_FRAME]);
+                let rate = stepped(rng, 100, 600, 100);
+                let burst = frame + rng.pick(&[0, 84, 500]);
+                (rate, burst, frame, alone(self.slow, 1))
+            }
         }
     }
 }
