@@ -53,7 +53,7 @@ pub fn backlog(
     let (base, limit) = (height(0), height(*buffer));
     drawing.line((LEFT, base), (RIGHT, base), "class=\"axis\"");
     drawing.line((LEFT, limit), (RIGHT, limit), "class=\"buffer\"");
-    drawing.note((4.0, top + 8.0), "backlog");
+    drawing.note((4.0, top + 8.0), "backlog max");
     drawing.note((4.0, top + 19.0), &format!("{} of", commas(greatest)));
     drawing.note((4.0, top + 30.0), &format!("{} B", commas(buffer)));
     base
