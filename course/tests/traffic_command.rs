@@ -328,7 +328,7 @@ fn the_near_schedules_are_found() {
     ends(
         &found,
         Status::Fine,
-        "no frame late; closest link 1 level 1, 156 of 164 µs",
+        "no frame late; closest link 2 level 1, 156 of 164 µs",
     );
     assert_eq!(
         std::fs::read_to_string(&out).unwrap(),

@@ -2,10 +2,15 @@
 
 mod common;
 
+use checker::simulate;
 use common::tags::{well_formed, Tag};
 use common::{course as call, example, Temporary};
 use course::numbers::commas;
-use course::status::Status;
+use course::status::{Outcome, Status};
+use halls::rng::Rng;
+use halls::tables::{full_ring, loose, table_text, Shape};
+use plain::orders::{write_registration, Flow, Hop};
+use plain::table::Queue;
 use std::collections::{BTreeMap, BTreeSet};
 
 /// A trace's columns: flow, frame, link, level, came, started, started_bit, gone, stay, threshold, bytes.
@@ -47,15 +52,30 @@ struct Made {
     printed: String,
 }
 
+/// An example's page and trace.
 fn made(folder: &str, sends: &str, options: &[&str], status: Status) -> Made {
     let place = Temporary::new();
+    let outcome_of = |words: &[&str]| call(&[words, options].concat());
+    drawn_by(
+        &place,
+        &example(folder),
+        &example(sends),
+        status,
+        outcome_of,
+    )
+}
+
+/// A hall's page and trace, by a call of the program.
+fn drawn_by(
+    place: &Temporary,
+    folder: &str,
+    sends: &str,
+    status: Status,
+    call: impl Fn(&[&str]) -> Outcome,
+) -> Made {
     let path = |file: &str| place.0.join(file).display().to_string();
     let (page, trace) = (path("page.html"), path("trace.tsv"));
-    let (folder, sends) = (example(folder), example(sends));
-    let words = [
-        "traffic", &folder, &sends, "--page", &page, "--trace", &trace,
-    ];
-    let outcome = call(&[&words[..], options].concat());
+    let outcome = call(&["traffic", folder, sends, "--page", &page, "--trace", &trace]);
     assert_eq!(outcome.status, status, "{}", outcome.errors);
     Made {
         page: std::fs::read_to_string(page).unwrap(),
@@ -94,8 +114,12 @@ fn frames_agree(made: &Made, tags: &[Tag]) {
         .rows
         .iter()
         .filter(|row| row[4] <= to && row[7] >= from);
-    assert_eq!(drawn, meeting.copied().collect());
-    assert!(!drawn.is_empty());
+    let meeting: BTreeSet<Row> = meeting.copied().collect();
+    // A lane with very many says how many more there are.
+    let left_out = tags.iter().filter(|tag| tag.get("data-more").is_some());
+    let left_out: u64 = left_out.map(|tag| tag.number("data-more")).sum();
+    assert_eq!(drawn.len() as u64 + left_out, meeting.len() as u64);
+    assert!(!drawn.is_empty() && drawn.is_subset(&meeting));
 }
 
 /// The table's numbers, as data and as text, are those of the trace.
@@ -187,7 +211,7 @@ fn a_long_run_shows_the_stretch_around_the_closest_frame() {
             && tag.get("data-link") == Some("3")
     };
     assert_eq!(tags.iter().filter(closest).count(), 1);
-    assert!(around.page.contains("class=\"closest\""));
+    assert_eq!(around.page.matches("class=\"closest\"").count(), 1);
     // At 316 the first frame of flow 101 leaves link 1 and reaches link 2.
     for (from, to) in [("100", "400"), ("316", "400"), ("200", "316")] {
         let chosen = ["--from", from, "--to", to];
@@ -195,6 +219,65 @@ fn a_long_run_shows_the_stretch_around_the_closest_frame() {
         check(&chosen);
         let stretch = format!("data-from=\"{from}\" data-to=\"{to}\"");
         assert!(chosen.page.contains(&stretch));
+    }
+}
+
+/// Writes a hall's two files; greedy sends for all its flows.
+fn written(place: &Temporary, queues: &[Queue], flows: &[Flow]) -> String {
+    place.write("table.txt", &table_text(queues));
+    let orders: Vec<u8> = flows.iter().flat_map(write_registration).collect();
+    place.write("orders.txt", &orders);
+    let greedy = |(index, flow): (usize, &Flow)| format!("greedy {} from {index}\n", flow.number);
+    let text: String = flows.iter().enumerate().map(greedy).collect();
+    place.write("sends.txt", text.as_bytes())
+}
+
+/// Halls with loops, parallel links and several speeds.
+#[test]
+fn pages_of_random_halls_agree_with_their_traces() {
+    let mut halls = 0;
+    for index in 0..60 {
+        let mut rng = Rng::new(3, index);
+        let Some(hall) = simulate::Hall::random(&mut rng).unwrap() else {
+            continue;
+        };
+        let place = Temporary::new();
+        let sends = written(&place, &hall.queues, &hall.flows);
+        let made = drawn_by(&place, &place.word(), &sends, Status::Fine, call);
+        // The trace's figures are worked out anew frame by frame: long runs would take long.
+        if made.rows.len() < 3_000 {
+            check(&made);
+            assert_eq!(made.page.matches("class=\"closest\"").count(), 1);
+            halls += 1;
+        }
+    }
+    assert!(halls > 20, "{halls} halls");
+}
+
+/// A chain too long for columns, on a circle; a ring of 64 links, link by link.
+#[test]
+fn large_halls_have_a_map() {
+    let flow = |number, hops: Vec<Hop>| Flow {
+        number,
+        rate: 1_000,
+        burst: 3_084,
+        frame: 1_542,
+        deadline: 10_000_000,
+        hops,
+    };
+    let along =
+        |links: std::ops::RangeInclusive<u64>| links.map(|link| Hop { link, level: 1 }).collect();
+    let chain = loose(&mut Rng::new(1, 1), Shape::Chain, 12, 2, &[100]);
+    let ring = full_ring(1_000, 10_000, 1_000_000);
+    for (queues, nodes) in [(chain, 13), (ring, 0)] {
+        let place = Temporary::new();
+        let flows = [flow(7, along(1..=12)), flow(8, along(3..=5))];
+        let sends = written(&place, &queues, &flows);
+        let made = drawn_by(&place, &place.word(), &sends, Status::Fine, call);
+        check(&made);
+        assert_eq!(made.page.matches("class=\"node\"").count(), nodes);
+        let links = queues.iter().filter(|queue| queue.level == 1).count();
+        assert_eq!(made.page.matches("class=\"box\"").count(), links);
     }
 }
 

@@ -124,7 +124,7 @@ impl Job<'_> {
             return Err(usage("--from must be before --to"));
         }
         let network = Network::new(&self.hall.queues, &self.hall.flows);
-        let mut recorder = Recorder::new(stretch, seen);
+        let mut recorder = Recorder::new(stretch, &self.hall, verdict.closest);
         run::run(&network, &self.sends, self.arrivals.clone(), &mut recorder);
         let words = page::Words {
             title: &format!("Traffic of {} on {}", self.name, self.arguments.words[0]),

@@ -7,12 +7,14 @@ use super::network::Network;
 use super::run::{run, Arrivals, Send, Stay};
 use crate::numbers::{commas, counted};
 use halls::rng::Rng;
-use halls::sources::{sends, Pace, Pattern, Sizes};
+use halls::sources::{sends, Pace, Pattern, Sizes, SMALLEST_FRAME};
 use plain::orders::Flow;
 use std::time::Instant;
 
 /// So many changes without a longer stay end a climb.
 const PATIENCE: u32 = 60;
+/// One run of fast sources on slow queues would else take all the time.
+const MOST_FRAMES: u64 = 100_000;
 
 /// How one source sends; the seed draws what the pattern leaves open.
 #[derive(Clone, Copy)]
@@ -50,7 +52,7 @@ pub struct Search<'a> {
 /// The frames of these sources by instant; each keeps to its bucket by how it is made.
 fn frames(hall: &Hall, sources: &Sources) -> Vec<Send> {
     let started = sources.iter().flatten().map(|source| source.pattern.start);
-    let until = started.max().unwrap_or(0) + 2 * hall.span();
+    let until = started.max().unwrap_or(0) + (2 * hall.span()).min(longest_run(hall));
     let mut all = Vec::new();
     for (index, source) in sources.iter().enumerate() {
         let Some(source) = source else { continue };
@@ -65,6 +67,12 @@ fn frames(hall: &Hall, sources: &Sources) -> Vec<Send> {
     }
     all.sort_by_key(|send| send.instant);
     all
+}
+
+/// The µs in which all sources together send about so many frames at most, beside their bursts.
+fn longest_run(hall: &Hall) -> u64 {
+    let rates: u64 = hall.flows.iter().map(|flow| flow.rate).sum();
+    MOST_FRAMES * SMALLEST_FRAME * 8000 / rates.max(1)
 }
 
 impl<'a> Search<'a> {
@@ -130,10 +138,15 @@ impl<'a> Search<'a> {
     }
 
     fn climb(&mut self, queue: usize, mut sources: Sources, limits: &Limits) -> Sources {
+        let link = self.hall.queues[queue].link;
+        let crosses = |flow: &Flow| flow.hops.iter().any(|hop| hop.link == link);
+        let near: Vec<usize> = (0..sources.len())
+            .filter(|&flow| crosses(&self.hall.flows[flow]))
+            .collect();
         let mut longest = self.stay_at(queue, &sources);
         let mut since = 0;
         while since < PATIENCE && !self.over(limits) {
-            let tried = self.changed(&sources);
+            let tried = self.changed(&sources, &near);
             let stay = self.stay_at(queue, &tried);
             since = if stay > longest { 0 } else { since + 1 };
             if stay >= longest {
@@ -144,12 +157,15 @@ impl<'a> Search<'a> {
         sources
     }
 
-    /// The same sources but one.
-    fn changed(&mut self, sources: &Sources) -> Sources {
+    /// The same sources but one, most often one of a flow that crosses the link.
+    fn changed(&mut self, sources: &Sources, near: &[usize]) -> Sources {
         let mut changed = sources.clone();
         let span = self.hall.span();
-        let index = self.rng.index(changed.len());
         let rng = &mut self.rng;
+        let index = match rng.once_in(4) {
+            true => rng.index(changed.len()),
+            false => rng.pick(near),
+        };
         let reach = rng.pick(&[2, 10, 100, span / 4]).max(1);
         changed[index] = match changed[index] {
             Some(source) if !rng.once_in(4) => {

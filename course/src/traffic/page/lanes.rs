@@ -10,7 +10,10 @@ use crate::traffic::hall::Hall;
 use crate::traffic::run::Stay;
 
 const ROW: f64 = 11.0;
-const BAR: f64 = 9.0;
+/// With more rows than fit, rows are lower.
+const MOST_HEIGHT: f64 = 40.0 * ROW;
+/// What a bar takes of its row.
+const BAR: f64 = 9.0 / 11.0;
 /// With more rows than this, frames share a row as soon as the one before has left.
 const MOST_ROWS: usize = 16;
 
@@ -95,7 +98,9 @@ impl Lanes<'_> {
         stays.sort_by_key(|stay| (stay.came, stay.first_bit));
         let rows = rows(&stays, limits.threshold);
         // Two rows at least: the lane's name and threshold stand beside it.
-        let height = rows.iter().max().map_or(2, |row| (row + 1).max(2)) as f64 * ROW + 5.0;
+        let count = rows.iter().max().map_or(2, |row| (row + 1).max(2)) as f64;
+        let row_height = ROW.min(MOST_HEIGHT / count);
+        let height = count * row_height + 5.0;
         let drawing = &mut self.drawing;
         drawing.rect(Rect(LEFT, top, RIGHT - LEFT, height), "class=\"lane\"");
         let name = format!("level {}", limits.level);
@@ -106,7 +111,7 @@ impl Lanes<'_> {
             drawing.note((LEFT + 6.0, top + 11.0), "no frame in this stretch");
         }
         for (stay, row) in stays.iter().zip(rows) {
-            self.one_frame(stay, top + 3.0 + row as f64 * ROW);
+            self.one_frame(stay, top + 3.0 + row as f64 * row_height, row_height * BAR);
         }
         let bottom = top + height;
         if shown.more == 0 {
@@ -116,12 +121,14 @@ impl Lanes<'_> {
             "and {} frames more: choose a shorter stretch",
             commas(shown.more)
         );
-        self.drawing.note((LEFT + 6.0, bottom + 10.0), &words);
+        let look = format!("class=\"small\" data-more=\"{}\"", shown.more);
+        self.drawing
+            .text((LEFT + 6.0, bottom + 10.0), &look, &words);
         bottom + 14.0
     }
 
     /// A frame's bars, with its numbers for a reader who points at it.
-    fn one_frame(&mut self, stay: &Stay, y: f64) {
+    fn one_frame(&mut self, stay: &Stay, y: f64, height: f64) {
         let queue = &self.hall.queues[stay.queue];
         let number = self.hall.flows[stay.flow].number;
         let (started, bit) = (stay.first_bit / queue.speed, stay.first_bit % queue.speed);
@@ -153,13 +160,13 @@ impl Lanes<'_> {
             commas(stay.length()),
             commas(queue.threshold)
         ));
-        self.bars(stay, sent, y);
+        self.bars(stay, sent, (y, height));
         self.drawing.raw("</g>");
     }
 
     /// The threshold as a bar behind, then waiting and sending in the flow's two shades; the flow's
     /// number where there is room.
-    fn bars(&mut self, stay: &Stay, (first, last): (f64, f64), y: f64) {
+    fn bars(&mut self, stay: &Stay, (first, last): (f64, f64), (y, height): (f64, f64)) {
         let threshold = self.hall.queues[stay.queue].threshold;
         let (drawing, scale) = (&mut self.drawing, self.scale);
         let mut bar = |from: f64, to: f64, look: &str| {
@@ -167,7 +174,7 @@ impl Lanes<'_> {
                 return 0.0;
             }
             let (x, end) = (scale.x(from), scale.x(to));
-            drawing.rect(Rect(x, y, (end - x).max(0.6), BAR), look);
+            drawing.rect(Rect(x, y, (end - x).max(0.6), height), look);
             end - x
         };
         let (came, gone) = (stay.came as f64, stay.gone as f64);
@@ -184,10 +191,10 @@ impl Lanes<'_> {
         }
         if limit <= scale.stretch.to as f64 {
             let x = scale.x(limit);
-            drawing.line((x, y), (x, y + BAR), "class=\"limit\"");
+            drawing.line((x, y), (x, y + height), "class=\"limit\"");
         }
         let label = self.hall.flows[stay.flow].number.to_string();
-        if width >= 5.5 * label.len() as f64 + 2.0 {
+        if width >= 5.5 * label.len() as f64 + 2.0 && height >= 8.5 {
             let middle = scale.x(first) + width / 2.0;
             drawing.text((middle, y + 7.6), "class=\"on\"", &label);
         }

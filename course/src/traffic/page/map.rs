@@ -147,8 +147,10 @@ fn network(hall: &Hall, seen: &[Seen], spots: &BTreeMap<u64, Spot>) -> String {
             "<circle class=\"node\" cx=\"{:.2}\" cy=\"{:.2}\" r=\"{NODE}\"/>",
             spot.x, spot.y
         ));
-        let look = "class=\"name\" text-anchor=\"middle\"";
-        drawing.text((spot.x, spot.y + 4.0), look, &node.to_string());
+        let label = node.to_string();
+        let size = [12.0, 12.0, 10.0, 8.5][label.len().min(4) - 1];
+        let look = bold(size);
+        drawing.text((spot.x, spot.y + size / 3.0), &look, &label);
     }
     drawing.raw("</g>");
     drawing.finish(end - top + 12.0, "the hall's nodes and links")
@@ -187,6 +189,11 @@ fn draw_curve(drawing: &mut Drawing, hall: &Hall, curve: &Curve) {
     ));
 }
 
+/// Bold letters of this size about a middle.
+fn bold(size: f64) -> String {
+    format!("style=\"font-size:{size}px\" font-weight=\"bold\" text-anchor=\"middle\"")
+}
+
 /// The link's number and a row for each level.
 fn draw_box(
     drawing: &mut Drawing,
@@ -201,8 +208,7 @@ fn draw_box(
     drawing.rect(Rect(x, top, BOX, high), "class=\"box\"");
     // Numbers of four digits at both ends need smaller letters.
     let size = if name.chars().count() > 10 { 7.5 } else { 10.0 };
-    let look = format!("style=\"font-size:{size}px\" font-weight=\"bold\" text-anchor=\"middle\"");
-    drawing.text((spot.x, top + 10.0), &look, name);
+    drawing.text((spot.x, top + 10.0), &bold(size), name);
     for (row, &queue) in queues.iter().enumerate() {
         let y = top + 13.0 + row as f64 * ROW;
         draw_share(drawing, hall, queue, seen[queue].stay(), (x, y));

@@ -1,6 +1,5 @@
 //! The part of a run that is drawn, and what is kept of it.
 
-use crate::traffic::figures::Seen;
 use crate::traffic::hall::Hall;
 use crate::traffic::run::{Stay, Watch};
 
@@ -53,17 +52,19 @@ pub struct Shown {
     pub backlog: Vec<(u64, u64)>,
 }
 
-/// Looks on and keeps what the stretch shows.
+/// Looks on and keeps what the stretch shows; the closest frame in any case.
 pub struct Recorder {
     pub stretch: Stretch,
+    closest: Option<Stay>,
     pub shown: Vec<Shown>,
 }
 
 impl Recorder {
-    pub fn new(stretch: Stretch, seen: &[Seen]) -> Recorder {
+    pub fn new(stretch: Stretch, hall: &Hall, closest: Option<Stay>) -> Recorder {
         Recorder {
             stretch,
-            shown: vec![Shown::default(); seen.len()],
+            closest,
+            shown: vec![Shown::default(); hall.queues.len()],
         }
     }
 }
@@ -74,7 +75,7 @@ impl Watch for Recorder {
             return;
         }
         let shown = &mut self.shown[stay.queue];
-        match shown.stays.len() < MOST_DRAWN {
+        match shown.stays.len() < MOST_DRAWN || self.closest.as_ref() == Some(stay) {
             true => shown.stays.push(*stay),
             false => shown.more += 1,
         }
