@@ -189,7 +189,7 @@ fn what_cannot_be_read_is_named() {
 #[test]
 fn misuse_ends_with_2() {
     let (two, sends) = (example("two-flows"), example("two-flows/sends.txt"));
-    let misused: [&[&str]; 8] = [
+    let misused: [&[&str]; 9] = [
         &[&two],
         &[&two, &sends, "--search"],
         &[&two, &sends, "--seconds", "3"],
@@ -207,6 +207,14 @@ fn misuse_ends_with_2() {
             "9",
         ],
         &[&two, "--search", "--tries", "many"],
+        &[
+            &two,
+            &sends,
+            "--page",
+            "/tmp/x.html",
+            "--to",
+            "18446744073709551615",
+        ],
     ];
     for words in misused {
         let outcome = call(&[&["traffic"], words].concat());
@@ -244,104 +252,4 @@ fn a_long_run_takes_seconds() {
         300_001
     );
     assert!(took.as_secs() < 10, "{took:?}");
-}
-
-#[test]
-fn the_search_writes_what_reproduces_its_stay() {
-    let folder = Temporary::new();
-    let out = folder.0.join("out").display().to_string();
-    for (hall, queue) in [("hall", None), ("shared", Some("3.1")), ("two-flows", None)] {
-        let place = example(hall);
-        let mut words = vec![
-            "traffic",
-            &place,
-            "--search",
-            "--seconds",
-            "600",
-            "--tries",
-            "300",
-            "--out",
-            &out,
-        ];
-        words.extend(queue.iter().flat_map(|queue| ["--queue", queue]));
-        let found = call(&words);
-        assert_eq!(found.status, Status::Fine, "{}", found.errors);
-        let again = call(&["traffic", &place, &out]);
-        assert_eq!(again.status, Status::Fine, "{}", again.errors);
-        assert_eq!(verdict(&again), verdict(&found));
-        // The search's own figure, `.. longest 246 of 371 µs at link 1 level 1`, is in the table.
-        let first = found.printed.lines().next().unwrap();
-        let (_, words) = first.split_once("longest ").unwrap();
-        let (stay, place) = words.split_once(" of ").unwrap();
-        let (_, place) = place.split_once(" at link ").unwrap();
-        let (link, level) = place.split_once(" level ").unwrap();
-        let row = format!("{link:>6}  {level:>5}");
-        let row = again
-            .printed
-            .lines()
-            .find(|line| line.starts_with(&row))
-            .unwrap();
-        assert_eq!(row.split_whitespace().nth(2), Some(stay), "{first}");
-    }
-    let printed = call(&[
-        "traffic",
-        &example("two-flows"),
-        "--search",
-        "--seconds",
-        "600",
-        "--tries",
-        "100",
-    ]);
-    assert!(
-        printed
-            .printed
-            .contains("\n0 8 1542\n1 7 1542\n\n2 frames of 2 flows"),
-        "{}",
-        printed.printed
-    );
-    ends(
-        &printed,
-        Status::Fine,
-        "no frame late; closest link 1 level 1, 246 of 371 µs",
-    );
-}
-
-/// The stored schedules of exercise four are what the search finds.
-#[test]
-fn the_near_schedules_are_found() {
-    let folder = Temporary::new();
-    let out = folder.0.join("out").display().to_string();
-    let shared = example("shared");
-    let words = [
-        "traffic",
-        &shared,
-        "--search",
-        "--seconds",
-        "600",
-        "--tries",
-        "2000",
-        "--out",
-        &out,
-    ];
-    let stored = |name: &str| std::fs::read_to_string(example(name)).unwrap();
-    let found = call(&words);
-    ends(
-        &found,
-        Status::Fine,
-        "no frame late; closest link 2 level 1, 156 of 164 µs",
-    );
-    assert_eq!(
-        std::fs::read_to_string(&out).unwrap(),
-        stored("shared/near-1.txt")
-    );
-    let found = call(&[&words[..], &["--queue", "1.2"]].concat());
-    ends(
-        &found,
-        Status::Fine,
-        "no frame late; closest link 1 level 2, 1,035 of 1,166 µs",
-    );
-    assert_eq!(
-        std::fs::read_to_string(&out).unwrap(),
-        stored("shared/near-2.txt")
-    );
 }

@@ -181,65 +181,76 @@ fn conforms_plainly(flow: &Flow, list: &[Send]) -> bool {
     })
 }
 
-/// Against the windows one by one and against the checker; the instant named is the first at
-/// which the frame may go.
+/// A flow and what its source sends; every other time some frames go too early.
+fn random_source(rng: &mut Rng) -> (Flow, Vec<sources::Send>) {
+    let rate = rng.pick(&[1, 7, 500, 1_000, 20_000, 900_000]);
+    let frame = rng.between(84, 1_542);
+    let one = flow(7, rate, frame + rng.between(0, 3_000), frame);
+    let pattern = Pattern::random(rng, 500);
+    let mut list = sources::sends(rng, 0, &one, pattern, 2_000);
+    list.truncate(60);
+    if rng.once_in(2) && !list.is_empty() {
+        let (at, by) = (rng.index(list.len()), rng.pick(&[1, 2, 30, 500]));
+        for send in &mut list[at..] {
+            send.instant = send.instant.saturating_sub(by);
+        }
+        list.sort_by_key(|send| send.instant);
+    }
+    (one, list)
+}
+
+/// The window is broken by that frame and no earlier one; the instant named is the first at which
+/// the frame may go. Lines are indices here.
+fn breach_is_right(one: &Flow, list: &[Send], breach: &Breach) {
+    let What::Window {
+        from,
+        to,
+        used,
+        allowed,
+        may_go,
+    } = breach.what
+    else {
+        panic!("{breach}");
+    };
+    let upto = &list[..=breach.line];
+    let inside = upto
+        .iter()
+        .filter(|send| (from..=to).contains(&send.instant));
+    assert_eq!(used, inside.map(|send| 8000 * send.bytes).sum::<u64>());
+    assert_eq!(allowed, 8000 * one.burst + one.rate * (to - from));
+    assert!(used > allowed && conforms_plainly(one, &upto[..breach.line]));
+    for (instant, passes) in [(may_go, true), (may_go - 1, false)] {
+        let mut moved = upto.to_vec();
+        moved[breach.line].instant = instant;
+        assert_eq!(conforms_plainly(one, &moved), passes, "{breach}");
+    }
+}
+
+/// Against the windows one by one and against the checker.
 #[test]
 fn conformance_is_that_of_all_windows() {
     let (mut kept, mut broken) = (0, 0);
     for index in 0..3_000 {
-        let mut rng = Rng::new(8, index);
-        let rate = rng.pick(&[1, 7, 500, 1_000, 20_000, 900_000]);
-        let frame = rng.between(84, 1_542);
-        let one = flow(7, rate, frame + rng.between(0, 3_000), frame);
-        let pattern = Pattern::random(&mut rng, 500);
-        let mut list = sources::sends(&mut rng, 0, &one, pattern, 2_000);
-        list.truncate(60);
-        if rng.once_in(2) && !list.is_empty() {
-            let (at, by) = (rng.index(list.len()), rng.pick(&[1, 2, 30, 500]));
-            for send in &mut list[at..] {
-                send.instant = send.instant.saturating_sub(by);
-            }
-            list.sort_by_key(|send| send.instant);
-        }
+        let (one, list) = random_source(&mut Rng::new(8, index));
         let of_course: Vec<Send> = list
             .iter()
             .enumerate()
-            .map(|(index, send)| Send {
+            .map(|(line, send)| Send {
                 instant: send.instant,
                 flow: 0,
                 bytes: send.bytes,
-                line: index,
+                line,
             })
             .collect();
         let found = breaches(std::slice::from_ref(&one), &of_course);
         assert_eq!(found.is_empty(), sources::conforms(&one, &list));
         assert_eq!(found.is_empty(), conforms_plainly(&one, &of_course));
-        let Some(breach) = found.first() else {
-            kept += 1;
-            continue;
-        };
-        broken += 1;
-        let What::Window {
-            from,
-            to,
-            used,
-            allowed,
-            may_go,
-        } = breach.what
-        else {
-            panic!("{breach}");
-        };
-        let upto = &of_course[..=breach.line];
-        let inside = upto
-            .iter()
-            .filter(|send| (from..=to).contains(&send.instant));
-        assert_eq!(used, inside.map(|send| 8000 * send.bytes).sum::<u64>());
-        assert_eq!(allowed, 8000 * one.burst + one.rate * (to - from));
-        assert!(used > allowed && conforms_plainly(&one, &upto[..breach.line]));
-        for (instant, passes) in [(may_go, true), (may_go - 1, false)] {
-            let mut moved = upto.to_vec();
-            moved[breach.line].instant = instant;
-            assert_eq!(conforms_plainly(&one, &moved), passes, "{breach}");
+        match found.first() {
+            None => kept += 1,
+            Some(breach) => {
+                broken += 1;
+                breach_is_right(&one, &of_course, breach);
+            }
         }
     }
     assert!(kept > 300 && broken > 300, "{kept} kept, {broken} broken");

@@ -8,10 +8,14 @@ use super::page::stretch::{Recorder, Stretch};
 use super::run::{self, Arrivals, Send};
 use super::{cannot_write, page, report, trace, usage, watch};
 use crate::arguments::Arguments;
-use crate::numbers::counted;
+use crate::numbers::{commas, counted};
 use crate::status::{Outcome, Status};
 use std::fs::File;
 use std::io::BufWriter;
+
+/// No run lasts longer, not even the most and largest frames that SENDS can ask for, sent at its last
+/// instant over 12 links of 1 Mbit/s.
+const LAST_INSTANT: u64 = 100_000_000_000_000;
 
 /// What one call of the command is to do, read and checked.
 pub struct Job<'a> {
@@ -63,7 +67,7 @@ impl Job<'_> {
         })
     }
 
-    /// `2 frames of 2 flows; of one instant the forwarded ones first`.
+    /// `2 frames of 2 flows; those of one instant: forwarded ones first`.
     fn summary(&self) -> String {
         let mut sending: Vec<usize> = self.sends.iter().map(|send| send.flow).collect();
         sending.sort_unstable();
@@ -114,15 +118,7 @@ impl Job<'_> {
             from: first,
             to: end.max(first),
         };
-        let mut stretch = Stretch::around(&self.hall, verdict.closest.as_ref(), whole);
-        stretch.from = self.arguments.number("--from")?.unwrap_or(stretch.from);
-        stretch.to = self
-            .arguments
-            .number("--to")?
-            .unwrap_or(stretch.to.max(stretch.from + 1));
-        if stretch.from >= stretch.to {
-            return Err(usage("--from must be before --to"));
-        }
+        let stretch = self.stretch(Stretch::around(&self.hall, verdict.closest.as_ref(), whole))?;
         let network = Network::new(&self.hall.queues, &self.hall.flows);
         let mut recorder = Recorder::new(stretch, &self.hall, verdict.closest);
         run::run(&network, &self.sends, self.arrivals.clone(), &mut recorder);
@@ -133,6 +129,23 @@ impl Job<'_> {
         };
         let html = page::page(&self.hall, seen, verdict, &recorder, &words);
         std::fs::write(path, html).map_err(|error| cannot_write(path, &error))
+    }
+
+    /// The stretch that the options choose, in place of the one at hand.
+    fn stretch(&self, usual: Stretch) -> Result<Stretch, Outcome> {
+        let chosen = |name: &str| match self.arguments.number(name)? {
+            Some(instant) if instant > LAST_INSTANT => {
+                let last = commas(LAST_INSTANT);
+                Err(usage(&format!("{name}: instants go to {last}")))
+            }
+            instant => Ok(instant),
+        };
+        let from = chosen("--from")?.unwrap_or(usual.from);
+        let to = chosen("--to")?.unwrap_or(usual.to.max(from + 1));
+        match from < to {
+            true => Ok(Stretch { from, to }),
+            false => Err(usage("--from must be before --to")),
+        }
     }
 }
 
