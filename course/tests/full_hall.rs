@@ -69,6 +69,11 @@ fn every_command_takes_less_than_a_second() {
         held.starts_with("after 256 orders: 256 of 256 places held, 1,024 of 1,024 hop entries"),
         "{held}"
     );
+    let next = course(&["explain", &hall, "--line", "257"]).printed;
+    assert!(
+        next.starts_with("line 257: 30 ") && next.contains("All 256 places are held."),
+        "{next}"
+    );
     let printed = plain::programs::admit(
         &std::fs::read(folder.0.join("table.txt")).unwrap(),
         &std::fs::read(folder.0.join("orders.txt")).unwrap(),

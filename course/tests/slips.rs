@@ -61,3 +61,44 @@ fn each_slip_is_recognised() {
     println!("by answer {by_answer:?}, by bounds {by_bounds:?}");
     assert!((0..6).all(|slip| by_answer[slip] + by_bounds[slip] > 0));
 }
+
+/// Each bound of a right sheet made one greater is wrong, and so is one where none is worked out.
+#[test]
+fn a_changed_bound_is_wrong() {
+    let made = make(3);
+    let folder = hall_folder(&made.table, &made.orders);
+    let session = Session::run(&folder).unwrap_or_else(|failed| panic!("{}", failed.errors));
+    let all = 1..=u64::MAX;
+    let mut changed = [0; 3];
+    for (index, step) in session.steps.iter().enumerate() {
+        let truth = Expected::of(&step.answer, step.work.as_ref(), &session.registry);
+        for (bound, count) in changed.iter_mut().enumerate() {
+            let mut rows = sheet(&session, Slips::NONE);
+            rows[index].bounds = truth.bounds;
+            assert!(marks(&session, &rows, &all)[index].right);
+            rows[index].bounds[bound] = Some(truth.bounds[bound].map_or(7, |value| value + 1));
+            assert!(
+                !marks(&session, &rows, &all)[index].right,
+                "line {}",
+                step.number
+            );
+            *count += usize::from(truth.bounds[bound].is_some());
+        }
+    }
+    assert!(changed.iter().all(|&count| count > 5), "{changed:?}");
+}
+
+/// The solution's question on line 26 of the example hall: a share left at link 2 by line 4.
+#[test]
+fn a_share_stored_early_refuses_one_link_too_soon() {
+    let read = |name: &str| std::fs::read(common::root().join("examples/hall").join(name)).unwrap();
+    let folder = hall_folder(&read("table.txt"), &read("orders.txt"));
+    let session = Session::run(&folder).unwrap_or_else(|failed| panic!("{}", failed.errors));
+    let (name, slips) = Slips::EACH[2];
+    assert!(slips.stored_early);
+    let rows = sheet(&session, slips);
+    assert_eq!(rows[25].answer, [22, 0, 2, 2]);
+    assert_eq!(rows[25].bounds[0], Some(1_837));
+    let found = marks(&session, &rows, &(1..=u64::MAX));
+    assert_eq!(found[25].slips, [name]);
+}

@@ -91,10 +91,11 @@ fn out_of_step(faults: &[Fault]) -> bool {
 
 /// Where a line would be right with some blanks more or fewer before one field: that, and the line so mended.
 fn shift(line: &[u8], faults: &[Fault], reader: &Reader) -> Option<(Mistake, Vec<u8>)> {
-    let wrong = |fault: &&Fault| fault.class() == Class::Columns;
+    // Where all fields can be read, what is too much stands behind them.
+    let misread = |fault: &&Fault| fault.class() == Class::Columns && !fault.field.is_empty();
     let first = faults
         .iter()
-        .filter(wrong)
+        .filter(misread)
         .map(|fault| fault.column)
         .min()?;
     let before = reader.fields.iter().filter(|field| field.first <= first);

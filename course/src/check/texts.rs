@@ -58,14 +58,17 @@ pub fn orders(text: &[u8]) -> Vec<Mistake> {
     if count > MOST_ORDER_LINES {
         found.push(size("lines", count, MOST_ORDER_LINES));
     }
+    if !found.is_empty() {
+        // Refused for its size, it isn't read.
+        return found;
+    }
     let fields = orders::all_fields();
     let all = |line: &Line| orders::examine(line).err().unwrap_or_default();
     let reader = Reader {
         faults: &all,
         fields: &fields,
     };
-    found.extend(by_line(text, |line| mistakes(line, &reader)));
-    found
+    by_line(text, |line| mistakes(line, &reader))
 }
 
 fn size(what: &str, found: usize, most: usize) -> Mistake {

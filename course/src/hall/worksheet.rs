@@ -5,15 +5,14 @@ use crate::folder::Folder;
 use crate::mark::slips::Expected;
 use crate::session::{walk, Session};
 use crate::status::Outcome;
-use crate::titles::{link_title, named, order_title};
-use plain::orders::Order;
+use crate::titles::{link_title, named};
 use plain::table::{read_table, Of, Queue, ENTRIES};
 
-/// The orders in words and a row to fill in for each.
+/// The queues in words, and each order line with a row to fill in.
 pub fn worksheet(folder: &Folder, seed: u64, first_part: usize) -> Result<String, Outcome> {
     let session = Session::run(folder)?;
     let mut text = format!(
-        "# A bottling hall (seed {seed}). Fill in a row for each order: line, code, place, link, level and,\n\
+        "# A bottling hall (seed {seed}). Below each order line fill in its row: line, code, place, link, level and,\n\
          # where they are worked out, delay and backlog (`course mark --help` says at which queue).\n#\n\
          # The queues\n"
     );
@@ -27,16 +26,9 @@ pub fn worksheet(folder: &Folder, seed: u64, first_part: usize) -> Result<String
                 session.steps.len()
             );
         }
-        let flow = match &step.order {
-            Ok(Order::Register(flow)) => Some(flow),
-            _ => None,
-        };
-        let words = match &step.order {
-            Ok(_) => order_title(&step.text, flow),
-            Err(_) => format!("`{}`", String::from_utf8_lossy(&step.text)),
-        };
+        let line = String::from_utf8_lossy(&step.text);
         text += &format!(
-            "# {words}\n{:>6} ___ ____ ____ __ ______ ________\n",
+            "#{line}\n{:>6} ___ ____ ____ __ ______ ________\n",
             step.number
         );
     }

@@ -14,14 +14,14 @@ use halls::rng::Rng;
 use halls::tables::link_levels;
 use plain::causes;
 use plain::columns::lines;
-use plain::formula::{backlog, delay};
 use plain::orders::{read_order, Flow};
 use plain::programs::{begin, MOST_ORDER_BYTES, MOST_ORDER_LINES};
 use plain::registry::Registry;
 use plain::table::{read_table, Queue};
 use std::collections::BTreeSet;
 
-/// What `bounds` should print of a queue: rate, burst, frame, then Res, Y, delay and backlog where it carries a flow.
+/// What `bounds` should print of a queue: rate, burst, frame, then Res, Y, delay and backlog where it carries a flow; the
+/// formulas are written out once more.
 fn figures(registry: &Registry, queue: &Queue) -> Vec<u128> {
     let flows: Vec<&Flow> = registry.held();
     let levels = link_levels(&registry.queues, &flows, queue.link);
@@ -33,8 +33,10 @@ fn figures(registry: &Registry, queue: &Queue) -> Vec<u128> {
         let bursts: u128 = levels[..p].iter().map(|level| level.burst).sum();
         let below = levels[p + 1..].iter().map(|level| level.frame).max();
         let ahead = bursts + below.unwrap_or(0) + own.frame;
-        numbers.extend([1000 * speed - above, ahead, delay(speed, &levels, p)]);
-        numbers.push(backlog(speed, &levels, p));
+        let residual = 1000 * speed - above;
+        let delay = (8000 * (ahead + own.burst)).div_ceil(residual);
+        let backlog = own.burst + (own.rate * ahead).div_ceil(residual);
+        numbers.extend([residual, ahead, delay, backlog]);
     }
     numbers
 }
@@ -153,7 +155,7 @@ fn mistakes_are_what_a_batch_refuses() {
         seen.extend(same_table(&table, &of_table, index));
         seen.insert(same_orders(&orders, &of_orders, index));
     }
-    assert_eq!(seen.len(), 4, "{seen:?}");
+    assert_eq!(seen.len(), 5, "{seen:?}");
 }
 
 /// The lines, counted from 1, that a batch answers with 10 or 11.
@@ -188,11 +190,13 @@ fn same_orders(orders: &[u8], found: &[Mistake], index: u64) -> &'static str {
         faulty.is_empty() && !size,
         "orders {index}"
     );
-    assert_eq!(
-        found.iter().any(|one| one.line == 0),
-        size,
-        "orders {index}"
-    );
+    let whole = found.iter().any(|one| one.line == 0);
+    assert_eq!(whole, size, "orders {index}");
+    if size {
+        // Refused for its size, it isn't read.
+        assert!(found.iter().all(|one| one.line == 0), "orders {index}");
+        return "41";
+    }
     if all.len() > 1 && all.iter().all(|line| line.bytes.ends_with(b"\r")) {
         // Said once, of the first line.
         return "CR LF";

@@ -1,0 +1,177 @@
+//! What a judged registration shows of its sums, by document 01's hand sums; what each slip makes of them; all faults of a line.
+
+use plain::columns::lines;
+use plain::faults::{first_class, Class, What};
+use plain::formula::Aggregate;
+use plain::orders::{examine, Flow, Hop};
+use plain::registry::Registry;
+use plain::slips::Slips;
+use plain::table::Queue;
+use plain::work::Work;
+
+/// Links in a row at 100 Mbit/s, each with these levels' thresholds and buffers.
+fn row(links: u64, levels: &[(u64, u64)]) -> Vec<Queue> {
+    let mut queues = Vec::new();
+    for link in 1..=links {
+        for (index, &(threshold, buffer)) in levels.iter().enumerate() {
+            queues.push(Queue {
+                link,
+                from: link,
+                to: link + 1,
+                speed: 100,
+                level: index as u64 + 1,
+                threshold,
+                buffer,
+            });
+        }
+    }
+    queues
+}
+
+/// Document 01's flow: rate 1,000, burst and frame 1,542.
+fn flow(number: u64, links: u64, level: u64) -> Flow {
+    Flow {
+        number,
+        rate: 1_000,
+        burst: 1_542,
+        frame: 1_542,
+        deadline: 10_000,
+        hops: (1..=links).map(|link| Hop { link, level }).collect(),
+    }
+}
+
+fn bounds(work: &Work, link: usize, level: usize) -> (u128, u128) {
+    let found = work.links[link - 1].levels[level - 1].bounds.unwrap();
+    (found.delay, found.backlog)
+}
+
+#[test]
+fn the_sums_of_document_01() {
+    let mut registry = Registry::over(row(1, &[(400, 2_000), (400, 2_000)]));
+    let first = registry.judge(&flow(7, 1, 1));
+    assert_eq!(first.refused, None);
+    assert_eq!(bounds(&first, 1, 1), (247, 1_558));
+    assert_eq!(first.links[0].levels[1].bounds, None);
+    registry.put_in(&flow(7, 1, 1));
+    let second = registry.judge(&flow(8, 1, 2));
+    assert_eq!((second.held, second.thresholds()), ((1, 1), 400));
+    assert_eq!(bounds(&second, 1, 1), (371, 1_573));
+    assert_eq!(bounds(&second, 1, 2), (374, 1_574));
+    let below = second.links[0].levels[1].bounds.unwrap().sums;
+    assert_eq!(
+        (below.residual, below.above, below.below),
+        (99_000, 1_542, 0)
+    );
+    assert_eq!(second.deciding().unwrap().queue.level, 2);
+}
+
+fn bursts(slips: Slips) -> Vec<u128> {
+    let registry = Registry::slipping(row(3, &[(371, 5_000)]), slips);
+    let work = registry.judge(&flow(7, 3, 1));
+    work.hops.iter().map(|hop| hop.share.burst).collect()
+}
+
+#[test]
+fn bursts_along_a_path() {
+    assert_eq!(bursts(Slips::NONE), [1_542, 1_589, 1_635]);
+    let source = Slips {
+        source_burst: true,
+        ..Slips::NONE
+    };
+    assert_eq!(bursts(source), [1_542, 1_542, 1_542]);
+    let each = Slips {
+        rounded_each_hop: true,
+        ..Slips::NONE
+    };
+    assert_eq!(bursts(each), [1_542, 1_589, 1_636]);
+}
+
+#[test]
+fn a_fraction_dropped() {
+    let dropped = Slips {
+        fraction_dropped: true,
+        ..Slips::NONE
+    };
+    let queues = row(1, &[(246, 2_000)]);
+    let code = |slips| {
+        Registry::slipping(queues.clone(), slips)
+            .judge(&flow(7, 1, 1))
+            .refused
+    };
+    assert_eq!(code(Slips::NONE).map(|answer| answer.code), Some(22));
+    assert_eq!(code(dropped), None);
+}
+
+/// A release by the rules leaves nothing; with the slip it leaves the largest frame and nothing else.
+#[test]
+fn what_a_release_leaves() {
+    let left = Slips {
+        frame_left: true,
+        ..Slips::NONE
+    };
+    for (slips, frame) in [(Slips::NONE, 0), (left, 1_542)] {
+        let mut registry = Registry::slipping(row(1, &[(400, 2_000)]), slips);
+        registry.put_in(&flow(7, 1, 1));
+        registry.take_out(7);
+        let (_, figures) = registry.figures(1, None).remove(0);
+        assert_eq!(
+            figures,
+            Aggregate {
+                frame,
+                ..Aggregate::default()
+            }
+        );
+    }
+}
+
+/// A refusal at the second link leaves nothing by the rules, with the slip the share at the first.
+#[test]
+fn what_a_refusal_leaves() {
+    let early = Slips {
+        stored_early: true,
+        ..Slips::NONE
+    };
+    let mut queues = row(2, &[(400, 2_000)]);
+    queues[1].threshold = 200;
+    for (slips, burst) in [(Slips::NONE, 0), (early, 1_542)] {
+        let mut registry = Registry::slipping(queues.clone(), slips);
+        let line = plain::orders::write_registration(&flow(7, 2, 1));
+        let answer = registry.register(&line);
+        assert_eq!((answer.code, answer.link), (22, 2));
+        let sums: Vec<u128> = [1, 2]
+            .map(|link| registry.figures(link, None)[0].1.burst)
+            .into();
+        assert_eq!(sums, [burst, 0]);
+        assert!(registry.held().is_empty());
+    }
+}
+
+#[test]
+fn levels_above_are_checked() {
+    let below = Slips {
+        only_below: true,
+        ..Slips::NONE
+    };
+    let mut registry = Registry::over(row(1, &[(370, 2_000), (400, 2_000)]));
+    registry.put_in(&flow(7, 1, 1));
+    let refused = registry.judge(&flow(8, 1, 2)).refused.unwrap();
+    assert_eq!((refused.code, refused.link, refused.level), (22, 1, 1));
+    registry.slips = below;
+    assert_eq!(registry.judge(&flow(8, 1, 2)).refused, None);
+}
+
+#[test]
+fn all_faults_of_a_line() {
+    let text = b" 1     0     1,00    1542 1543   10000  1   1 1\n";
+    let faults = examine(&lines(text)[0]).unwrap_err();
+    let found: Vec<(usize, &str)> = faults
+        .iter()
+        .map(|fault| (fault.column, fault.field))
+        .collect();
+    assert_eq!(
+        found,
+        [(3, "flow number"), (15, "rate"), (26, "largest frame")]
+    );
+    assert_eq!(faults[1].what, What::Byte(b','));
+    assert_eq!(first_class(&faults), Some(Class::Columns));
+}
