@@ -1,7 +1,7 @@
 //! A hall with the flows that are held after its orders, and the bounds of its queues.
 
 use halls::tables::link_levels;
-use plain::formula::{backlog, delay};
+use plain::formula::{backlog, delay, Aggregate};
 use plain::orders::Flow;
 use plain::registry::path_thresholds;
 use plain::table::Queue;
@@ -13,6 +13,19 @@ pub struct Bounds {
     pub delay: u64,
     /// Bytes.
     pub backlog: u64,
+}
+
+/// The bounds of a link's levels with these figures.
+fn link_bounds(link: &[Queue], levels: &[Aggregate]) -> Vec<Option<Bounds>> {
+    let speed = u128::from(link[0].speed);
+    let bounds = |level: usize| Bounds {
+        delay: delay(speed, levels, level) as u64,
+        backlog: backlog(speed, levels, level) as u64,
+    };
+    let carries = |level: &usize| !levels[*level].is_empty();
+    (0..link.len())
+        .map(|level| Some(level).filter(carries).map(bounds))
+        .collect()
 }
 
 pub struct Hall {
@@ -27,15 +40,8 @@ impl Hall {
     pub fn new(queues: Vec<Queue>, flows: Vec<Flow>) -> Hall {
         let held: Vec<&Flow> = flows.iter().collect();
         let bounds = queues
-            .iter()
-            .map(|queue| {
-                let levels = link_levels(&queues, &held, queue.link);
-                let (speed, level) = (u128::from(queue.speed), queue.level as usize - 1);
-                (levels[level].rate > 0).then(|| Bounds {
-                    delay: delay(speed, &levels, level) as u64,
-                    backlog: backlog(speed, &levels, level) as u64,
-                })
-            })
+            .chunk_by(|queue, next| queue.link == next.link)
+            .flat_map(|link| link_bounds(link, &link_levels(&queues, &held, link[0].link)))
             .collect();
         Hall {
             queues,
