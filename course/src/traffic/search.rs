@@ -102,6 +102,9 @@ impl<'a> Search<'a> {
         let mut known: Vec<Option<Sources>> = vec![None; self.hall.queues.len()];
         while !targets.is_empty() && !self.over(limits) {
             for &queue in &targets {
+                if self.best.is_some() && self.over(limits) {
+                    break;
+                }
                 let start = match known[queue].take() {
                     Some(sources) if !self.rng.once_in(3) => sources,
                     _ => self.aligned(queue),

@@ -60,8 +60,10 @@ pub fn link(
     y = time(&mut lanes.drawing, scale, y);
     let Stretch { from, to } = scale.stretch;
     let name = format!(
-        "link {}, instants {from} to {to}",
-        hall.queues[queues[0]].link
+        "link {}, instants {} to {}",
+        hall.queues[queues[0]].link,
+        commas(from),
+        commas(to)
     );
     lanes.drawing.finish(y, &name)
 }
