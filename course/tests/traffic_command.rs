@@ -232,7 +232,7 @@ fn misuse_ends_with_2() {
         .starts_with("course "));
 }
 
-/// 10 s of hall time with 100,000 frames, two thirds of them over three hops. The bar is generous:
+/// 10 s of hall time with 100,000 frames, each over three hops. The bar is generous:
 /// the machine may do other work.
 #[test]
 fn a_long_run_takes_seconds() {

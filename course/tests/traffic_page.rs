@@ -3,179 +3,14 @@
 mod common;
 
 use checker::simulate;
+use common::pages::{check, drawn_by, made};
 use common::tags::{well_formed, Tag};
-use common::{course as call, example, Temporary};
-use course::numbers::commas;
-use course::status::{Outcome, Status};
+use common::{course as call, Temporary};
+use course::status::Status;
 use halls::rng::Rng;
 use halls::tables::{full_ring, loose, table_text, Shape};
 use plain::orders::{write_registration, Flow, Hop};
 use plain::table::Queue;
-use std::collections::{BTreeMap, BTreeSet};
-
-/// A trace's columns: flow, frame, link, level, came, started, started_bit, gone, stay, threshold, bytes.
-type Row = [u64; 11];
-
-fn trace_rows(text: &str) -> Vec<Row> {
-    let mut lines = text.lines();
-    let header =
-        "flow\tframe\tlink\tlevel\tcame\tstarted\tstarted_bit\tgone\tstay\tthreshold\tbytes";
-    assert_eq!(lines.next(), Some(header));
-    let row = |line: &str| {
-        let numbers: Vec<u64> = line.split('\t').map(|word| word.parse().unwrap()).collect();
-        Row::try_from(numbers).unwrap()
-    };
-    lines.map(row).collect()
-}
-
-/// Longest stay and greatest backlog of each queue, from the trace alone: bytes of the frames that
-/// have come and are not gone, after each instant's arrivals.
-fn figures(rows: &[Row]) -> BTreeMap<(u64, u64), (u64, u64)> {
-    let mut found: BTreeMap<(u64, u64), (u64, u64)> = BTreeMap::new();
-    for row in rows {
-        let [_, _, link, level, came, _, _, gone, stay, _, _] = *row;
-        assert_eq!(stay, gone - came);
-        let held = rows.iter().filter(|other| {
-            (other[2], other[3]) == (link, level) && (other[4]..other[7]).contains(&came)
-        });
-        let backlog: u64 = held.map(|other| other[10]).sum();
-        let most = found.entry((link, level)).or_default();
-        *most = (most.0.max(stay), most.1.max(backlog));
-    }
-    found
-}
-
-struct Made {
-    page: String,
-    rows: Vec<Row>,
-    verdict: String,
-    printed: String,
-}
-
-/// An example's page and trace.
-fn made(folder: &str, sends: &str, options: &[&str], status: Status) -> Made {
-    let place = Temporary::new();
-    let outcome_of = |words: &[&str]| call(&[words, options].concat());
-    drawn_by(
-        &place,
-        &example(folder),
-        &example(sends),
-        status,
-        outcome_of,
-    )
-}
-
-/// A hall's page and trace, by a call of the program.
-fn drawn_by(
-    place: &Temporary,
-    folder: &str,
-    sends: &str,
-    status: Status,
-    call: impl Fn(&[&str]) -> Outcome,
-) -> Made {
-    let path = |file: &str| place.0.join(file).display().to_string();
-    let (page, trace) = (path("page.html"), path("trace.tsv"));
-    let outcome = call(&["traffic", folder, sends, "--page", &page, "--trace", &trace]);
-    assert_eq!(outcome.status, status, "{}", outcome.errors);
-    Made {
-        page: std::fs::read_to_string(page).unwrap(),
-        rows: trace_rows(&std::fs::read_to_string(trace).unwrap()),
-        verdict: outcome.printed.lines().last().unwrap().to_string(),
-        printed: outcome.printed,
-    }
-}
-
-/// The frames drawn are those of the trace that meet the stretch, number by number.
-fn frames_agree(made: &Made, tags: &[Tag]) {
-    let stretch = tags
-        .iter()
-        .find(|tag| tag.get("id") == Some("stretch"))
-        .unwrap();
-    let (from, to) = (stretch.number("data-from"), stretch.number("data-to"));
-    let names = [
-        "flow",
-        "frame",
-        "link",
-        "level",
-        "came",
-        "started",
-        "bit",
-        "gone",
-        "stay",
-        "threshold",
-        "bytes",
-    ];
-    let drawn: BTreeSet<Row> = tags
-        .iter()
-        .filter(|tag| tag.get("class") == Some("frame"))
-        .map(|tag| names.map(|name| tag.number(&format!("data-{name}"))))
-        .collect();
-    let meeting = made
-        .rows
-        .iter()
-        .filter(|row| row[4] <= to && row[7] >= from);
-    let meeting: BTreeSet<Row> = meeting.copied().collect();
-    // A lane with very many says how many more there are.
-    let left_out = tags.iter().filter(|tag| tag.get("data-more").is_some());
-    let left_out: u64 = left_out.map(|tag| tag.number("data-more")).sum();
-    assert_eq!(drawn.len() as u64 + left_out, meeting.len() as u64);
-    assert!(!drawn.is_empty() && drawn.is_subset(&meeting));
-}
-
-/// The table's numbers, as data and as text, are those of the trace.
-fn table_agrees(made: &Made, tags: &[Tag]) {
-    let known = figures(&made.rows);
-    let rows: Vec<&Tag> = tags
-        .iter()
-        .filter(|tag| tag.name == "tr" && tag.get("data-link").is_some())
-        .collect();
-    let mut met = 0;
-    for row in rows {
-        let (link, level) = (row.number("data-link"), row.number("data-level"));
-        let (stay, backlog) = known.get(&(link, level)).copied().unwrap_or_default();
-        assert_eq!(
-            (row.number("data-stay"), row.number("data-backlog")),
-            (stay, backlog)
-        );
-        let start = format!("data-link=\"{link}\" data-level=\"{level}\" data-stay=\"{stay}\"");
-        let line = made
-            .page
-            .lines()
-            .find(|line| line.starts_with("<tr") && line.contains(&start))
-            .unwrap();
-        let cells: Vec<&str> = line
-            .split("<td>")
-            .skip(1)
-            .map(|cell| cell.split("</td>").next().unwrap())
-            .collect();
-        let shown = if known.contains_key(&(link, level)) {
-            commas(stay)
-        } else {
-            "-".to_string()
-        };
-        assert_eq!(&cells[..3], [&link.to_string(), &level.to_string(), &shown]);
-        assert_eq!(cells[5], commas(backlog));
-        assert!(made.printed.contains(cells[7]));
-        met += usize::from(known.contains_key(&(link, level)));
-    }
-    assert_eq!(met, known.len());
-}
-
-fn check(made: &Made) {
-    let tags = well_formed(&made.page).unwrap_or_else(|why| panic!("{why}"));
-    frames_agree(made, &tags);
-    table_agrees(made, &tags);
-    assert!(made
-        .page
-        .contains(&format!("id=\"verdict\">{}</p>", made.verdict)));
-    for outside in ["http", "<script", "src=", "href=", "@import", "<link"] {
-        assert!(!made.page.contains(outside), "{outside}");
-    }
-    assert_eq!(
-        made.page.matches("url(").count(),
-        made.page.matches("url(#tip)").count()
-    );
-}
 
 #[test]
 fn the_pages_figures_are_those_of_the_trace() {
@@ -219,6 +54,49 @@ fn a_long_run_shows_the_stretch_around_the_closest_frame() {
         check(&chosen);
         let stretch = format!("data-from=\"{from}\" data-to=\"{to}\"");
         assert!(chosen.page.contains(&stretch));
+    }
+}
+
+/// The two frames of document 01's flows: each bar begins and ends at its instant, and the backlog
+/// is as high as its share of the buffer.
+#[test]
+fn bars_lie_where_their_instants_are() {
+    let options = ["--from", "0", "--to", "400"];
+    let made = made("two-flows", "two-flows/sends.txt", &options, Status::Fine);
+    let tags = well_formed(&made.page).unwrap();
+    let size = |tag: &Tag, name: &str| tag.get(name).unwrap().parse::<f64>().unwrap();
+    let lane = tags
+        .iter()
+        .find(|tag| tag.get("class") == Some("lane"))
+        .unwrap();
+    let (left, across) = (size(lane, "x"), size(lane, "width"));
+    let instants = |tag: &Tag| {
+        let at = |x: f64| (x - left) / across * 400.0;
+        let (x, width) = (size(tag, "x"), size(tag, "width"));
+        [at(x), at(x + width)].map(|instant| (instant * 10.0).round() / 10.0)
+    };
+    let bars_of = |flow: &str| {
+        let of_flow = |tag: &Tag| tag.name == "g" && tag.get("data-flow") == Some(flow);
+        let group = tags.iter().position(of_flow).unwrap();
+        let bars = tags[group + 1..].iter().filter(|tag| tag.name == "rect");
+        bars.take(3).map(instants).collect::<Vec<_>>()
+    };
+    // Threshold, waiting, sending; flow 8 doesn't wait.
+    assert_eq!(bars_of("7"), [[1.0, 372.0], [1.0, 123.4], [123.4, 246.7]]);
+    assert_eq!(bars_of("8")[..2], [[0.0, 374.0], [0.0, 123.4]]);
+    let charts = tags
+        .iter()
+        .filter(|tag| tag.get("class") == Some("backlog"));
+    for chart in charts {
+        let points = chart.get("d").unwrap().split(['M', 'L', 'V', 'Z']);
+        let heights = points.filter_map(|point| point.split(' ').nth(1)?.parse::<f64>().ok());
+        let heights: Vec<f64> = heights.collect();
+        let top = heights.iter().copied().fold(f64::MAX, f64::min);
+        // 1,542 of 2,000 bytes, of 28 units.
+        assert!(
+            (heights[0] - top - 28.0 * 0.771).abs() < 0.02,
+            "{heights:?}"
+        );
     }
 }
 
