@@ -5,7 +5,7 @@ use super::svg::{Drawing, WIDTH};
 use crate::numbers::commas;
 use plain::table::Queue;
 
-pub const LEFT: f64 = 70.0;
+pub const LEFT: f64 = 78.0;
 pub const RIGHT: f64 = WIDTH - 10.0;
 const CHART: f64 = 30.0;
 
