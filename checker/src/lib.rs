@@ -13,7 +13,6 @@ pub mod rounds;
 pub mod sim;
 pub mod simulate;
 pub mod stack;
-pub mod traffic;
 pub mod vectors;
 pub mod versions;
 pub mod views;

@@ -2,17 +2,10 @@
 //! strict priority, first in first out, never idle while a frame waits, never breaking off a frame.
 
 use halls::rng::Rng;
+use halls::sources::Send;
 use plain::orders::Flow;
 use plain::table::Queue;
 use std::collections::VecDeque;
-
-/// A frame that a source adds.
-#[derive(Clone, Copy)]
-pub struct Send {
-    pub instant: u64,
-    pub flow: usize,
-    pub bytes: u64,
-}
 
 struct Frame {
     flow: usize,
@@ -52,6 +45,17 @@ pub enum Arrivals {
     SourcesLast,
     Shuffled,
 }
+
+/// Who looks on, instant by instant.
+pub trait Observer {
+    /// A queue that holds frames, after the instant's arrivals.
+    fn holds(&mut self, _instant: u64, _queue: usize, _frames: usize, _bytes: u64) {}
+    /// A frame of a flow that reached the queue at one instant has left it at another.
+    fn left(&mut self, _queue: usize, _flow: usize, _reached: u64, _gone: u64) {}
+}
+
+/// Nobody.
+impl Observer for () {}
 
 pub struct Network<'a> {
     queues: &'a [Queue],
@@ -106,10 +110,21 @@ impl<'a> Network<'a> {
 
     /// Runs until every frame has left; `sends` is sorted by instant.
     pub fn run(
+        self,
+        sends: &[Send],
+        arrivals: Arrivals,
+        rng: &mut Rng,
+    ) -> Result<Vec<Seen>, Fault> {
+        self.run_before(sends, arrivals, rng, &mut ())
+    }
+
+    /// The same run with somebody looking on.
+    pub fn run_before(
         mut self,
         sends: &[Send],
         arrivals: Arrivals,
         rng: &mut Rng,
+        observer: &mut impl Observer,
     ) -> Result<Vec<Seen>, Fault> {
         let mut next = 0;
         let mut instant = sends.first().map_or(0, |send| send.instant);
@@ -136,7 +151,7 @@ impl<'a> Network<'a> {
                 self.backlog[queue] += frame.bytes;
                 self.waiting[queue].push_back(frame);
             }
-            let busy = self.look(instant)?;
+            let busy = self.look(instant, observer)?;
             if !busy {
                 match sends.get(next) {
                     None => return Ok(self.seen),
@@ -145,20 +160,22 @@ impl<'a> Network<'a> {
                 continue;
             }
             for port in 0..self.ports.len() {
-                self.send_until(port, instant + 1, &mut arriving);
+                self.send_until(port, instant + 1, &mut arriving, observer);
             }
             instant += 1;
         }
     }
 
     /// Compares each queue with its limits at an instant; true if a frame waits anywhere.
-    fn look(&mut self, instant: u64) -> Result<bool, Fault> {
+    fn look(&mut self, instant: u64, observer: &mut impl Observer) -> Result<bool, Fault> {
         let mut busy = false;
         for (queue, limits) in self.queues.iter().enumerate() {
             let Some(oldest) = self.waiting[queue].front() else {
                 continue;
             };
             busy = true;
+            let frames = self.waiting[queue].len();
+            observer.holds(instant, queue, frames, self.backlog[queue]);
             if instant - oldest.reached >= limits.threshold {
                 return Err(Fault::Late { queue, instant });
             }
@@ -171,7 +188,13 @@ impl<'a> Network<'a> {
     }
 
     /// One link from the instant before `end` to `end`; frames that wholly left go on at `end`.
-    fn send_until(&mut self, port: usize, end: u64, arriving: &mut Vec<Frame>) {
+    fn send_until(
+        &mut self,
+        port: usize,
+        end: u64,
+        arriving: &mut Vec<Frame>,
+        observer: &mut impl Observer,
+    ) {
         let port = &mut self.ports[port];
         let mut left = port.speed;
         while left > 0 {
@@ -196,6 +219,7 @@ impl<'a> Network<'a> {
                 break;
             };
             self.backlog[queue] -= frame.bytes;
+            observer.left(queue, frame.flow, frame.reached, end);
             self.seen[queue].stay = self.seen[queue].stay.max(end - frame.reached);
             if frame.hop + 1 < self.routes[frame.flow].len() {
                 arriving.push(Frame {

@@ -1,10 +1,10 @@
 //! Sets traffic on admitted flows over tables whose thresholds and buffers are the bounds, and
 //! looks for the longest stay and the greatest backlog by changing one source after the other.
 
-use crate::sim::{Arrivals, Fault, Network, Seen, Send};
-use crate::traffic::{conforms, sends, Pace, Pattern, Sizes};
+use crate::sim::{Arrivals, Fault, Network, Seen};
 use halls::orders::{flow, Demand};
 use halls::rng::Rng;
+use halls::sources::{conforms, sends, Pace, Pattern, Send, Sizes};
 use halls::tables::{loose, table_text, tighten, tighten_deadlines, Shape};
 use plain::orders::{write_registration, Flow, Hop};
 use plain::registry::Registry;

@@ -1,10 +1,10 @@
 //! The short seeded runs, and the simulator on runs small enough to follow by hand.
 
 use checker::rounds::Bars;
-use checker::sim::{Arrivals, Fault, Network, Seen, Send};
-use checker::traffic::{conforms, sends, Pace, Pattern, Sizes};
+use checker::sim::{Arrivals, Fault, Network, Seen};
 use checker::{compare, simulate, vectors};
 use halls::rng::Rng;
+use halls::sources::{conforms, sends, Pace, Pattern, Send, Sizes};
 use plain::orders::{Flow, Hop};
 use plain::table::Queue;
 use std::path::Path;

@@ -12,6 +12,7 @@ pub mod numbers;
 pub mod session;
 pub mod status;
 pub mod titles;
+pub mod traffic;
 
 use arguments::Command;
 use status::{Outcome, Status};
@@ -23,6 +24,7 @@ pub const COMMANDS: &[&Command] = &[
     &bounds::COMMAND,
     &mark::COMMAND,
     &hall::COMMAND,
+    &traffic::COMMAND,
 ];
 
 pub fn version() -> String {

@@ -3,6 +3,8 @@
 mod common;
 
 use common::{course, Temporary};
+use course::folder::Folder;
+use course::session::Session;
 use course::status::Status;
 use halls::rng::Rng;
 use halls::tables::{full_ring, table_text, MOST_BUFFER, MOST_THRESHOLD};
@@ -60,6 +62,16 @@ fn time() -> Duration {
     nanoseconds.map_or(clock, Duration::from_nanos)
 }
 
+/// Every held flow as greedy as it may be, for 20 ms.
+fn greedy(folder: &Temporary) -> String {
+    let read = Folder::read(&folder.word()).unwrap();
+    let registry = Session::run(&read).unwrap().registry;
+    let held = registry.held();
+    assert!(held.len() > 200, "{}", held.len());
+    let line = |flow: &&Flow| format!("greedy {} from 0 to 20000\n", flow.number);
+    held.iter().map(line).collect()
+}
+
 #[test]
 fn every_command_takes_less_than_a_second() {
     let folder = full();
@@ -86,7 +98,9 @@ fn every_command_takes_less_than_a_second() {
     }
     let wrong = folder.write("wrong.txt", &wrong);
     let out = folder.0.join("made").display().to_string();
-    let commands: [(&[&str], Status); 7] = [
+    let sends = folder.write("sends.txt", greedy(&folder).as_bytes());
+    let page = folder.0.join("page.html").display().to_string();
+    let commands: [(&[&str], Status); 8] = [
         (&["check", &hall], Status::Fine),
         (&["explain", &hall], Status::Fine),
         (&["explain", &hall, "--line", "256"], Status::Fine),
@@ -94,6 +108,7 @@ fn every_command_takes_less_than_a_second() {
         (&["mark", &hall, &sheet], Status::Fine),
         (&["mark", &hall, &wrong], Status::Wrong),
         (&["hall", "--seed", "1", "--out", &out], Status::Fine),
+        (&["traffic", &hall, &sends, "--page", &page], Status::Fine),
     ];
     for (words, status) in commands {
         let start = time();

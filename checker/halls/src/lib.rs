@@ -1,7 +1,8 @@
-//! Inputs of the comparison runs, by seed: whole batches with every code in reach.
+//! Inputs of the comparison runs, by seed: whole batches with every code in reach; sources that keep to their bucket.
 
 pub mod orders;
 pub mod rng;
+pub mod sources;
 pub mod tables;
 
 use orders::{flow, one_byte, order_lines, walk, Demand, Mix, LIKE_THE_SUMS, SMALL, WIDE};

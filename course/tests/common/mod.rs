@@ -1,6 +1,9 @@
 //! What the tests share: commands run in process, folders that go when their test ends.
 #![allow(dead_code)]
 
+pub mod pages;
+pub mod tags;
+
 use course::folder::Folder;
 use course::status::Outcome;
 use std::fs;
@@ -18,6 +21,11 @@ pub fn root() -> PathBuf {
 
 pub fn hall() -> String {
     root().join("examples/hall").display().to_string()
+}
+
+/// A file or folder of the examples.
+pub fn example(path: &str) -> String {
+    root().join("examples").join(path).display().to_string()
 }
 
 pub fn hall_folder(table: &[u8], orders: &[u8]) -> Folder {

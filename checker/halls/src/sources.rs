@@ -1,10 +1,18 @@
 //! Sources that keep to their token bucket and make the most of it.
 
-use crate::sim::Send;
-use halls::rng::Rng;
+use crate::rng::Rng;
 use plain::orders::Flow;
 
 pub const SMALLEST_FRAME: u64 = 84;
+
+/// A frame that a source adds.
+#[derive(Clone, Copy)]
+pub struct Send {
+    pub instant: u64,
+    /// Index in the list of flows.
+    pub flow: usize,
+    pub bytes: u64,
+}
 
 #[derive(Clone, Copy)]
 pub enum Sizes {

@@ -1,0 +1,134 @@
+//! What a run showed of each queue, and the verdict.
+
+use super::hall::Hall;
+use super::run::{Stay, Watch};
+use crate::numbers::commas;
+use plain::table::Queue;
+
+/// The most that was seen of a queue.
+#[derive(Clone, Copy, Debug, Default, PartialEq)]
+pub struct Seen {
+    pub stays: u64,
+    /// The first of its longest stays.
+    pub longest: Option<Stay>,
+    pub late: u64,
+    /// Bytes, and the first instant with so many.
+    pub backlog: u64,
+    pub fullest_at: u64,
+}
+
+impl Seen {
+    pub fn stay(&self) -> u64 {
+        self.longest.map_or(0, |stay| stay.length())
+    }
+}
+
+/// Looks on and keeps each queue's figures.
+pub struct Figures<'a> {
+    queues: &'a [Queue],
+    pub seen: Vec<Seen>,
+    /// The last instant at which a frame left.
+    pub end: u64,
+}
+
+impl Watch for Figures<'_> {
+    fn stay(&mut self, stay: &Stay) {
+        self.end = stay.gone;
+        let seen = &mut self.seen[stay.queue];
+        seen.stays += 1;
+        // Late: not gone at the instant by which the threshold has passed.
+        seen.late += u64::from(stay.length() > self.queues[stay.queue].threshold);
+        if seen
+            .longest
+            .is_none_or(|longest| stay.length() > longest.length())
+        {
+            seen.longest = Some(*stay);
+        }
+    }
+
+    fn queue(&mut self, queue: usize, instant: u64, _frames: u64, bytes: u64) {
+        let seen = &mut self.seen[queue];
+        if bytes > seen.backlog {
+            seen.backlog = bytes;
+            seen.fullest_at = instant;
+        }
+    }
+}
+
+impl<'a> Figures<'a> {
+    pub fn new(queues: &'a [Queue]) -> Figures<'a> {
+        Figures {
+            queues,
+            seen: vec![Seen::default(); queues.len()],
+            end: 0,
+        }
+    }
+}
+
+/// Whether `a` of `b` is more than `c` of `d`.
+pub fn greater_share(a: u64, b: u64, c: u64, d: u64) -> bool {
+    u128::from(a) * u128::from(d) > u128::from(c) * u128::from(b)
+}
+
+/// The stay that uses most of its threshold; the first such queue.
+pub fn closest(queues: &[Queue], seen: &[Seen]) -> Option<Stay> {
+    let longest = seen.iter().filter_map(|seen| seen.longest);
+    longest.reduce(|best, stay| {
+        let (of_best, of_stay) = (queues[best.queue].threshold, queues[stay.queue].threshold);
+        match greater_share(stay.length(), of_stay, best.length(), of_best) {
+            true => stay,
+            false => best,
+        }
+    })
+}
+
+/// What the run comes to.
+#[derive(Clone, Debug, PartialEq)]
+pub struct Verdict {
+    pub late: u64,
+    pub closest: Option<Stay>,
+    /// Queues that held more than their buffer.
+    pub exceeded: Vec<usize>,
+}
+
+impl Verdict {
+    pub fn of(queues: &[Queue], seen: &[Seen]) -> Verdict {
+        let over = |&queue: &usize| seen[queue].backlog > queues[queue].buffer;
+        Verdict {
+            late: seen.iter().map(|seen| seen.late).sum(),
+            closest: closest(queues, seen),
+            exceeded: (0..queues.len()).filter(over).collect(),
+        }
+    }
+
+    /// No frame late, no buffer exceeded.
+    pub fn kept(&self) -> bool {
+        self.late == 0 && self.exceeded.is_empty()
+    }
+
+    pub fn words(&self, hall: &Hall, seen: &[Seen]) -> String {
+        let Some(closest) = self.closest else {
+            return "no frame sent".to_string();
+        };
+        let place = format!(
+            "{}, {} of {} µs",
+            hall.place(closest.queue),
+            commas(closest.length()),
+            commas(hall.queues[closest.queue].threshold)
+        );
+        let mut words = match self.late {
+            0 => format!("no frame late; closest {place}"),
+            1 => format!("a frame late: {place}"),
+            late => format!("a frame late: {place}; {} late stays in all", commas(late)),
+        };
+        for &queue in &self.exceeded {
+            words += &format!(
+                "; buffer exceeded at {}, {} of {} bytes",
+                hall.place(queue),
+                commas(seen[queue].backlog),
+                commas(hall.queues[queue].buffer)
+            );
+        }
+        words
+    }
+}

@@ -1,0 +1,172 @@
+//! One call of the command: conformance, the run, the report, the trace and the page.
+
+use super::conform::{self, Breach};
+use super::figures::{Figures, Seen, Verdict};
+use super::hall::Hall;
+use super::network::Network;
+use super::page::stretch::{Recorder, Stretch};
+use super::run::{self, Arrivals, Send};
+use super::{cannot_write, page, report, trace, usage, watch};
+use crate::arguments::Arguments;
+use crate::numbers::{commas, counted};
+use crate::status::{Outcome, Status};
+use std::fs::File;
+use std::io::BufWriter;
+
+/// No run lasts longer, not even the most and largest frames that SENDS can ask for, sent at its last
+/// instant over 12 links of 1 Mbit/s.
+const LAST_INSTANT: u64 = 100_000_000_000_000;
+
+/// What one call of the command is to do, read and checked.
+pub struct Job<'a> {
+    pub arguments: &'a Arguments,
+    pub hall: Hall,
+    pub arrivals: Arrivals,
+    /// The name of SENDS and what it says.
+    pub name: String,
+    pub sends: Vec<Send>,
+    /// Lines before the report.
+    pub preface: String,
+}
+
+impl Job<'_> {
+    pub fn run(self) -> Result<Outcome, Outcome> {
+        let breaches = conform::breaches(&self.hall.flows, &self.sends);
+        let mut errors: String = breaches
+            .iter()
+            .map(|breach| format!("{breach}\n"))
+            .collect();
+        if !breaches.is_empty() && !self.arguments.has("--anyway") {
+            errors += &format!(
+                "{}: not sent: {}; --anyway sends it\n",
+                self.name,
+                unconforming(&breaches)
+            );
+            return Err(Outcome::failed(Status::Unconforming, errors));
+        }
+        let (seen, end) = self.figures()?;
+        let verdict = Verdict::of(&self.hall.queues, &seen);
+        let remark = remark(&breaches, &verdict);
+        self.write_page(&seen, &verdict, &remark, end)?;
+        let printed = format!(
+            "{}{}\n{}\n\n{}\n{}\n",
+            self.preface,
+            self.summary(),
+            remark,
+            report::table(&self.hall, &seen),
+            verdict.words(&self.hall, &seen)
+        );
+        let status = match verdict.kept() {
+            true => Status::Fine,
+            false => Status::Late,
+        };
+        Ok(Outcome {
+            printed,
+            errors,
+            status,
+        })
+    }
+
+    /// `2 frames of 2 flows; those of one instant: forwarded ones first`.
+    fn summary(&self) -> String {
+        let mut sending: Vec<usize> = self.sends.iter().map(|send| send.flow).collect();
+        sending.sort_unstable();
+        sending.dedup();
+        let order = match self.arrivals {
+            Arrivals::ForwardedFirst => "forwarded ones first",
+            Arrivals::ForwardedLast => "forwarded ones last",
+            Arrivals::Shuffled(_) => "any order, by the seed",
+        };
+        format!(
+            "{} of {}; those of one instant: {order}",
+            counted(self.sends.len(), "frame", "frames"),
+            counted(sending.len(), "flow", "flows")
+        )
+    }
+
+    /// Runs the network; the trace is written as it goes.
+    fn figures(&self) -> Result<(Vec<Seen>, u64), Outcome> {
+        let network = Network::new(&self.hall.queues, &self.hall.flows);
+        let mut figures = Figures::new(&self.hall.queues);
+        let path = self.arguments.value("--trace");
+        let failed = |error| cannot_write(path.unwrap_or_default(), &error);
+        let file = path.map(File::create).transpose().map_err(failed)?;
+        let mut trace = file.map(|file| trace::Trace::new(&self.hall, BufWriter::new(file)));
+        let progress = watch::Progress::on_terminal(self.sends.len());
+        let mut watch = ((&mut figures, &mut trace), progress);
+        run::run(&network, &self.sends, self.arrivals.clone(), &mut watch);
+        drop(watch);
+        if let Some(trace) = trace {
+            trace.finish().map_err(failed)?;
+        }
+        Ok((figures.seen, figures.end))
+    }
+
+    /// Runs the network once more for the stretch that the page shows: it is known only now.
+    fn write_page(
+        &self,
+        seen: &[Seen],
+        verdict: &Verdict,
+        remark: &str,
+        end: u64,
+    ) -> Result<(), Outcome> {
+        let Some(path) = self.arguments.value("--page") else {
+            return Ok(());
+        };
+        let first = self.sends.first().map_or(0, |send| send.instant);
+        let whole = Stretch {
+            from: first,
+            to: end.max(first),
+        };
+        let stretch = self.stretch(Stretch::around(&self.hall, verdict.closest.as_ref(), whole))?;
+        let network = Network::new(&self.hall.queues, &self.hall.flows);
+        let mut recorder = Recorder::new(stretch, &self.hall, verdict.closest);
+        run::run(&network, &self.sends, self.arrivals.clone(), &mut recorder);
+        let words = page::Words {
+            title: &format!("Traffic of {} on {}", self.name, self.arguments.words[0]),
+            summary: &self.summary(),
+            remark,
+        };
+        let html = page::page(&self.hall, seen, verdict, &recorder, &words);
+        std::fs::write(path, html).map_err(|error| cannot_write(path, &error))
+    }
+
+    /// The stretch that the options choose, in place of the one at hand.
+    fn stretch(&self, usual: Stretch) -> Result<Stretch, Outcome> {
+        let chosen = |name: &str| match self.arguments.number(name)? {
+            Some(instant) if instant > LAST_INSTANT => {
+                let last = commas(LAST_INSTANT);
+                Err(usage(&format!("{name}: instants go to {last}")))
+            }
+            instant => Ok(instant),
+        };
+        let from = chosen("--from")?.unwrap_or(usual.from);
+        let to = chosen("--to")?.unwrap_or(usual.to.max(from + 1));
+        match from < to {
+            true => Ok(Stretch { from, to }),
+            false => Err(usage("--from must be before --to")),
+        }
+    }
+}
+
+/// What the promise says of this run.
+fn remark(breaches: &[Breach], verdict: &Verdict) -> String {
+    match (breaches.is_empty(), verdict.kept()) {
+        (true, true) => "every source conforms".to_string(),
+        (true, false) => {
+            "every source conforms: this is what the promise rules out; keep the three files"
+                .to_string()
+        }
+        (false, _) => format!(
+            "{}: the promise doesn't speak of this run",
+            unconforming(breaches)
+        ),
+    }
+}
+
+fn unconforming(breaches: &[Breach]) -> String {
+    match breaches.len() {
+        1 => "a source doesn't conform".to_string(),
+        count => format!("{count} sources don't conform"),
+    }
+}

@@ -1,0 +1,187 @@
+//! `course traffic`: exercises three and four. Reads what the sources send, tells whether they
+//! conform, and runs document 01's network.
+
+pub mod conform;
+pub mod figures;
+pub mod hall;
+mod job;
+pub mod network;
+pub mod page;
+pub mod report;
+pub mod run;
+pub mod schedule;
+pub mod search;
+mod search_command;
+pub mod sends;
+pub mod trace;
+pub mod watch;
+
+use crate::arguments::{Arguments, Choice, Command};
+use crate::folder::{read_file, Folder};
+use crate::session::{remark, Session};
+use crate::status::{Outcome, Status};
+use hall::Hall;
+use halls::rng::Rng;
+use job::Job;
+use run::Arrivals;
+use search_command::Found;
+use std::path::Path;
+
+pub const COMMAND: Command = Command {
+    name: "traffic",
+    usage: "FOLDER SENDS [--page FILE.html] [--trace FILE.tsv] [--arrivals first|last|SEED] \
+            [--anyway]",
+    about: "puts traffic on the flows held after the orders: exercises three and four",
+    help: include_str!("help.txt"),
+    words: 1..=2,
+    choices: &[
+        Choice {
+            name: "--page",
+            value: Some("FILE.html"),
+        },
+        Choice {
+            name: "--from",
+            value: Some("INSTANT"),
+        },
+        Choice {
+            name: "--to",
+            value: Some("INSTANT"),
+        },
+        Choice {
+            name: "--trace",
+            value: Some("FILE.tsv"),
+        },
+        Choice {
+            name: "--arrivals",
+            value: Some("first, last or a seed"),
+        },
+        Choice {
+            name: "--anyway",
+            value: None,
+        },
+        Choice {
+            name: "--search",
+            value: None,
+        },
+        Choice {
+            name: "--seconds",
+            value: Some("SECONDS"),
+        },
+        Choice {
+            name: "--tries",
+            value: Some("COUNT"),
+        },
+        Choice {
+            name: "--seed",
+            value: Some("SEED"),
+        },
+        Choice {
+            name: "--queue",
+            value: Some("LINK.LEVEL"),
+        },
+        Choice {
+            name: "--out",
+            value: Some("SENDS"),
+        },
+    ],
+    run: traffic,
+};
+
+fn traffic(arguments: &Arguments) -> Outcome {
+    match prepare(arguments) {
+        Err(failed) => failed,
+        Ok(job) => job
+            .run()
+            .unwrap_or_else(|failed| failed)
+            .with_remark(remark()),
+    }
+}
+
+fn usage(what: &str) -> Outcome {
+    Outcome::failed(
+        Status::Usage,
+        format!("course traffic: {what}\n{}", COMMAND.usage_line()),
+    )
+}
+
+fn unreadable(what: String) -> Outcome {
+    Outcome::failed(Status::Wrong, what)
+}
+
+/// Options that need others, and SENDS or a search.
+fn judge(arguments: &Arguments) -> Result<(), Outcome> {
+    let only = |names: &[&str], with: &str| match names.iter().find(|name| arguments.has(name)) {
+        Some(name) => Err(usage(&format!("{name} goes with {with}"))),
+        None => Ok(()),
+    };
+    match (arguments.has("--search"), arguments.words.len()) {
+        (true, 2) => return Err(usage("--search writes SENDS, it reads none")),
+        (false, 1) => return Err(usage("SENDS is missing")),
+        (true, _) => only(&["--anyway"], "SENDS")?,
+        (false, _) => only(
+            &["--seconds", "--tries", "--seed", "--queue", "--out"],
+            "--search",
+        )?,
+    }
+    match arguments.has("--page") {
+        true => Ok(()),
+        false => only(&["--from", "--to"], "--page"),
+    }
+}
+
+fn prepare(arguments: &Arguments) -> Result<Job<'_>, Outcome> {
+    judge(arguments)?;
+    let arrivals = arrivals(arguments)?;
+    let hall = held(&Folder::read(&arguments.words[0])?)?;
+    let Found {
+        name,
+        text,
+        preface,
+    } = match arguments.has("--search") {
+        true => search_command::command(arguments, &hall, &arrivals)?,
+        false => given(&arguments.words[1])?,
+    };
+    let sends = sends::read(&text, &hall.flows)
+        .and_then(|entries| sends::expand(&entries, &hall.flows, hall.span()))
+        .map_err(|mistake| unreadable(format!("{name}:{mistake}")))?;
+    Ok(Job {
+        arguments,
+        hall,
+        arrivals,
+        name,
+        sends,
+        preface,
+    })
+}
+
+/// The SENDS of a file.
+fn given(name: &str) -> Result<Found, Outcome> {
+    let bytes = read_file(Path::new(name)).map_err(unreadable)?;
+    Ok(Found {
+        name: name.to_string(),
+        text: String::from_utf8_lossy(&bytes).into_owned(),
+        preface: String::new(),
+    })
+}
+
+fn arrivals(arguments: &Arguments) -> Result<Arrivals, Outcome> {
+    match arguments.value("--arrivals") {
+        None | Some("first") => Ok(Arrivals::ForwardedFirst),
+        Some("last") => Ok(Arrivals::ForwardedLast),
+        Some(seed) => match seed.parse() {
+            Ok(seed) => Ok(Arrivals::Shuffled(Rng::new(seed, 0))),
+            Err(_) => Err(usage("--arrivals takes `first`, `last` or a whole number")),
+        },
+    }
+}
+
+fn cannot_write(path: &str, error: &std::io::Error) -> Outcome {
+    unreadable(format!("{path}: can't be written: {error}"))
+}
+
+/// The hall with the flows held after its orders.
+fn held(folder: &Folder) -> Result<Hall, Outcome> {
+    let registry = Session::run(folder)?.registry;
+    let flows = registry.held().into_iter().cloned().collect();
+    Ok(Hall::new(registry.queues, flows))
+}

@@ -1,0 +1,204 @@
+//! A link in the stretch: for each level a lane with its frames, its backlog below, and the time.
+
+use super::charts::{backlog, time, Scale, LEFT, RIGHT};
+use super::colours;
+use super::stretch::{Recorder, Stretch};
+use super::svg::{Drawing, Rect};
+use crate::numbers::commas;
+use crate::traffic::figures::Seen;
+use crate::traffic::hall::Hall;
+use crate::traffic::run::Stay;
+
+const ROW: f64 = 11.0;
+/// With more rows than fit, rows are lower.
+const MOST_HEIGHT: f64 = 40.0 * ROW;
+/// What a bar takes of its row.
+const BAR: f64 = 9.0 / 11.0;
+/// With more rows than this, frames share a row as soon as the one before has left.
+const MOST_ROWS: usize = 16;
+
+/// One link being drawn.
+struct Lanes<'a> {
+    hall: &'a Hall,
+    recorder: &'a Recorder,
+    closest: Option<&'a Stay>,
+    scale: Scale,
+    drawing: Drawing,
+}
+
+/// One drawing for a link; `queues` are its levels.
+pub fn link(
+    hall: &Hall,
+    seen: &[Seen],
+    recorder: &Recorder,
+    closest: Option<&Stay>,
+    queues: &[usize],
+) -> String {
+    let scale = Scale {
+        stretch: recorder.stretch,
+    };
+    let mut lanes = Lanes {
+        hall,
+        recorder,
+        closest,
+        scale,
+        drawing: Drawing::default(),
+    };
+    let mut y = 4.0;
+    for &queue in queues {
+        if hall.bounds[queue].is_none() {
+            let words = format!("level {}: no flow", hall.queues[queue].level);
+            lanes.drawing.note((4.0, y + 10.0), &words);
+            y += 20.0;
+            continue;
+        }
+        y = lanes.lane(queue, y);
+        let (limits, shown) = (&hall.queues[queue], &recorder.shown[queue]);
+        let greatest = seen[queue].backlog;
+        y = backlog(&mut lanes.drawing, scale, limits, shown, greatest, y + 5.0) + 12.0;
+    }
+    y = time(&mut lanes.drawing, scale, y);
+    let Stretch { from, to } = scale.stretch;
+    let name = format!(
+        "link {}, instants {} to {}",
+        hall.queues[queues[0]].link,
+        commas(from),
+        commas(to)
+    );
+    lanes.drawing.finish(y, &name)
+}
+
+/// The row of each stay: the first one that is free again, where a row is taken until the
+/// threshold's end, or with many frames until the frame has left.
+fn rows(stays: &[Stay], threshold: u64) -> Vec<usize> {
+    let assign = |end: &dyn Fn(&Stay) -> u64| {
+        let mut free_from: Vec<u64> = Vec::new();
+        let mut rows = Vec::new();
+        for stay in stays {
+            let row = free_from.iter().position(|&free| free <= stay.came);
+            let row = row.unwrap_or_else(|| {
+                free_from.push(0);
+                free_from.len() - 1
+            });
+            free_from[row] = end(stay);
+            rows.push(row);
+        }
+        (free_from.len(), rows)
+    };
+    let (count, apart) = assign(&|stay| stay.gone.max(stay.came + threshold));
+    match count <= MOST_ROWS {
+        true => apart,
+        false => assign(&|stay| stay.gone).1,
+    }
+}
+
+impl Lanes<'_> {
+    /// A level's frames; the next free height.
+    fn lane(&mut self, queue: usize, top: f64) -> f64 {
+        let (limits, shown) = (&self.hall.queues[queue], &self.recorder.shown[queue]);
+        let mut stays = shown.stays.clone();
+        stays.sort_by_key(|stay| (stay.came, stay.first_bit));
+        let rows = rows(&stays, limits.threshold);
+        // Two rows at least: the lane's name and threshold stand beside it.
+        let count = rows.iter().max().map_or(2, |row| (row + 1).max(2)) as f64;
+        let row_height = ROW.min(MOST_HEIGHT / count);
+        let height = count * row_height + 5.0;
+        let drawing = &mut self.drawing;
+        drawing.rect(Rect(LEFT, top, RIGHT - LEFT, height), "class=\"lane\"");
+        let name = format!("level {}", limits.level);
+        drawing.text((4.0, top + 11.0), "class=\"name\"", &name);
+        let threshold = format!("{} µs", commas(limits.threshold));
+        drawing.note((4.0, top + 23.0), &threshold);
+        if stays.is_empty() {
+            drawing.note((LEFT + 6.0, top + 11.0), "no frame in this stretch");
+        }
+        for (stay, row) in stays.iter().zip(rows) {
+            self.one_frame(stay, top + 3.0 + row as f64 * row_height, row_height * BAR);
+        }
+        let bottom = top + height;
+        if shown.more == 0 {
+            return bottom;
+        }
+        let words = format!(
+            "and {} frames more: choose a shorter stretch",
+            commas(shown.more)
+        );
+        let look = format!("class=\"small\" data-more=\"{}\"", shown.more);
+        self.drawing
+            .text((LEFT + 6.0, bottom + 10.0), &look, &words);
+        bottom + 14.0
+    }
+
+    /// A frame's bars, with its numbers for a reader who points at it.
+    fn one_frame(&mut self, stay: &Stay, y: f64, height: f64) {
+        let queue = &self.hall.queues[stay.queue];
+        let number = self.hall.flows[stay.flow].number;
+        let (started, bit) = (stay.first_bit / queue.speed, stay.first_bit % queue.speed);
+        self.drawing.raw(&format!(
+            "<g class=\"frame\" data-flow=\"{number}\" data-frame=\"{}\" data-link=\"{}\" data-level=\"{}\" \
+             data-came=\"{}\" data-started=\"{started}\" data-bit=\"{bit}\" data-gone=\"{}\" data-stay=\"{}\" \
+             data-threshold=\"{}\" data-bytes=\"{}\">",
+            stay.frame,
+            queue.link,
+            queue.level,
+            stay.came,
+            stay.gone,
+            stay.length(),
+            queue.threshold,
+            stay.bytes
+        ));
+        let of_speed = |bits: u64| bits as f64 / queue.speed as f64;
+        let sent = (
+            of_speed(stay.first_bit),
+            of_speed(stay.first_bit + 8 * stay.bytes),
+        );
+        self.drawing.raw(&format!(
+            "<title>flow {number} frame {}, {} bytes: came {}, sent from {:.2} to {:.2}, stay {} of {} µs</title>",
+            commas(stay.frame),
+            commas(stay.bytes),
+            commas(stay.came),
+            sent.0,
+            sent.1,
+            commas(stay.length()),
+            commas(queue.threshold)
+        ));
+        self.bars(stay, sent, (y, height));
+        self.drawing.raw("</g>");
+    }
+
+    /// The threshold as a bar behind, then waiting and sending in the flow's two shades; the flow's
+    /// number where there is room.
+    fn bars(&mut self, stay: &Stay, (first, last): (f64, f64), (y, height): (f64, f64)) {
+        let threshold = self.hall.queues[stay.queue].threshold;
+        let (drawing, scale) = (&mut self.drawing, self.scale);
+        let mut bar = |from: f64, to: f64, look: &str| {
+            if !scale.shows(from, to) {
+                return 0.0;
+            }
+            let (x, end) = (scale.x(from), scale.x(to));
+            drawing.rect(Rect(x, y, (end - x).max(0.6), height), look);
+            end - x
+        };
+        let (came, gone) = (stay.came as f64, stay.gone as f64);
+        let limit = (stay.came + threshold) as f64;
+        let fill = |colour: String| format!("fill=\"{colour}\"");
+        bar(came, limit, "class=\"threshold\"");
+        bar(came, first, &fill(colours::waiting(stay.flow)));
+        let width = bar(first, last, &fill(colours::sending(stay.flow)));
+        if stay.length() > threshold {
+            bar(limit, gone, "class=\"late\"");
+        }
+        if self.closest == Some(stay) {
+            bar(came, gone, "class=\"closest\"");
+        }
+        if limit <= scale.stretch.to as f64 {
+            let x = scale.x(limit);
+            drawing.line((x, y), (x, y + height), "class=\"limit\"");
+        }
+        let label = self.hall.flows[stay.flow].number.to_string();
+        if width >= 5.5 * label.len() as f64 + 2.0 && height >= 8.5 {
+            let middle = scale.x(first) + width / 2.0;
+            drawing.text((middle, y + 7.6), "class=\"on\"", &label);
+        }
+    }
+}
