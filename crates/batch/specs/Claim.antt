@@ -13,7 +13,7 @@ use Rattle.model.specs.Reference.{State, Answer, heldFlows, opened}
 use Rattle.model.specs.Consistent.{consistent}
 use Rattle.model.specs.Outcomes.{Decided}
 use Rattle.model.specs.Timely.{Timely}
-use Rattle.model.specs.Batch.{answerText}
+use Rattle.model.specs.Batch.{lineAnswers, answerText}
 use Rattle.batch.specs.declared.BatchResult.{BatchResult}
 
 -- What holds of the state between two lines: the flows then held are consistent, and in no run over them is a frame late.
@@ -36,6 +36,5 @@ pub record Claimed (table orders area area′ : List ℕ) (r : BatchResult) : Ty
   pub links : Table
   pub read : readTable table ≡ accepted links
   pub count : r .line ≡ length (lines orders)
-  pub answers : List Answer
-  pub written : area′ ≡ answerText 1 answers ++ drop (answerBytes * length (lines orders)) area
-  pub each : LineByLine (opened table) (lines orders) answers
+  pub written : area′ ≡ answerText 1 (lineAnswers (opened table) (lines orders)) ++ drop (answerBytes * length (lines orders)) area
+  pub each : LineByLine (opened table) (lines orders) (lineAnswers (opened table) (lines orders))

@@ -33,7 +33,6 @@ claim {table} {orders} {area} batched z =
       links = links;
       read = read;
       count = ap (λ (b : Batch). b .line) (batched ∙ done);
-      answers = lineAnswers (opened table) (lines orders);
       written = ap (λ (b : Batch). b .area) (batched ∙ done);
       each = line-by-line (opened table) (reached-consistent table []) (lines orders);
     }

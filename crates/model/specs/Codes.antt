@@ -11,10 +11,22 @@ use Rattle.model.specs.Orders.{Hop, Order, register, release, rejected}
 use Rattle.model.specs.Aggregates.{linkAt, queueAt}
 use Rattle.model.specs.Reference.{Cause, Answer}
 
--- Causes against an order that name neither link nor level; those that name a hop of its line, a link, a queue.
-abbrev pub plainCodes : List ℕ
-plainCodes = 10 ∷ 11 ∷ 12 ∷ 13 ∷ 17 ∷ 20 ∷ 30 ∷ 31 ∷ []
+-- Causes that name neither link nor level: of a line that can't be read, against a release, against a registration.
+abbrev pub lineCodes : List ℕ
+lineCodes = 10 ∷ 11 ∷ []
 
+abbrev pub releaseCodes : List ℕ
+releaseCodes = 13 ∷ []
+
+abbrev pub registerCodes : List ℕ
+registerCodes = 12 ∷ 17 ∷ 20 ∷ 30 ∷ 31 ∷ []
+
+abbrev pub plainCodes : Order → List ℕ
+plainCodes (register f) = registerCodes
+plainCodes (release n) = releaseCodes
+plainCodes (rejected code) = lineCodes
+
+-- Causes against a registration that name a hop of its line, a link, a queue.
 abbrev pub hopCodes : List ℕ
 hopCodes = 14 ∷ 15 ∷ 16 ∷ []
 
@@ -25,7 +37,7 @@ abbrev pub queueCodes : List ℕ
 queueCodes = 22 ∷ 23 ∷ []
 
 abbrev pub causeCodes : List ℕ
-causeCodes = plainCodes ++ hopCodes ++ linkCodes ++ queueCodes
+causeCodes = lineCodes ++ releaseCodes ++ registerCodes ++ hopCodes ++ linkCodes ++ queueCodes
 
 -- An answer line.
 abbrev pub orderCodes : List ℕ
@@ -55,18 +67,25 @@ pathOf (register f) = f .path
 pathOf (release n) = []
 pathOf (rejected code) = []
 
--- A cause against an order with this path, and what its link and level are: those of the hop for 14, 15, 16; the link, and level 0, for 21; the
--- failing queue for 22, 23; else both 0.
-pub data Names (t : Table) (path : List Hop) (c : Cause) : Type 0 where
-  nothing : List·Memᴰ (c .code) plainCodes → c .link ≡ 0 → c .level ≡ 0 → Names t path c
-  hop : List·Memᴰ (c .code) hopCodes → List·Memᴰ (record { link = c .link; level = c .level }) path → Names t path c
-  link : List·Memᴰ (c .code) linkCodes → (k : Link) → linkAt t (c .link) ≡ some k → c .level ≡ 0 → Names t path c
-  queue : List·Memᴰ (c .code) queueCodes → (q : Queue) → queueAt t (record { link = c .link; level = c .level }) ≡ some q → Names t path c
+-- A link that a hop of the path is on.
+pub record OnPath (path : List Hop) (link : ℕ) : Type 0 where
+  pub hop : Hop
+  pub member : List·Memᴰ hop path
+  pub same : link ≡ hop .link
 
--- An answer as listed: done, with one of the places; or a cause, and place 0.
-pub data Listed (t : Table) (path : List Hop) (a : Answer) : Type 0 where
-  done : a .code ≡ 0 → 1 ≤ a .slot → a .slot ≤ slotCount → a .link ≡ 0 → a .level ≡ 0 → Listed t path a
-  because : a .slot ≡ 0 → Names t path (record { code = a .code; link = a .link; level = a .level }) → Listed t path a
+-- A cause against the order `o`, and what its link and level are: those of the hop for 14, 15, 16; the link, and level 0, for 21; the failing queue
+-- for 22, 23, both on the path; else both 0.
+pub data Names (t : Table) (o : Order) (c : Cause) : Type 0 where
+  nothing : List·Memᴰ (c .code) (plainCodes o) → c .link ≡ 0 → c .level ≡ 0 → Names t o c
+  hop : List·Memᴰ (c .code) hopCodes → List·Memᴰ (record { link = c .link; level = c .level }) (pathOf o) → Names t o c
+  link : List·Memᴰ (c .code) linkCodes → OnPath (pathOf o) (c .link) → (k : Link) → linkAt t (c .link) ≡ some k → c .level ≡ 0 → Names t o c
+  queue : List·Memᴰ (c .code) queueCodes → OnPath (pathOf o) (c .link) → (q : Queue) → queueAt t (record { link = c .link; level = c .level }) ≡ some q
+      → Names t o c
+
+-- An answer to an order as listed: done, with one of the places; or a cause, and place 0.
+pub data Listed (t : Table) (o : Order) (a : Answer) : Type 0 where
+  done : a .code ≡ 0 → 1 ≤ a .slot → a .slot ≤ slotCount → a .link ≡ 0 → a .level ≡ 0 → Listed t o a
+  because : a .slot ≡ 0 → Names t o (record { code = a .code; link = a .link; level = a .level }) → Listed t o a
 
 -- A table text's refusal: 1 to 4 with one of its lines, counted from 1; 5 with line 0.
 pub data FaultListed (text : List ℕ) (code line : ℕ) : Type 0 where

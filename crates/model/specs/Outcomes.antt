@@ -1,5 +1,5 @@
 -- What is said of one order on the reference model: refused, admitted, released, decided as the mission's second line has it; lacking room.
-use Prim.Native.Nat.{ℕ, suc, _+_, _<_}
+use Prim.Native.Nat.{ℕ, suc, _+_, _≤_, _<_}
 use mathlib.Core.Path.{_≡_}
 use mathlib.Core.Logic.{_⊎_, _↔_}
 use mathlib.Core.List.{List, [], _∷_, _++_}
@@ -9,7 +9,7 @@ use Rattle.model.specs.Words.{All}
 use Rattle.model.specs.Sizes.{slotCount, hopEntries}
 use Rattle.model.specs.Orders as orders
 use Rattle.model.specs.Orders.{Flow, Order, register}
-use Rattle.model.specs.Reference.{Slot, State, Cause, Outcome, heldFlows, heldHops, numberFinding, lineFindings, deadlineFinding, roomFindings, findings, refuse}
+use Rattle.model.specs.Reference.{Slot, State, Cause, Outcome, heldFlows, heldHops, withNumber, numberFinding, lineFindings, deadlineFinding, roomFindings, findings}
 use Rattle.model.specs.Admissible.{Admissible}
 
 -- None of the findings applies.
@@ -27,7 +27,8 @@ pub record First (l : List (Option Cause)) (c : Cause) : Type 0 where
 pub record Refused (s : State) (o : Order) (out : Outcome) : Type 0 where
   pub cause : Cause
   pub first : First (findings s o) cause
-  pub outcome : out ≡ refuse s cause
+  pub answer : out .answer ≡ record { code = cause .code; slot = 0; link = cause .link; level = cause .level }
+  pub next : out .next ≡ s
 
 -- The slot at an index, counted from 0, with new contents; every other slot and the table as they were.
 abbrev pub withSlot : State → (index : ℕ) (contents : Slot) → State
@@ -63,10 +64,12 @@ pub record NoneOthers (s : State) (f : Flow) : Type 0 where
   pub line : NoneApplies (lineFindings (s .table) f)
   pub room : NoneApplies (roomFindings (s .slots) f)
 
--- Mission, line 2: the order `o` on the state `s` is answered, and leaves the state, as document 01 decides it. A registration with none of 10 to
--- 17, 30 and 31 against it answers 0 if and only if the threshold-based model admits it; every other code than 0 is the cause that comes first.
+-- Mission, line 2: the order `o` on the state `s` is answered, and leaves the state, as document 01 decides it. A registration that was read answers 0 if
+-- and only if none of 12, 14 to 17, 30 and 31 is against it and the threshold-based model admits it; a release, if and only if its flow number is held. Any
+-- other code is the cause that comes first.
 pub record Decided (s : State) (o : Order) (out : Outcome) : Type 0 where
-  pub exactly : (f : Flow) → o ≡ register f → NoneOthers s f → (out .answer .code ≡ 0) ↔ Admissible (s .table) (heldFlows (s .slots)) f
+  pub exactly : (f : Flow) → o ≡ register f → (out .answer .code ≡ 0) ↔ (NoneOthers s f × Admissible (s .table) (heldFlows (s .slots)) f)
+  pub held : (n : ℕ) → o ≡ orders.release n → (out .answer .code ≡ 0) ↔ (1 ≤ withNumber n (heldFlows (s .slots)))
   pub done : out .answer .code ≡ 0 → Done s o out
   pub refused : (out .answer .code ≡ 0 → ⊥) → Refused s o out
 

@@ -12,7 +12,7 @@ use Rattle.model.specs.Timely.{Timely}
 use Rattle.model.specs.Laws.Run.Punctual.{punctual}
 use Rattle.model.specs.Laws.Run.Delivery.{in-time, none-lost, arrives}
 use Rattle.model.specs.Reference.{State, Call, heldFlows, callOrder, apply, step, opened, final}
-use Rattle.model.specs.Codes.{pathOf, Listed, TextListed, BatchListed}
+use Rattle.model.specs.Codes.{Listed, TextListed, BatchListed}
 use Rattle.model.specs.Batch.{batch}
 use Rattle.model.specs.Consistent.{flowsConsistent, consistent}
 use Rattle.model.specs.Part.{Part}
@@ -47,14 +47,14 @@ module _ (s : State) (ok : consistent s ≡ true) where
   unfolding step
   call-decided c = decided s (state-rules s ok) (callOrder c) (kindNumber (c .kind)) (call-readable c)
 
-  pub call-listed : (c : Call) → Listed (s .table) (pathOf (callOrder c)) (step s c .answer)
+  pub call-listed : (c : Call) → Listed (s .table) (callOrder c) (step s c .answer)
   unfolding step
   call-listed c = listed s (state-rules s ok) (callOrder c) (kindNumber (c .kind)) (call-readable c)
 
   pub line-decided : (l : Line) → Decided s (orderLine l) (apply s (orderLine l))
   line-decided l = let (kind, r) = line-readable l in decided s (state-rules s ok) (orderLine l) kind r
 
-  pub line-listed : (l : Line) → Listed (s .table) (pathOf (orderLine l)) (apply s (orderLine l) .answer)
+  pub line-listed : (l : Line) → Listed (s .table) (orderLine l) (apply s (orderLine l) .answer)
   line-listed l = let (kind, r) = line-readable l in listed s (state-rules s ok) (orderLine l) kind r
 
   -- No frame is late, in a queue or end to end, none is lost, and every one arrives, in every run over the held flows.

@@ -51,14 +51,15 @@ workedBatches =
     -- the table's refusal comes before 40
     ∷ worked "?" "?" "" 1 1 ""
     -- two hops: admitted just within its deadline; past it (20); a link that starts elsewhere (15); a link met earlier (16);
-    -- a flow of one hop that the first one's burst, grown by one byte at the second link, makes too late there (22)
+    -- a flow of one hop that the first one's burst, grown by one byte at the second link, makes too late there (22);
+    -- one whose rate and the first one's are the link's speed (21, which names the second link); a release of a flow that isn't held (13)
     ∷ worked
     "   1   1   2   448 1      6      169\n   2   2   3   448 1      6      254\n"
-    " 1     1     1000     168   84      12  2   1 1   2 1\n 1     2     1000      84   84      11  2   1 1   2 1\n 1     3     1000      84   84      12  2   2 1   1 1\n 1     4     1000      84   84      12  2   1 1   1 1\n 1     5     1000      84   84       6  1   2 1\n"
-    "...................................................................................................."
+    " 1     1     1000     168   84      12  2   1 1   2 1\n 1     2     1000      84   84      11  2   1 1   2 1\n 1     3     1000      84   84      12  2   2 1   1 1\n 1     4     1000      84   84      12  2   1 1   1 1\n 1     5     1000      84   84       6  1   2 1\n 1     6   447000      84   84       6  1   2 1\n 2     9\n"
+    "............................................................................................................................................"
     0
-    5
-    "     1  0   1   0 0\n     2 20   0   0 0\n     3 15   0   1 1\n     4 16   0   1 1\n     5 22   0   2 1\n"
+    7
+    "     1  0   1   0 0\n     2 20   0   0 0\n     3 15   0   1 1\n     4 16   0   1 1\n     5 22   0   2 1\n     6 21   0   2 0\n     7 13   0   0 0\n"
     ∷ []
 
 pub worked-batches : map (λ w. w .worked) workedBatches ≡ map (λ w. w .given) workedBatches

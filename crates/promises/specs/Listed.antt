@@ -10,8 +10,8 @@ use Rattle.model.specs.Columns.{Line, lines}
 use Rattle.model.specs.QueueTable.{Table}
 use Rattle.model.specs.Orders.{orderLine}
 use Rattle.model.specs.Reference.{Answer, Call, callOrder, opened}
-use Rattle.model.specs.Codes.{openCodes, batchCodes, orderCodes, callCodes, pathOf, Listed, TextListed, textCode, BatchListed}
-use Rattle.model.specs.Batch.{answerText}
+use Rattle.model.specs.Codes.{openCodes, batchCodes, orderCodes, callCodes, Listed, TextListed, textCode, BatchListed}
+use Rattle.model.specs.Batch.{lineAnswers, answerText}
 use Rattle.queue_table.specs.View.{tableOf, textOf}
 use Rattle.figures.specs.View.{figureAt}
 use Rattle.admission.specs.View.{answerOf}
@@ -30,7 +30,7 @@ pub record OpenListed (text : List ℕ) (o : Opened) : Type 0 where
 pub record CallListed (before : Registry) (c : Call) (called : Called) : Type 0 where
   pub code : List·Memᴰ (answerOf (called .answer) .code) callCodes
   -- On a consistent registry: an answer line's, and with another code than 0 neither flows nor figures change.
-  pub listed : Consistent before → Listed (stateIn before .table) (pathOf (callOrder c)) (answerOf (called .answer))
+  pub listed : Consistent before → Listed (stateIn before .table) (callOrder c) (answerOf (called .answer))
   pub unchanged : Consistent before → (answerOf (called .answer) .code ≡ 0 → ⊥)
       → (stateIn (called .registry) ≡ stateIn before) × ((e : ℕ) → e < queuesMost → figureAt (called .registry .sums) e ≡ figureAt (before .sums) e)
   -- On another: 42, which names nothing, and the registry as it was.
@@ -40,7 +40,7 @@ pub record CallListed (before : Registry) (c : Call) (called : Called) : Type 0 
 -- An answer line of a batch, to a line of its orders.
 pub record LineListed (t : Table) (l : Line) (a : Answer) : Type 0 where
   pub code : List·Memᴰ (a .code) orderCodes
-  pub listed : Listed t (pathOf (orderLine l)) a
+  pub listed : Listed t (orderLine l) a
 
 -- A batch over any three areas.
 pub record BatchAnswers (table orders area area′ : List ℕ) (r : BatchResult) : Type 0 where
@@ -48,8 +48,6 @@ pub record BatchAnswers (table orders area area′ : List ℕ) (r : BatchResult)
   pub listed : BatchListed table orders (r .code) (r .line)
   -- Refused, it leaves every byte of the area.
   pub unwritten : (r .code ≡ 0 → ⊥) → area′ ≡ area
-  -- Accepted, it writes an answer line for each line of the orders.
-  pub answered : r .code ≡ 0
-      → (answers : List Answer)
-      × (area′ ≡ answerText 1 answers ++ drop (answerBytes * length (lines orders)) area)
-      × Pairs (LineListed (opened table .table)) (lines orders) answers
+  -- Accepted, it writes an answer line for each line of the orders, and leaves the bytes past them.
+  pub written : r .code ≡ 0 → area′ ≡ answerText 1 (lineAnswers (opened table) (lines orders)) ++ drop (answerBytes * length (lines orders)) area
+  pub lines-listed : Pairs (LineListed (opened table .table)) (lines orders) (lineAnswers (opened table) (lines orders))

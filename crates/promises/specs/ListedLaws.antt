@@ -10,19 +10,20 @@ use Rattle.model.specs.Words.{Pairs, ends, pair}
 use Rattle.model.specs.Columns.{Line, lines}
 use Rattle.model.specs.QueueTable.{Table, TableText}
 use Rattle.model.specs.Orders.{orderLine}
-use Rattle.model.specs.Reference.{State, Answer, Call, Outcome, callOrder, apply, refuse, opened, final}
+use Rattle.model.specs.Reference.{State, Answer, Call, callOrder, apply, opened, final}
 use Rattle.model.specs.Consistent.{consistent}
-use Rattle.model.specs.Codes.{callCodes, pathOf, Listed, TextListed, BatchListed}
-use Rattle.model.specs.Batch.{Batch, lineAnswers, doneBatch}
+use Rattle.model.specs.Codes.{callCodes, Listed, TextListed, BatchListed}
+use Rattle.model.specs.Batch.{Batch, lineAnswers}
 use Rattle.model.specs.Results as results
 use Rattle.model.specs.Results.{line-listed, line-consistent, text-listed, reached-consistent}
 use Rattle.model.specs.Laws.Reference.{same-table}
 use Rattle.model.specs.Laws.Decided.{listed-code}
-use Rattle.model.specs.Laws.Codes.{returned-done, text-code, batch-code}
+use Rattle.model.specs.Laws.Codes.{text-code, batch-code}
 use Rattle.queue_table.specs.View.{tableOf, textOf}
 use Rattle.admission.specs.View.{answerOf}
 use Rattle.batch.specs.declared.BatchResult.{BatchResult}
 use Rattle.batch.specs.View.{Batched}
+use Rattle.batch.specs.ClaimLaws.{claim}
 use Rattle.registry.specs.declared.Registry.{Registry}
 use Rattle.registry.specs.declared.Opened.{Opened}
 use Rattle.registry.specs.declared.Called.{Called}
@@ -47,18 +48,17 @@ stands n (m ∷ l) = go (ℕ-discrete n m) (stands n l)
     go (no e) (no d) = no (λ m. ⊎-elim e d (List·Memᴰ·cases-cons m))
 
 pub call-listed : (before : Registry) (c : Call) (called : Called) → Performs before c called → CallListed before c called
-unfolding refuse
 call-listed before c called p =
     record {
       code = go (stands (answerOf (called .answer) .code) callCodes);
       listed = listed;
       unchanged = λ kept other.
-          let d = decision kept p in (ap (λ (o : Outcome). o .next) (d .decided .refused other .outcome), d .figures other);
+          let d = decision kept p in (d .decided .refused other .next, d .figures other);
       spoilt = spoilt;
     }
   where
-    listed : Consistent before → Listed (stateIn before .table) (pathOf (callOrder c)) (answerOf (called .answer))
-    listed kept = subst (Listed (stateIn before .table) (pathOf (callOrder c))) (sym (p .answer kept)) (results.call-listed (stateIn before) (kept .is-consistent) c)
+    listed : Consistent before → Listed (stateIn before .table) (callOrder c) (answerOf (called .answer))
+    listed kept = subst (Listed (stateIn before .table) (callOrder c)) (sym (p .answer kept)) (results.call-listed (stateIn before) (kept .is-consistent) c)
 
     spoilt : (Consistent before → ⊥) → (answerOf (called .answer) ≡ record { code = 42; slot = 0; link = 0; level = 0 }) × (called .registry ≡ before)
     spoilt other = let (answer, same) = p .kept-out other in (ap answerOf answer, same)
@@ -72,12 +72,12 @@ lines-listed : (s : State) → consistent s ≡ true → (t : Table) → s .tabl
 unfolding lineAnswers
 lines-listed s ok t e [] = ends
 lines-listed s ok t e (l ∷ ls) =
-    let listed = subst (λ (t : Table). Listed t (pathOf (orderLine l)) (apply s (orderLine l) .answer)) e (line-listed s ok l) in
-    pair (record { code = listed-code t (pathOf (orderLine l)) _ listed; listed = listed })
+    let listed = subst (λ (t : Table). Listed t (orderLine l) (apply s (orderLine l) .answer)) e (line-listed s ok l) in
+    pair (record { code = listed-code t (orderLine l) _ listed; listed = listed })
     (lines-listed (apply s (orderLine l) .next) (line-consistent s ok l) t (same-table s (orderLine l) ∙ e) ls)
 
 pub batch-listed : (table orders area area′ : List ℕ) (r : BatchResult) → Batched table orders area area′ r → BatchAnswers table orders area area′ r
-unfolding doneBatch final
+unfolding final
 batch-listed table orders area area′ r batched =
     let (listed, unwritten) = results.batch-listed table orders area in
     let returned : BatchListed table orders (r .code) (r .line) =
@@ -86,10 +86,6 @@ batch-listed table orders area area′ r batched =
       code = batch-code table orders _ _ returned;
       listed = returned;
       unwritten = λ other. ap (λ (b : Batch). b .area) batched ∙ unwritten (λ z. other (ap (λ (b : Batch). b .code) batched ∙ z));
-      answered = λ z.
-          let (links, read, done) = returned-done table orders area (sym (ap (λ (b : Batch). b .code) batched) ∙ z) in (
-            lineAnswers (opened table) (lines orders),
-            ap (λ (b : Batch). b .area) (batched ∙ done),
-            lines-listed (opened table) (reached-consistent table []) (opened table .table) refl (lines orders),
-          );
+      written = λ z. claim batched z .written;
+      lines-listed = lines-listed (opened table) (reached-consistent table []) (opened table .table) refl (lines orders);
     }

@@ -45,7 +45,8 @@ pub record Claimed (text : List ℕ) (calls : List Call) (answers : List Answer)
   pub answered : map answerOf answers ≡ model.answers (opened text) calls
   pub state : stateIn last ≡ after text calls
   pub figures : (e : ℕ) → e < queuesMost → figureAt (last .sums) e ≡ aggregateAt (after text calls .table) (flowsAfter text calls) (hopAt e)
-  -- No frame is late and no queue holds more than its buffer, in any run of conforming sources and at any instant.
+  -- In any run of conforming sources, at any instant: no frame is late and no queue holds more than its buffer; a frame is never longer on its way than its
+  -- path's thresholds and its deadline; none is lost.
   pub timely : Timely (after text calls .table) (flowsAfter text calls)
   -- A further registration with none of the causes before 30 against it lacks room exactly when every slot is held or the hop entries don't suffice.
   pub room : (bytes : List ℕ) (f : Flow) (called : Called) → Performs last (callOf registering bytes) called

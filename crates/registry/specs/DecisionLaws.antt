@@ -2,7 +2,7 @@
 -- Assumes nothing.
 use mathlib.Core.Path.{_≡_, ap, sym, subst, _∙_}
 use Rattle.model.specs.Aggregates.{aggregateAt}
-use Rattle.model.specs.Reference.{State, Call, Outcome, heldFlows, refuse, callOrder, step}
+use Rattle.model.specs.Reference.{State, Call, heldFlows, callOrder, step}
 use Rattle.model.specs.Outcomes.{Decided}
 use Rattle.model.specs.Results.{call-decided}
 use Rattle.queue_table.specs.View.{hopAt}
@@ -19,13 +19,12 @@ module _ {before : Registry} (kept : Consistent before) {c : Call} {called : Cal
   decided = subst (Decided (stateIn before) (callOrder c)) stepped (call-decided (stateIn before) (kept .is-consistent) c)
 
   pub decision : CallDecided before c called
-  unfolding refuse
   decision =
       record {
         decided = decided;
         table = p .table;
         figures = λ refused e lt.
-            let same : stateIn (called .registry) ≡ stateIn before = ap (λ (o : Outcome). o .next) (decided .refused refused .outcome) in
+            let same : stateIn (called .registry) ≡ stateIn before = decided .refused refused .next in
             p .is-consistent kept .figures .same e lt
             ∙ ap (λ (s : State). aggregateAt (s .table) (heldFlows (s .slots)) (hopAt e)) same
             ∙ sym (kept .figures .same e lt);

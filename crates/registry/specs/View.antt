@@ -40,7 +40,7 @@ abbrev pub Consistent : Registry → Type 0
 Consistent r = Kept (r .table) (r .slots) (r .pool) (r .sums)
 
 -- An empty registry on the table of the text, 1 to 5 with the line where it is refused. Free: the table array's numbers past the table's links and
--- levels, of free slots and unused hop entries.
+-- levels; the other numbers of free slots; the hop entries.
 pub record OpensOn (text : List ℕ) (r : Opened) : Type 0 where
   pub verdict : textOf (r .verdict) (tableOf (r .registry .table)) ≡ readTable text
   pub state : stateIn (r .registry) ≡ model.opened text

@@ -1,4 +1,4 @@
--- With none of 10 to 17, 30 and 31 against it a registration answers 0 exactly when it is admissible: cause by cause, the links' by their levels.
+-- A registration that was read answers 0 exactly when none of 12, 14 to 17, 30 and 31 is against it and it is admissible: cause by cause, the links' by their levels.
 -- Assumes nothing.
 use Prim.Native.Nat.{ℕ, _≤_}
 use mathlib.Core.Path.{_≡_, refl, ap, sym, _∙_, subst}
@@ -70,12 +70,12 @@ module _ (s : State) (f : Flow) (ok : StateRules s) (range : flowInRange f ≡ t
     all-imp (heldFlows (s .slots)) (λ g r. omega (arith, frame-range g (r .range) .0)) (ok .flows .flows),
   )
 
-  -- None of 10 to 17, 30 and 31 against it: 0 if and only if admissible.
-  pub admissible : NoneOthers s f → (apply s (register f) .answer .code ≡ 0) ↔ Admissible (s .table) (heldFlows (s .slots)) f
+  -- 0 if and only if none of 12, 14 to 17, 30 and 31 is against it and it is admissible.
+  pub admissible : (apply s (register f) .answer .code ≡ 0) ↔ (NoneOthers s f × Admissible (s .table) (heldFlows (s .slots)) f)
   unfolding findings perform fill
-  admissible others = (
-    λ z. to (register-rules s f (no-cause s (register f) (kindNumber registering) (refl, range) z)),
-    λ a. ap (λ o. o .answer .code) (performed s (register f) (rules-register s f (from a))),
+  admissible = (
+    λ z. let r = register-rules s f (no-cause s (register f) (kindNumber registering) (refl, range) z) in (r .others, to r),
+    λ a. ap (λ o. o .answer .code) (performed s (register f) (rules-register s f (from (a .0) (a .1)))),
   )
     where
       to : RegisterRules s f → Admissible (s .table) (heldFlows (s .slots)) f
@@ -91,8 +91,8 @@ module _ (s : State) (f : Flow) (ok : StateRules s) (range : flowInRange f ≡ t
       meet a h on =
           record { meets = λ k found. admits-meets (s .table) with-new frames (h .link) k found (a .links h k on found) .meets k found }
 
-      from : Admissible (s .table) (heldFlows (s .slots)) f → RegisterRules s f
-      from a =
+      from : NoneOthers s f → Admissible (s .table) (heldFlows (s .slots)) f → RegisterRules s f
+      from others a =
           record {
             others = others;
             deadline = deadline-met (s .table) f .1 (a .deadline);

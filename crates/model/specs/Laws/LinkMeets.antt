@@ -3,7 +3,7 @@
 use Prim.Native.Nat.{ℕ, suc}
 use mathlib.Core.Path.{_≡_, refl, ap, _∙_}
 use mathlib.Core.Bool.{Bool, true, false, cond}
-use mathlib.Core.List.{List, _∷_}
+use mathlib.Core.List.{List, _∷_, List·Memᴰ}
 use mathlib.Core.Option.{Option, none, some, Option·some-ne-none}
 use lib.ListN.{getElem?}
 use borrow.Author.Tests.{eqb-true, eq-eqb}
@@ -71,21 +71,18 @@ module _ (t : Table) (fs : List Flow) where
   unfolding linkFindings
   meet-findings path a = map-all (λ x. x ≡ none) _ path (all-imp path (λ h. meets-cause (h .link)) a)
 
-  -- What is found along a path: 21 with a link of the table, 22 or 23 with one of its queues.
-  pub findings-caused : (P : Cause → Type 0)
-      → ((n : ℕ) (k : Link) → linkAt t n ≡ some k → P (record { code = 21; link = n; level = 0 }))
-      → ((h : Hop) (q : Queue) → queueAt t h ≡ some q → All (λ code. P (record { code = code; link = h .link; level = h .level })) queueCodes)
-      → (path : List Hop)
+  -- What is found along a path: 21 with one of its links, 22 or 23 with a queue of one.
+  pub findings-caused : (P : Cause → Type 0) (path : List Hop)
+      → ((h : Hop) → List·Memᴰ h path → (k : Link) → linkAt t (h .link) ≡ some k → P (record { code = 21; link = h .link; level = 0 }))
+      → ((h : Hop) → List·Memᴰ h path → (p : ℕ) (q : Queue) → queueAt t (record { link = h .link; level = p }) ≡ some q
+      → All (λ code. P (record { code = code; link = h .link; level = p })) queueCodes)
       → All (Caused P) (linkFindings t fs path)
   unfolding linkFindings causeAt linkCause queueAt nth
-  findings-caused P rate level path = map-all (Caused P) _ path (member-all _ path (λ hop m. go (hop .link) (linkAt t (hop .link)) refl))
+  findings-caused P path rate level = map-all (Caused P) _ path (member-all _ path (λ h on. go h on (linkAt t (h .link)) refl))
     where
-      at : (n i : ℕ) (k : Link) (q : Queue) → linkAt t n ≡ some k → getElem? (k .levels) i ≡ some q
-          → queueAt t (record { link = n; level = suc i }) ≡ some q
-      at n i k q e f = ap (λ o. andThen o (λ l. getElem? (l .levels) i)) e ∙ f
-
-      go : (n : ℕ) (o : Option Link) → linkAt t n ≡ o → Caused P (causeAt t fs n o)
-      go n none e = tt
-      go n (some k) e =
-          link-finds (λ w. Caused P (linkCause n w)) (λ level. tt) (k .speed) (k .levels) (levelAggregates t fs n 1 (k .levels)) (rate n k e)
-          (λ i q f. level (record { link = n; level = suc i }) q (at n i k q e f))
+      go : (h : Hop) → List·Memᴰ h path → (o : Option Link) → linkAt t (h .link) ≡ o → Caused P (causeAt t fs (h .link) o)
+      go h on none e = tt
+      go h on (some k) e =
+          link-finds (λ w. Caused P (linkCause (h .link) w)) (λ level. tt) (k .speed) (k .levels) (levelAggregates t fs (h .link) 1 (k .levels))
+          (rate h on k e)
+          (λ i q f. level h on (suc i) q (ap (λ o. andThen o (λ l. getElem? (l .levels) i)) e ∙ f))

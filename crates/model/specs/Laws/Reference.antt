@@ -3,19 +3,19 @@
 use Prim.Native.Nat.{ℕ, _+_, _≤_, _<_}
 use mathlib.Core.Path.{_≡_, refl, ap, sym, _∙_, subst}
 use mathlib.Core.Bool.{Bool, true, false, not, true≢false, false≢true}
-use mathlib.Core.Logic.{⊎-elim}
-use mathlib.Core.List.{List, [], _∷_, _++_}
+use mathlib.Core.Logic.{⊎-elim, _↔_}
+use mathlib.Core.List.{List, [], _∷_, _++_, List·Memᴰ}
 use mathlib.Core.Option.{Option, none, some, Option·some-ne-none}
 use native.Mathlib.Omega.{arith}
 use lib.ListN.{length, getElem?}
 use lib.Dec.{eqb}
-use borrow.Author.Tests.{eqb-true, eqb-false, ltb-false, leb-false, not-true}
+use borrow.Author.Tests.{eqb-true, eqb-false, ne-eqb, ltb-false, leb-false, not-true}
 use Rattle.model.specs.Words.{All, every, firstIndex, isNone}
 use Rattle.model.specs.QueueTable.{Table}
 use Rattle.model.specs.Orders.{Hop, Flow, Order, register, release, rejected, kindNumber}
 use Rattle.model.specs.Sizes.{hopEntries}
 use Rattle.model.specs.Reference.{Slot, State, Cause, heldFlows, heldHops, withNumber, isHeld, holds, firstCause, whole, numberFinding, lineFindings, deadlineFinding, roomFindings, linkFindings, registerFindings, findings, refuse, fill, perform, decide, apply, Call, callOrder, step}
-use Rattle.model.specs.Codes.{plainCodes, hopCodes, linkCodes, queueCodes, causeCodes, orderCodes, pathOf, Names, nothing, hop, link, queue}
+use Rattle.model.specs.Codes.{lineCodes, releaseCodes, registerCodes, plainCodes, hopCodes, linkCodes, queueCodes, causeCodes, orderCodes, pathOf, OnPath, Names, nothing, hop, link, queue}
 use Rattle.model.specs.Outcomes as Outcomes
 use Rattle.model.specs.Outcomes.{NoneApplies, NoneOthers, Refused, Admitted, Released, Done, admission}
 use Rattle.model.specs.Laws.Test.{every-all}
@@ -26,11 +26,11 @@ use Rattle.model.specs.Laws.Slot.{index-below, index-found, index-first,
 use Rattle.model.specs.Laws.Order.{Readable, call-readable}
 
 pub refused : (s : State) (o : Order) → (apply s o .answer .code ≡ 0 → ⊥) → Refused s o (apply s o)
-unfolding apply decide perform fill findings firstCause whole
+unfolding apply decide perform refuse fill findings firstCause whole
 refused s o h = go o (firstCause (findings s o)) refl h
   where
     go : (o : Order) (x : Option Cause) → firstCause (findings s o) ≡ x → (decide s o x .answer .code ≡ 0 → ⊥) → Refused s o (apply s o)
-    go o (some c) e h = record { cause = c; first = first-listed (findings s o) e; outcome = ap (decide s o) e }
+    go o (some c) e h = record { cause = c; first = first-listed (findings s o) e; answer = ap (λ x. decide s o x .answer) e; next = ap (λ x. decide s o x .next) e }
     go (register f) none e h = absurd (h refl)
     go (release n) none e h = absurd (h refl)
     go (rejected code) none e h = absurd (Option·some-ne-none _ e)
@@ -41,68 +41,81 @@ unfolding apply decide
 performed s o a = ap (decide s o) (applies-none (findings s o) a)
 
 -- Every cause against an order names what is listed for its code.
-module _ (t : Table) (path : List Hop) where
-  plain : (i : ℕ) {code : ℕ} → getElem? plainCodes i ≡ some code → Names t path (record { code = code; link = 0; level = 0 })
-  plain i e = nothing (member-at plainCodes i e) refl refl
-
-  at-hop : (i : ℕ) {code : ℕ} → getElem? hopCodes i ≡ some code
-      → All (λ h. Names t path (record { code = code; link = h .link; level = h .level })) path
-  at-hop i e = member-all _ path (λ h on. hop (member-at hopCodes i e) on)
-
-  links-named : (fs : List Flow) (over : List Hop) → All (Caused (Names t path)) (linkFindings t fs over)
-  links-named fs =
-      findings-caused t fs (Names t path) (λ n k e. link (member-at linkCodes 0 refl) k e refl)
-      (λ h q e. (queue (member-at queueCodes 0 refl) q e, (queue (member-at queueCodes 1 refl) q e, tt)))
+module _ (t : Table) (o : Order) where
+  plain : (i : ℕ) {code : ℕ} → getElem? (plainCodes o) i ≡ some code → Names t o (record { code = code; link = 0; level = 0 })
+  plain i e = nothing (member-at (plainCodes o) i e) refl refl
 
   -- What holds of each listed code holds of a cause's.
-  pub named-coded : (P : ℕ → Type 0) → All P causeCodes → (c : Cause) → Names t path c → P (c .code)
+  pub named-coded : (P : ℕ → Type 0) → All P causeCodes → (c : Cause) → Names t o c → P (c .code)
   named-coded P all c n =
-      let (others, queues) = append-all P (plainCodes ++ hopCodes ++ linkCodes) queueCodes all in
-      let (unlinked, links) = append-all P (plainCodes ++ hopCodes) linkCodes others in
-      let (plains, hops) = append-all P plainCodes hopCodes unlinked in
+      let (others, queues) = append-all P (lineCodes ++ releaseCodes ++ registerCodes ++ hopCodes ++ linkCodes) queueCodes all in
+      let (unlinked, links) = append-all P (lineCodes ++ releaseCodes ++ registerCodes ++ hopCodes) linkCodes others in
+      let (plains, hops) = append-all P (lineCodes ++ releaseCodes ++ registerCodes) hopCodes unlinked in
       elim n [
-        | nothing m e₁ e₂ ↦ all-member P plains m
+        | nothing m e₁ e₂ ↦ all-member P (go o plains) m
         | hop m on ↦ all-member P hops m
-        | link m k e₁ e₂ ↦ all-member P links m
-        | queue m q e ↦ all-member P queues m
+        | link m on k e₁ e₂ ↦ all-member P links m
+        | queue m on q e ↦ all-member P queues m
       ]
+    where
+      go : (o : Order) → All P (lineCodes ++ releaseCodes ++ registerCodes) → All P (plainCodes o)
+      go (register f) a = append-all P (lineCodes ++ releaseCodes) registerCodes a .1
+      go (release k) a = append-all P lineCodes releaseCodes (append-all P (lineCodes ++ releaseCodes) registerCodes a .0) .1
+      go (rejected code) a = append-all P lineCodes releaseCodes (append-all P (lineCodes ++ releaseCodes) registerCodes a .0) .0
 
-pub order-named : (s : State) (o : Order) (kind : ℕ) → Readable kind o → All (Caused (Names (s .table) (pathOf o))) (findings s o)
-unfolding findings registerFindings numberFinding lineFindings deadlineFinding roomFindings pathOf
+module _ (t : Table) (f : Flow) where
+  at-hop : (i : ℕ) {code : ℕ} → getElem? hopCodes i ≡ some code
+      → All (λ h. Names t (register f) (record { code = code; link = h .link; level = h .level })) (f .path)
+  unfolding pathOf
+  at-hop i e = member-all _ (f .path) (λ h on. hop (member-at hopCodes i e) on)
+
+  links-named : (fs : List Flow) → All (Caused (Names t (register f))) (linkFindings t fs (f .path))
+  unfolding pathOf
+  links-named fs =
+      findings-caused t fs (Names t (register f)) (f .path) (λ h on k e. link (member-at linkCodes 0 refl) (on-path h on) k e refl)
+      (λ h on p q e. (queue (member-at queueCodes 0 refl) (on-path h on) q e, (queue (member-at queueCodes 1 refl) (on-path h on) q e, tt)))
+    where
+      on-path : (h : Hop) → List·Memᴰ h (f .path) → OnPath (f .path) (h .link)
+      on-path h on = record { hop = h; member = on; same = refl }
+
+pub order-named : (s : State) (o : Order) (kind : ℕ) → Readable kind o → All (Caused (Names (s .table) o)) (findings s o)
+unfolding findings registerFindings numberFinding lineFindings deadlineFinding roomFindings
 order-named s (register f) kind r =
     let t = s .table in
-    let path = f .path in
-    let P = Names t path in (
-      whole-caused P 12 _ (plain t path 2 refl),
+    let o = register f in
+    let P = Names t o in (
+      whole-caused P 12 _ (plain t o 0 refl),
       (
-        whole-caused P 17 _ (plain t path 4 refl),
+        whole-caused P 17 _ (plain t o 1 refl),
         (
-          hop-caused P 14 _ [] path (at-hop t path 0 refl),
+          hop-caused P 14 _ [] (f .path) (at-hop t f 0 refl),
           (
-            hop-caused P 16 _ [] path (at-hop t path 2 refl),
+            hop-caused P 16 _ [] (f .path) (at-hop t f 2 refl),
             (
-              hop-caused P 15 _ [] path (at-hop t path 1 refl),
+              hop-caused P 15 _ [] (f .path) (at-hop t f 1 refl),
               (
-                whole-caused P 20 _ (plain t path 5 refl),
-                (whole-caused P 30 _ (plain t path 6 refl), (whole-caused P 31 _ (plain t path 7 refl), links-named t path _ path)),
+                whole-caused P 20 _ (plain t o 2 refl),
+                (whole-caused P 30 _ (plain t o 3 refl), (whole-caused P 31 _ (plain t o 4 refl), links-named t f _)),
               ),
             ),
           ),
         ),
       ),
     )
-order-named s (release n) kind r = (whole-caused (Names (s .table) []) 13 _ (plain (s .table) [] 3 refl), tt)
-order-named s (rejected code) kind r =
-    let P = Names (s .table) [] in
-    (whole-caused P code true (⊎-elim (λ e. rw e (plain (s .table) [] 0 refl)) (λ e. rw e (plain (s .table) [] 1 refl)) r), tt)
+order-named s (release n) kind r = (whole-caused (Names (s .table) (release n)) 13 _ (plain (s .table) (release n) 0 refl), tt)
+order-named s (rejected code) kind r = (
+  whole-caused (Names (s .table) (rejected code)) code true
+      (⊎-elim (λ e. rw e (plain (s .table) (rejected 10) 0 refl)) (λ e. rw e (plain (s .table) (rejected 11) 1 refl)) r),
+  tt,
+)
 
 -- What holds of 0 and of each listed code holds of every answer, on any state.
 order-coded : (P : ℕ → Type 0) → All P orderCodes → (s : State) (o : Order) (kind : ℕ) → Readable kind o → P (apply s o .answer .code)
 unfolding apply decide perform refuse fill findings firstCause whole
 order-coded P all s o kind r = go o (firstCause (findings s o)) refl (first-caused _ (findings s o) (order-named s o kind r))
   where
-    go : (o : Order) (x : Option Cause) → firstCause (findings s o) ≡ x → Caused (Names (s .table) (pathOf o)) x → P (decide s o x .answer .code)
-    go o (some c) e n = named-coded (s .table) (pathOf o) P (all .1) c n
+    go : (o : Order) (x : Option Cause) → firstCause (findings s o) ≡ x → Caused (Names (s .table) o) x → P (decide s o x .answer .code)
+    go o (some c) e n = named-coded (s .table) o P (all .1) c n
     go (register f) none e n = all .0
     go (release k) none e n = all .0
     go (rejected code) none e n = absurd (Option·some-ne-none _ e)
@@ -117,11 +130,11 @@ pub no-cause : (s : State) (o : Order) (kind : ℕ) → Readable kind o → appl
 unfolding apply decide refuse every
 no-cause s o kind r z = go (firstCause (findings s o)) refl (first-caused _ (findings s o) (order-named s o kind r)) z
   where
-    go : (x : Option Cause) → firstCause (findings s o) ≡ x → Caused (Names (s .table) (pathOf o)) x → decide s o x .answer .code ≡ 0
+    go : (x : Option Cause) → firstCause (findings s o) ≡ x → Caused (Names (s .table) o) x → decide s o x .answer .code ≡ 0
         → NoneApplies (findings s o)
     go none e c z = none-applies (findings s o) e
     go (some cause) e c z =
-        absurd (other-code 0 (cause .code) (named-coded (s .table) (pathOf o) (λ n. isOther 0 n ≡ true) (every-all (isOther 0) causeCodes refl) cause c) z)
+        absurd (other-code 0 (cause .code) (named-coded (s .table) o (λ n. isOther 0 n ≡ true) (every-all (isOther 0) causeCodes refl) cause c) z)
 
 -- 42 isn't among its answers, on any state.
 pub never-spoilt : (s : State) (c : Call) → step s c .answer .code ≡ 42 → ⊥
@@ -200,6 +213,18 @@ released s n a =
       answer = refl;
       next = refl;
     }
+
+-- A release answers 0 exactly when its flow number is held.
+pub released-exactly : (s : State) (n : ℕ) → (apply s (release n) .answer .code ≡ 0) ↔ (1 ≤ withNumber n (heldFlows (s .slots)))
+unfolding apply decide perform refuse fill findings firstCause whole
+released-exactly s n = (to (eqb count 0) refl, λ h. rw (ne-eqb count 0 (λ e. omega (arith, e))) refl)
+  where
+    count : ℕ
+    count = withNumber n (heldFlows (s .slots))
+
+    to : (b : Bool) → eqb count 0 ≡ b → decide s (release n) (firstCause (whole 13 b ∷ [])) .answer .code ≡ 0 → 1 ≤ count
+    to true e z = absurd (omega (arith, z))
+    to false e z = omega (arith, eqb-false count 0 e)
 
 -- An order that answers 0 was carried out.
 pub done : (s : State) (o : Order) (kind : ℕ) → Readable kind o → apply s o .answer .code ≡ 0 → Done s o (apply s o)

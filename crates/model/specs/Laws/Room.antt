@@ -77,7 +77,7 @@ module _ (s : State) (f : Flow) where
       links = linkFindings (s .table) (f ∷ heldFlows (s .slots)) (f .path)
 
       low : All (Caused Low) links
-      low = findings-caused (s .table) (f ∷ heldFlows (s .slots)) Low (λ n k e. omega arith) (λ h q e. (omega arith, (omega arith, tt))) (f .path)
+      low = findings-caused (s .table) (f ∷ heldFlows (s .slots)) Low (f .path) (λ h on k e. omega arith) (λ h on p q e. (omega arith, (omega arith, tt)))
 
       hops : Bool
       hops = ltb hopEntries (heldHops (heldFlows (s .slots)) + length (f .path))
