@@ -2,8 +2,9 @@
 """Runs a program on the stored cases and compares what it prints with printed.txt, byte by byte; what it says on standard
 error too, where that is known.
 
-    tests/vectors.py PROGRAM admit|replay [ARGUMENT ..]
+    tests/vectors.py PROGRAM admit|host|replay [ARGUMENT ..]
 
+A host has the cases of admit, and its standard error isn't compared.
 The arguments are passed on to the program, which must print the same with them.
 Each case runs in a folder of its own that holds just the case's input files. After the stored cases come some whose files
 are missing, a folder, unended or far too long. The first difference ends the run; no case at all is a failure."""
@@ -93,7 +94,7 @@ def difference(found, expected):
     return f"line {at + 1}: printed {shown[0]!r}, expected {shown[1]!r}"
 
 
-def judge(command, name, files, expected, said=b""):
+def judge(command, name, files, expected, said):
     """Standard error isn't compared where `said` is None."""
     try:
         done = run(command, files)
@@ -118,21 +119,23 @@ def judge_full(command):
 
 
 def main(arguments):
-    if len(arguments) < 2 or arguments[1] not in ODD:
-        sys.exit("usage: tests/vectors.py PROGRAM admit|replay [ARGUMENT ..]")
-    program, kind, *passed = arguments
+    if len(arguments) < 2 or arguments[1] not in [*ODD, "host"]:
+        sys.exit("usage: tests/vectors.py PROGRAM admit|host|replay [ARGUMENT ..]")
+    program, named, *passed = arguments
+    kind, heard = ("admit", False) if named == "host" else (named, True)
     command = [str(Path(program).resolve()), *passed]
     cases = list(stored(kind))
     if not cases:
         sys.exit(f"vectors: no case of {kind} in {STORED}")
     for name, files, expected in cases:
-        judge(command, name, files, expected, None if len(expected) == REFUSED_BYTES else b"")
+        said = b"" if heard and len(expected) != REFUSED_BYTES else None
+        judge(command, name, files, expected, said)
     odd = ODD[kind]
-    for name, case in odd.items():
-        judge(command, name, *case)
-    if kind == "admit":
+    for name, (files, expected, *said) in odd.items():
+        judge(command, name, files, expected, b"".join(said) if heard else None)
+    if named == "admit":
         judge_full(command)
-    print(f"vectors: {' '.join([kind, *passed])}: {len(cases)} stored cases and {len(odd)} odd files passed")
+    print(f"vectors: {' '.join([named, *passed])}: {len(cases)} stored cases and {len(odd)} odd files passed")
 
 
 main(sys.argv[1:])
