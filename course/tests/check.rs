@@ -131,6 +131,27 @@ fn order_lines() {
     );
 }
 
+/// What comes next is never past the last level or link.
+#[test]
+fn lines_out_of_turn_after_the_last() {
+    in_table(
+        "   100 1",
+        "   100 8",
+        &[
+            "table.txt:1:1: link: link 1 level 8 is out of turn: link 1 level 1 comes first",
+            "table.txt:2:1: link: link 1 level 2 is out of turn: link 2 level 1 comes here",
+        ],
+    );
+    in_table(
+        "   1   1   2   100 1",
+        "  64   1   2   100 8",
+        &[
+            "table.txt:1:1: link: link 64 level 8 is out of turn: link 1 level 1 comes first",
+            "table.txt:2:1: link: link 1 level 2 is out of turn: no line comes here",
+        ],
+    );
+}
+
 #[test]
 fn table_lines() {
     in_table("   100 2", "   100 3", &["table.txt:2:1: link: link 1 level 3 is out of turn: link 1 level 2 or link 2 level 1 comes here"]);
