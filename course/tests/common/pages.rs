@@ -6,13 +6,12 @@ use course::numbers::commas;
 use course::status::{Outcome, Status};
 use std::collections::{BTreeMap, BTreeSet};
 
-/// A trace's columns: flow, frame, link, level, came, started, started_bit, gone, stay, threshold, bytes.
+/// A trace's columns: flow, frame, link, level, came, started, bit, gone, stay, threshold, bytes.
 pub type Row = [u64; 11];
 
 fn trace_rows(text: &str) -> Vec<Row> {
     let mut lines = text.lines();
-    let header =
-        "flow\tframe\tlink\tlevel\tcame\tstarted\tstarted_bit\tgone\tstay\tthreshold\tbytes";
+    let header = "flow\tframe\tlink\tlevel\tcame\tstarted\tbit\tgone\tstay\tthreshold\tbytes";
     assert_eq!(lines.next(), Some(header));
     let row = |line: &str| {
         let numbers: Vec<u64> = line.split('\t').map(|word| word.parse().unwrap()).collect();
