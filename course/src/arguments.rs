@@ -104,8 +104,8 @@ impl Command {
             let value = match choice.value {
                 None => String::new(),
                 Some(name) => match rest.next() {
-                    Some(value) => value.clone(),
-                    None => return Err(format!("{word} needs {name}")),
+                    Some(value) if !value.starts_with("--") => value.clone(),
+                    _ => return Err(format!("{word} needs {name}")),
                 },
             };
             arguments.given.push((choice.name, value));

@@ -9,6 +9,7 @@ pub mod folder;
 pub mod hall;
 pub mod mark;
 pub mod numbers;
+pub mod rows;
 pub mod session;
 pub mod status;
 pub mod titles;

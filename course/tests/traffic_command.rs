@@ -189,8 +189,11 @@ fn what_cannot_be_read_is_named() {
 #[test]
 fn misuse_ends_with_2() {
     let (two, sends) = (example("two-flows"), example("two-flows/sends.txt"));
-    let misused: [&[&str]; 9] = [
+    let misused: [&[&str]; 12] = [
         &[&two],
+        &[&two, "--search", "--tries", "0"],
+        &[&two, "--search", "--seconds", "0"],
+        &[&two, &sends, "--page", "--anyway"],
         &[&two, &sends, "--search"],
         &[&two, &sends, "--seconds", "3"],
         &[&two, &sends, "--from", "3"],

@@ -6,12 +6,14 @@ use super::hall::Hall;
 use super::network::Network;
 use super::page::stretch::{Recorder, Stretch};
 use super::run::{self, Arrivals, Send};
-use super::{cannot_write, page, report, trace, usage, watch};
+use super::{page, report, trace, usage, watch};
 use crate::arguments::Arguments;
+use crate::folder::cannot_write;
 use crate::numbers::{commas, counted};
 use crate::status::{Outcome, Status};
 use std::fs::File;
 use std::io::BufWriter;
+use std::path::Path;
 
 /// No run lasts longer, not even the most and largest frames that SENDS can ask for, sent at its last
 /// instant over 12 links of 1 Mbit/s.
@@ -89,7 +91,7 @@ impl Job<'_> {
         let network = Network::new(&self.hall.queues, &self.hall.flows);
         let mut figures = Figures::new(&self.hall.queues);
         let path = self.arguments.value("--trace");
-        let failed = |error| cannot_write(path.unwrap_or_default(), &error);
+        let failed = |error| cannot_write(Path::new(path.unwrap_or_default()), &error);
         let file = path.map(File::create).transpose().map_err(failed)?;
         let mut trace = file.map(|file| trace::Trace::new(&self.hall, BufWriter::new(file)));
         let progress = watch::Progress::on_terminal(self.sends.len());
@@ -128,7 +130,7 @@ impl Job<'_> {
             remark,
         };
         let html = page::page(&self.hall, seen, verdict, &recorder, &words);
-        std::fs::write(path, html).map_err(|error| cannot_write(path, &error))
+        std::fs::write(path, html).map_err(|error| cannot_write(Path::new(path), &error))
     }
 
     /// The stretch that the options choose, in place of the one at hand.

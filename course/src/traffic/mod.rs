@@ -175,10 +175,6 @@ fn arrivals(arguments: &Arguments) -> Result<Arrivals, Outcome> {
     }
 }
 
-fn cannot_write(path: &str, error: &std::io::Error) -> Outcome {
-    unreadable(format!("{path}: can't be written: {error}"))
-}
-
 /// The hall with the flows held after its orders.
 fn held(folder: &Folder) -> Result<Hall, Outcome> {
     let registry = Session::run(folder)?.registry;
