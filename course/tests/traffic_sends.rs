@@ -39,6 +39,7 @@ fn lines_stand_for_frames() {
         (8, 7, 100),
     ];
     assert_eq!(frames(text, &flows), list);
+    assert_eq!(frames(&format!("\u{feff}{text}"), &flows), list);
 }
 
 /// The whole burst at once, then a largest frame at each first instant that the bucket allows.
@@ -71,6 +72,12 @@ fn greedy_is_the_worst_a_bucket_allows() {
     assert_eq!(
         frames("greedy 8 from 0 to 40", &others),
         [(0, 8, 100), (34, 8, 100)]
+    );
+    // 625 bytes a µs fill the bucket at each instant: it holds two frames.
+    let fast = [flow(8, 5_000_000, 168, 84)];
+    assert_eq!(
+        frames("greedy 8 from 0 to 1", &fast),
+        [(0, 8, 84), (0, 8, 84), (1, 8, 84), (1, 8, 84)]
     );
     // Without an end: the last instant named, 900, and twice the span of 100.
     let list = frames("greedy 8 from 0\n900 7 100", &flows);
