@@ -183,6 +183,25 @@ fn a_changed_answer_fails() {
     assert_eq!(part.status, Status::Fine);
 }
 
+/// A flow's number is a name: as it stands in orders.txt, and as SENDS takes it.
+#[test]
+fn flow_numbers_have_no_commas() {
+    let orders = " 1 65535     1000    1542 1542    1000  1   1 1
+ 1 65535     1000    1542 1542    1000  1   1 1
+ 1 65534     1000    1542 1542    1000  1   1 1
+ 2 65533
+";
+    let table = b"   1   1   2   100 1    300     2000\n";
+    let folder = Temporary::with(table, orders.as_bytes());
+    for command in ["explain", "bounds"] {
+        let printed = course(&[command, &folder.word()]).printed;
+        assert!(
+            printed.contains("65535") && !printed.contains("65,53"),
+            "{printed}"
+        );
+    }
+}
+
 /// No order and no row: no wrong row.
 #[test]
 fn an_empty_hall_is_marked() {
