@@ -4,6 +4,7 @@ use super::tags::{well_formed, Tag};
 use super::{course as call, example, Temporary};
 use course::numbers::commas;
 use course::status::{Outcome, Status};
+use course::traffic::trace::COLUMNS;
 use std::collections::{BTreeMap, BTreeSet};
 
 /// A trace's columns: flow, frame, link, level, came, started, bit, gone, stay, threshold, bytes.
@@ -84,23 +85,10 @@ fn frames_agree(made: &Made, tags: &[Tag]) {
         .find(|tag| tag.get("id") == Some("stretch"))
         .unwrap();
     let (from, to) = (stretch.number("data-from"), stretch.number("data-to"));
-    let names = [
-        "flow",
-        "frame",
-        "link",
-        "level",
-        "came",
-        "started",
-        "bit",
-        "gone",
-        "stay",
-        "threshold",
-        "bytes",
-    ];
     let drawn: BTreeSet<Row> = tags
         .iter()
         .filter(|tag| tag.get("class") == Some("frame"))
-        .map(|tag| names.map(|name| tag.number(&format!("data-{name}"))))
+        .map(|tag| COLUMNS.map(|name| tag.number(&format!("data-{name}"))))
         .collect();
     let meeting = made
         .rows
