@@ -14,8 +14,11 @@ fn help_and_version_on_every_command() {
         assert_eq!(course(words).status, Status::Fine);
     }
     let all = course(&["--help"]).printed;
+    assert!(all.contains("course traffic FOLDER --search"));
     for command in COMMANDS {
-        assert!(all.contains(&format!("course {} ", command.name)));
+        for call in command.calls() {
+            assert!(all.contains(&call), "{call}");
+        }
         let help = course(&[command.name, "--help"]);
         assert_eq!(help.status, Status::Fine);
         assert!(help

@@ -228,6 +228,15 @@ fn misuse_ends_with_2() {
             outcome.errors
         );
     }
+    let folder = Temporary::new();
+    let (trace, page) = (folder.0.join("trace.tsv"), folder.0.join("page.html"));
+    let (written, drawn) = (trace.display().to_string(), page.display().to_string());
+    let words = [
+        "traffic", &two, &sends, "--trace", &written, "--page", &drawn,
+    ];
+    let outcome = call(&[&words[..], &["--from", "9", "--to", "3"]].concat());
+    assert_eq!(outcome.status, Status::Usage);
+    assert!(!trace.exists() && !page.exists());
     let help = call(&["traffic", "--help"]);
     assert!(help.status == Status::Fine && help.printed.contains("greedy FLOW from INSTANT"));
     assert!(call(&["traffic", "--version"])

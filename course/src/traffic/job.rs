@@ -29,6 +29,45 @@ pub struct Job<'a> {
     pub sends: Vec<Send>,
     /// Lines before the report.
     pub preface: String,
+    /// What the page is to show.
+    pub shown: Chosen,
+}
+
+/// The ends of a stretch that the options name.
+pub struct Chosen {
+    from: Option<u64>,
+    to: Option<u64>,
+}
+
+impl Chosen {
+    pub fn of(arguments: &Arguments) -> Result<Chosen, Outcome> {
+        let end = |name: &str| match arguments.number(name)? {
+            Some(instant) if instant > LAST_INSTANT => {
+                let last = commas(LAST_INSTANT);
+                Err(usage(&format!("{name}: instants go to {last}")))
+            }
+            instant => Ok(instant),
+        };
+        let (from, to) = (end("--from")?, end("--to")?);
+        if let (Some(from), Some(to)) = (from, to) {
+            stretch(from, to)?;
+        }
+        Ok(Chosen { from, to })
+    }
+
+    /// The stretch at hand, with the ends that are named.
+    fn in_place_of(&self, usual: Stretch) -> Result<Stretch, Outcome> {
+        let from = self.from.unwrap_or(usual.from);
+        let to = self.to.unwrap_or(usual.to.max(from + 1));
+        stretch(from, to)
+    }
+}
+
+fn stretch(from: u64, to: u64) -> Result<Stretch, Outcome> {
+    match from < to {
+        true => Ok(Stretch { from, to }),
+        false => Err(usage("--from must be before --to")),
+    }
 }
 
 impl Job<'_> {
@@ -120,7 +159,8 @@ impl Job<'_> {
             from: first,
             to: end.max(first),
         };
-        let stretch = self.stretch(Stretch::around(&self.hall, verdict.closest.as_ref(), whole))?;
+        let usual = Stretch::around(&self.hall, verdict.closest.as_ref(), whole);
+        let stretch = self.shown.in_place_of(usual)?;
         let network = Network::new(&self.hall.queues, &self.hall.flows);
         let mut recorder = Recorder::new(stretch, &self.hall, verdict.closest);
         run::run(&network, &self.sends, self.arrivals.clone(), &mut recorder);
@@ -131,23 +171,6 @@ impl Job<'_> {
         };
         let html = page::page(&self.hall, seen, verdict, &recorder, &words);
         std::fs::write(path, html).map_err(|error| cannot_write(Path::new(path), &error))
-    }
-
-    /// The stretch that the options choose, in place of the one at hand.
-    fn stretch(&self, usual: Stretch) -> Result<Stretch, Outcome> {
-        let chosen = |name: &str| match self.arguments.number(name)? {
-            Some(instant) if instant > LAST_INSTANT => {
-                let last = commas(LAST_INSTANT);
-                Err(usage(&format!("{name}: instants go to {last}")))
-            }
-            instant => Ok(instant),
-        };
-        let from = chosen("--from")?.unwrap_or(usual.from);
-        let to = chosen("--to")?.unwrap_or(usual.to.max(from + 1));
-        match from < to {
-            true => Ok(Stretch { from, to }),
-            false => Err(usage("--from must be before --to")),
-        }
     }
 }
 
