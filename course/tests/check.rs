@@ -99,6 +99,10 @@ fn order_lines() {
         "   1 1 \n",
         "orders.txt:1:48: 1 column too many: the line has 48, 47 are right",
     );
+}
+
+#[test]
+fn order_line_ends() {
     in_orders(
         " 2   101",
         " 3   101",

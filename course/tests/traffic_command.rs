@@ -228,6 +228,17 @@ fn misuse_ends_with_2() {
             outcome.errors
         );
     }
+    let help = call(&["traffic", "--help"]);
+    assert!(help.status == Status::Fine && help.printed.contains("greedy FLOW from INSTANT"));
+    assert!(call(&["traffic", "--version"])
+        .printed
+        .starts_with("course "));
+}
+
+/// What is misused is told before anything is written.
+#[test]
+fn a_stretch_the_wrong_way_round_writes_nothing() {
+    let (two, sends) = (example("two-flows"), example("two-flows/sends.txt"));
     let folder = Temporary::new();
     let (trace, page) = (folder.0.join("trace.tsv"), folder.0.join("page.html"));
     let (written, drawn) = (trace.display().to_string(), page.display().to_string());
@@ -237,11 +248,6 @@ fn misuse_ends_with_2() {
     let outcome = call(&[&words[..], &["--from", "9", "--to", "3"]].concat());
     assert_eq!(outcome.status, Status::Usage);
     assert!(!trace.exists() && !page.exists());
-    let help = call(&["traffic", "--help"]);
-    assert!(help.status == Status::Fine && help.printed.contains("greedy FLOW from INSTANT"));
-    assert!(call(&["traffic", "--version"])
-        .printed
-        .starts_with("course "));
 }
 
 /// 10 s of hall time with 100,000 frames, each over three hops. The bar is generous:
