@@ -11,7 +11,7 @@ pub struct Choice {
 /// A command: what it is called with, what its help says, and what it does.
 pub struct Command {
     pub name: &'static str,
-    /// The words after the command's name, as the usage line has them.
+    /// The words after the command's name, a line for each way to call it.
     pub usage: &'static str,
     /// One line for the list of commands.
     pub about: &'static str,
@@ -57,8 +57,15 @@ impl Arguments {
 }
 
 impl Command {
+    /// The ways to call it, as they are typed.
+    pub fn calls(&self) -> impl Iterator<Item = String> + '_ {
+        let ways = self.usage.lines();
+        ways.map(|words| format!("course {} {words}", self.name))
+    }
+
     pub fn usage_line(&self) -> String {
-        format!("usage: course {} {}", self.name, self.usage)
+        let calls: Vec<String> = self.calls().collect();
+        format!("usage: {}", calls.join("\n       "))
     }
 
     fn help_text(&self) -> String {
@@ -104,8 +111,8 @@ impl Command {
             let value = match choice.value {
                 None => String::new(),
                 Some(name) => match rest.next() {
-                    Some(value) => value.clone(),
-                    None => return Err(format!("{word} needs {name}")),
+                    Some(value) if !value.starts_with("--") => value.clone(),
+                    _ => return Err(format!("{word} needs {name}")),
                 },
             };
             arguments.given.push((choice.name, value));

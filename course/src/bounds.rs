@@ -175,7 +175,7 @@ fn flow_report(registry: &Registry, links: &[LinkWork]) -> String {
         let bound = end_to_end(links, flow);
         rows.push(vec![
             (index + 1).to_string(),
-            commas(flow.number),
+            flow.number.to_string(),
             flow.hops.len().to_string(),
             commas(bound),
             commas(path_thresholds(&registry.queues, &flow.hops)),

@@ -2,6 +2,7 @@
 
 use crate::status::{Outcome, Status};
 use std::fs;
+use std::io;
 use std::path::{Path, PathBuf};
 
 pub const TABLE: &str = "table.txt";
@@ -16,11 +17,20 @@ pub struct Folder {
 
 /// The bytes of a file, or why it can't be read, in words.
 pub fn read_file(path: &Path) -> Result<Vec<u8>, String> {
-    fs::read(path).map_err(|error| {
-        let why = error.to_string();
-        let why = why.split(" (os error").next().unwrap_or_default();
-        format!("{}: can't be read: {why}", path.display())
-    })
+    fs::read(path).map_err(|error| format!("{}: can't be read: {}", path.display(), why(&error)))
+}
+
+/// What ends a command that can't write a file.
+pub fn cannot_write(path: &Path, error: &io::Error) -> Outcome {
+    let words = format!("{}: can't be written: {}", path.display(), why(error));
+    Outcome::failed(Status::Wrong, words)
+}
+
+/// The system's words without its number for them.
+fn why(error: &io::Error) -> String {
+    let words = error.to_string();
+    let kept = words.split(" (os error").next();
+    kept.unwrap_or_default().to_string()
 }
 
 impl Folder {

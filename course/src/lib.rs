@@ -9,6 +9,7 @@ pub mod folder;
 pub mod hall;
 pub mod mark;
 pub mod numbers;
+pub mod rows;
 pub mod session;
 pub mod status;
 pub mod titles;
@@ -38,10 +39,8 @@ pub fn version() -> String {
 fn help() -> String {
     let mut text = String::from("usage: course COMMAND ..\n\n");
     for command in COMMANDS {
-        text += &format!(
-            "  course {} {}\n      {}\n",
-            command.name, command.usage, command.about
-        );
+        let calls: String = command.calls().map(|call| format!("  {call}\n")).collect();
+        text += &format!("{calls}      {}\n", command.about);
     }
     text + "\n`course COMMAND --help` says more. FOLDER holds table.txt and orders.txt.\n\
             Exit status: 0 fine; 1 a refused batch, unreadable input, a mistake found by `check`, a wrong row in `mark`;\n\

@@ -1,7 +1,7 @@
 //! The program `course`.
 
 use course::status::Status;
-use std::io::Write;
+use std::io::{ErrorKind, Write};
 use std::process::ExitCode;
 
 fn main() -> ExitCode {
@@ -17,6 +17,10 @@ fn main() -> ExitCode {
     // Nobody can be told where standard error is closed.
     let _ = std::io::stderr().write_all(outcome.errors.as_bytes());
     if let Err(error) = written {
+        // A reader who has seen enough, as `head`, closes the pipe.
+        if error.kind() == ErrorKind::BrokenPipe {
+            return outcome.status.into();
+        }
         let _ = writeln!(std::io::stderr(), "course: standard output: {error}");
         return Status::Wrong.into();
     }

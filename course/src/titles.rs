@@ -5,10 +5,12 @@ use plain::columns::Field;
 use plain::orders::{Flow, Hop, KIND, KINDS};
 use plain::table::{Of, Queue, ENTRIES};
 
-/// A field's number: `rate 20,000 kbit/s`.
+/// A field's number: `rate 20,000 kbit/s`. One without a unit is a name, as it stands in the files: `flow number 65535`.
 pub fn named(field: &Field, value: u64) -> String {
-    let words = [field.name, &commas(value), field.unit].join(" ");
-    words.trim_end().to_string()
+    match field.unit {
+        "" => format!("{} {value}", field.name),
+        unit => format!("{} {} {unit}", field.name, commas(value)),
+    }
 }
 
 /// `link 3 level 2`.

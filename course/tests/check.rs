@@ -99,6 +99,10 @@ fn order_lines() {
         "   1 1 \n",
         "orders.txt:1:48: 1 column too many: the line has 48, 47 are right",
     );
+}
+
+#[test]
+fn order_line_ends() {
     in_orders(
         " 2   101",
         " 3   101",
@@ -128,6 +132,27 @@ fn order_lines() {
         " 1   101",
         "\u{feff} 1   101",
         "orders.txt:1:1: a byte order mark before the first column",
+    );
+}
+
+/// What comes next is never past the last level or link.
+#[test]
+fn lines_out_of_turn_after_the_last() {
+    in_table(
+        "   100 1",
+        "   100 8",
+        &[
+            "table.txt:1:1: link: link 1 level 8 is out of turn: link 1 level 1 comes first",
+            "table.txt:2:1: link: link 1 level 2 is out of turn: link 2 level 1 comes here",
+        ],
+    );
+    in_table(
+        "   1   1   2   100 1",
+        "  64   1   2   100 8",
+        &[
+            "table.txt:1:1: link: link 64 level 8 is out of turn: link 1 level 1 comes first",
+            "table.txt:2:1: link: link 1 level 2 is out of turn: no line comes here",
+        ],
     );
 }
 

@@ -14,8 +14,11 @@ fn help_and_version_on_every_command() {
         assert_eq!(course(words).status, Status::Fine);
     }
     let all = course(&["--help"]).printed;
+    assert!(all.contains("course traffic FOLDER --search"));
     for command in COMMANDS {
-        assert!(all.contains(&format!("course {} ", command.name)));
+        for call in command.calls() {
+            assert!(all.contains(&call), "{call}");
+        }
         let help = course(&[command.name, "--help"]);
         assert_eq!(help.status, Status::Fine);
         assert!(help
@@ -29,7 +32,8 @@ fn help_and_version_on_every_command() {
 #[test]
 fn usage() {
     let hall = hall();
-    let wrong: [&[&str]; 12] = [
+    let sheet = format!("{hall}/printed.txt");
+    let wrong: [&[&str]; 16] = [
         &[],
         &["nothing"],
         &["check"],
@@ -41,14 +45,14 @@ fn usage() {
         &["bounds", &hall, "--after", "34"],
         &["mark", &hall],
         &["mark", &hall, "x", "--lines", "1"],
+        &["mark", &hall, &sheet, "--lines", "5-3"],
+        &["mark", &hall, &sheet, "--lines", "0-3"],
+        &["mark", &hall, &sheet, "--lines", "30-34"],
         &["hall", "--seed", "1"],
+        &["hall", "--out", "--seed", "1"],
     ];
     for words in wrong {
         let outcome = course(words);
-        if words.first() == Some(&"mark") && words.len() == 5 {
-            assert_eq!(outcome.status, Status::Usage, "{words:?}");
-            continue;
-        }
         assert_eq!(outcome.status, Status::Usage, "{words:?}");
         assert!(
             outcome.printed.is_empty() && !outcome.errors.is_empty(),
@@ -180,11 +184,70 @@ fn a_changed_answer_fails() {
     assert_eq!(course(&["mark", &hall(), &short]).status, Status::Wrong);
     let part = course(&["mark", &hall(), &short, "--lines", "1-20"]);
     assert_eq!(part.status, Status::Fine);
-    let empty = folder.write("empty.txt", b"# nothing\n");
-    assert_eq!(
-        course(&["mark", &hall(), &empty, "--lines", "40-50"]).status,
-        Status::Wrong
+}
+
+/// A flow's number is a name: as it stands in orders.txt, and as SENDS takes it.
+#[test]
+fn flow_numbers_have_no_commas() {
+    let orders = " 1 65535     1000    1542 1542    1000  1   1 1
+ 1 65535     1000    1542 1542    1000  1   1 1
+ 1 65534     1000    1542 1542    1000  1   1 1
+ 2 65533
+";
+    let table = b"   1   1   2   100 1    300     2000\n";
+    let folder = Temporary::with(table, orders.as_bytes());
+    for command in ["explain", "bounds"] {
+        let printed = course(&[command, &folder.word()]).printed;
+        assert!(
+            printed.contains("65535") && !printed.contains("65,53"),
+            "{printed}"
+        );
+    }
+}
+
+/// No order and no row: no wrong row.
+#[test]
+fn an_empty_hall_is_marked() {
+    let folder = Temporary::with(b"", b"");
+    let sheet = folder.write("sheet.txt", b"");
+    let path = folder.0.display().to_string();
+    assert_eq!(course(&["mark", &path, &sheet]).status, Status::Fine);
+}
+
+/// A worksheet's blanks are numbers that aren't given, and a row of blanks is none; a byte order mark and CR LF do no harm.
+#[test]
+fn worksheets_filled_in_part() {
+    let folder = Temporary::new();
+    let sheet = folder.write(
+        "sheet.txt",
+        "\u{feff}1 0 1 0 0 4 ________\r\n2 ___ ____ ____ __ ______ ________\r\n".as_bytes(),
     );
+    let outcome = course(&["mark", &hall(), &sheet, "--lines", "1-2"]);
+    assert_eq!(
+        outcome.printed, "line 1: right\nline 2: wrong: no row\n1 of 2 rows right\n",
+        "{}",
+        outcome.errors
+    );
+    let half = folder.write("half.txt", b"1 0 1 __ 0\n");
+    let outcome = course(&["mark", &hall(), &half]);
+    assert!(
+        outcome.errors.contains("half.txt:1:7: `__`"),
+        "{}",
+        outcome.errors
+    );
+}
+
+#[test]
+fn a_long_sheet_takes_seconds() {
+    let folder = Temporary::new();
+    let rows = 100_000;
+    let text: String = (1..=rows).map(|line| format!("{line} 0 1 0 0\n")).collect();
+    let sheet = folder.write("sheet.txt", text.as_bytes());
+    let start = std::time::Instant::now();
+    let outcome = course(&["mark", &hall(), &sheet]);
+    assert!(outcome.printed.contains(" of 100,000 rows right"));
+    let took = start.elapsed();
+    assert!(took.as_secs() < 3, "{took:?}");
 }
 
 #[test]
@@ -192,7 +255,7 @@ fn unreadable_rows() {
     let folder = Temporary::new();
     let sheet = folder.write(
         "sheet.txt",
-        b"1 0 1 0\n2 0 2 0 x\n3 0 1 0 0\n3 0 1 0 0\n4 0 1 0 0 1,23\n",
+        b"1 0 1 0\n2 0 2 0 x\n3 0 1 0 0\n3 0 1 0 0\n4 0 1 0 0 1,23\n5 0 4 0 0 +21\n6\n",
     );
     let outcome = course(&["mark", &hall(), &sheet]);
     assert_eq!(outcome.status, Status::Wrong);
@@ -201,6 +264,8 @@ fn unreadable_rows() {
         "sheet.txt:2:9: `x`",
         "sheet.txt:4:1: ",
         "sheet.txt:5:11: `1,23`",
+        "sheet.txt:6:11: `+21`",
+        "sheet.txt:7:1: 1 number;",
     ] {
         assert!(
             outcome.errors.contains(place),
@@ -220,10 +285,11 @@ fn made_halls() {
             course(&["hall", "--seed", seed, "--out", &out]).status,
             Status::Fine
         );
-        assert_eq!(
-            course(&["hall", "--seed", seed, "--out", &out]).status,
-            Status::Wrong
-        );
+        let again = course(&["hall", "--seed", seed, "--out", &out]);
+        assert_eq!(again.status, Status::Wrong);
+        assert!(again
+            .errors
+            .ends_with("table.txt: can't be written: File exists\n"));
         let other = folder.0.join(format!("{seed}-again")).display().to_string();
         assert_eq!(
             course(&["hall", "--seed", seed, "--out", &other]).status,

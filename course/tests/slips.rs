@@ -102,3 +102,24 @@ fn a_share_stored_early_refuses_one_link_too_soon() {
     let found = marks(&session, &rows, &(1..=u64::MAX));
     assert_eq!(found[25].slips, [name]);
 }
+
+/// Two orders refused at link 3, both shares left at link 2, though with the first one's there the second would be refused at
+/// link 2 already: the trainee's rows say where it was.
+#[test]
+fn a_share_is_stored_up_to_the_link_that_the_row_names() {
+    let table = b"   1   1   2   100 1    371     9000
+   2   2   3   100 1    371     9000
+   3   3   4   100 1    100     9000
+";
+    let orders = b" 1     1     1000    1542 1542    1000  3   1 1   2 1   3 1
+ 1     2     1000    1542 1542    1000  3   1 1   2 1   3 1
+ 1     3     1000    1542 1542    1000  1   2 1
+";
+    let folder = common::Temporary::with(table, orders);
+    // 8000 × (1,542 + 1,589 + 1,589 + 1,542) / 100,000 = 500.96.
+    let rows = b"1 22 0 3 1 255\n2 22 0 3 1 255\n3 22 0 2 1 501\n";
+    let sheet = folder.write("sheet.txt", rows);
+    let marked = common::course(&["mark", &folder.0.display().to_string(), &sheet]).printed;
+    let words = "fits the slip: first links stored before a refusal at the last\n";
+    assert!(marked.contains(words), "{marked}");
+}

@@ -189,8 +189,11 @@ fn what_cannot_be_read_is_named() {
 #[test]
 fn misuse_ends_with_2() {
     let (two, sends) = (example("two-flows"), example("two-flows/sends.txt"));
-    let misused: [&[&str]; 9] = [
+    let misused: [&[&str]; 12] = [
         &[&two],
+        &[&two, "--search", "--tries", "0"],
+        &[&two, "--search", "--seconds", "0"],
+        &[&two, &sends, "--page", "--anyway"],
         &[&two, &sends, "--search"],
         &[&two, &sends, "--seconds", "3"],
         &[&two, &sends, "--from", "3"],
@@ -230,6 +233,21 @@ fn misuse_ends_with_2() {
     assert!(call(&["traffic", "--version"])
         .printed
         .starts_with("course "));
+}
+
+/// What is misused is told before anything is written.
+#[test]
+fn a_stretch_the_wrong_way_round_writes_nothing() {
+    let (two, sends) = (example("two-flows"), example("two-flows/sends.txt"));
+    let folder = Temporary::new();
+    let (trace, page) = (folder.0.join("trace.tsv"), folder.0.join("page.html"));
+    let (written, drawn) = (trace.display().to_string(), page.display().to_string());
+    let words = [
+        "traffic", &two, &sends, "--trace", &written, "--page", &drawn,
+    ];
+    let outcome = call(&[&words[..], &["--from", "9", "--to", "3"]].concat());
+    assert_eq!(outcome.status, Status::Usage);
+    assert!(!trace.exists() && !page.exists());
 }
 
 /// 10 s of hall time with 100,000 frames, each over three hops. The bar is generous:

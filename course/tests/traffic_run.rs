@@ -144,9 +144,8 @@ fn equals_the_checkers_run_at_every_instant() {
     assert!(halls > 50 && stays > 20_000, "{halls} halls, {stays} stays");
 }
 
-/// `WorkedRun` of the model: two flows on one link of 448 Mbit/s.
-#[test]
-fn has_the_worked_runs_figures() {
+/// `WorkedRun`'s hall: two flows on one link of 448 Mbit/s.
+fn worked_hall() -> Hall {
     let queue = |level, threshold, buffer| Queue {
         link: 1,
         from: 1,
@@ -164,10 +163,16 @@ fn has_the_worked_runs_figures() {
         deadline: 10,
         hops: vec![Hop { link: 1, level }],
     };
-    let hall = Hall::new(
+    Hall::new(
         vec![queue(1, 6, 169), queue(2, 10, 253)],
         vec![flow(1, 168), flow(2, 252)],
-    );
+    )
+}
+
+/// `WorkedRun` of the model.
+#[test]
+fn has_the_worked_runs_figures() {
+    let hall = worked_hall();
     let bounds: Vec<_> = hall
         .bounds
         .iter()

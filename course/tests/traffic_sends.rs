@@ -39,6 +39,7 @@ fn lines_stand_for_frames() {
         (8, 7, 100),
     ];
     assert_eq!(frames(text, &flows), list);
+    assert_eq!(frames(&format!("\u{feff}{text}"), &flows), list);
 }
 
 /// The whole burst at once, then a largest frame at each first instant that the bucket allows.
@@ -72,6 +73,12 @@ fn greedy_is_the_worst_a_bucket_allows() {
         frames("greedy 8 from 0 to 40", &others),
         [(0, 8, 100), (34, 8, 100)]
     );
+    // 625 bytes a µs fill the bucket at each instant: it holds two frames.
+    let fast = [flow(8, 5_000_000, 168, 84)];
+    assert_eq!(
+        frames("greedy 8 from 0 to 1", &fast),
+        [(0, 8, 84), (0, 8, 84), (1, 8, 84), (1, 8, 84)]
+    );
     // Without an end: the last instant named, 900, and twice the span of 100.
     let list = frames("greedy 8 from 0\n900 7 100", &flows);
     assert_eq!(list.last(), Some(&(1_100, 8, 100)));
@@ -83,39 +90,41 @@ fn mistake(text: &str) -> String {
     found.unwrap_err().to_string()
 }
 
+/// What is said of each SENDS.
+const MISTAKES: [(&str, &str); 13] = [
+    ("0 7\n", "1:4: bytes: missing"),
+    ("# x\n0 9 100\n", "2:3: flow 9 isn't held after the orders"),
+    (
+        "0 7 1,542\n",
+        "1:5: bytes: `1,542`: digits alone, without separators",
+    ),
+    ("0 7 x 2\n", "1:5: bytes: `x` is no number"),
+    ("-1 7 84\n", "1:1: instant: `-1` is no number"),
+    ("0 7 0\n", "1:5: bytes: 0 is out of range (1 to 65,535)"),
+    ("0 7 84 x\n", "1:9: count: missing"),
+    (
+        "0 7 84 x 0\n",
+        "1:10: count: 0 is out of range (1 to 5,000,000)",
+    ),
+    ("0 7 84 every 3\n", "1:8: `every` isn't expected here"),
+    ("greedy 7\n", "1:9: `from INSTANT` is expected here"),
+    (
+        "greedy 7 from 5 to 4\n",
+        "1:20: instant: 4 is out of range (5 to 1,000,000,000,000)",
+    ),
+    (
+        "greedy 7 from 5 until 9\n",
+        "1:17: `until` isn't expected here",
+    ),
+    (
+        "0 99999999999999999999 84\n",
+        "1:3: flow: 99999999999999999999 is out of range (1 to 65,535)",
+    ),
+];
+
 #[test]
 fn mistakes_are_named_with_line_and_column() {
-    let named = [
-        ("0 7\n", "1:4: bytes: missing"),
-        ("# x\n0 9 100\n", "2:3: flow 9 isn't held after the orders"),
-        (
-            "0 7 1,542\n",
-            "1:5: bytes: `1,542`: digits alone, without separators",
-        ),
-        ("0 7 x 2\n", "1:5: bytes: `x` is no number"),
-        ("-1 7 84\n", "1:1: instant: `-1` is no number"),
-        ("0 7 0\n", "1:5: bytes: 0 is out of range (1 to 65,535)"),
-        ("0 7 84 x\n", "1:9: count: missing"),
-        (
-            "0 7 84 x 0\n",
-            "1:10: count: 0 is out of range (1 to 5,000,000)",
-        ),
-        ("0 7 84 every 3\n", "1:8: `every` isn't expected here"),
-        ("greedy 7\n", "1:9: `from INSTANT` is expected here"),
-        (
-            "greedy 7 from 5 to 4\n",
-            "1:20: instant: 4 is out of range (5 to 1,000,000,000,000)",
-        ),
-        (
-            "greedy 7 from 5 until 9\n",
-            "1:17: `until` isn't expected here",
-        ),
-        (
-            "0 99999999999999999999 84\n",
-            "1:3: flow: 99999999999999999999 is out of range (1 to 65,535)",
-        ),
-    ];
-    for (text, expected) in named {
+    for (text, expected) in MISTAKES {
         assert_eq!(mistake(text), expected, "{text}");
     }
     let too_many = format!("0 7 84\n0 7 84 x {MOST_FRAMES}\n");

@@ -1,9 +1,7 @@
 //! Sources that keep to their token bucket and make the most of it.
 
 use crate::rng::Rng;
-use plain::orders::Flow;
-
-pub const SMALLEST_FRAME: u64 = 84;
+use plain::orders::{Flow, SMALLEST_FRAME};
 
 /// A frame that a source adds.
 #[derive(Clone, Copy)]
@@ -117,10 +115,7 @@ pub fn sends(rng: &mut Rng, index: usize, flow: &Flow, pattern: Pattern, until: 
             Pace::Greedy => {
                 let bytes = size(rng, pattern.sizes, flow.frame);
                 wanted = Some(bytes);
-                (8000 * bytes)
-                    .saturating_sub(tokens)
-                    .div_ceil(flow.rate)
-                    .max(1)
+                (8000 * bytes).saturating_sub(tokens).div_ceil(flow.rate)
             }
         };
         instant += gap;

@@ -1,9 +1,9 @@
 //! Orders and direct calls carried out on the plain registry.
 
 use crate::causes;
-use crate::orders::{read_call, Order, REGISTER, RELEASE};
+use crate::orders::{read_call, Flow, Order, REGISTER, RELEASE};
 use crate::registry::{Answer, Registry};
-use crate::work::Work;
+use crate::work::{hops_work, Work};
 
 impl Registry {
     /// The direct call to register.
@@ -27,12 +27,14 @@ impl Registry {
     /// One order; for a registration also what was worked out.
     pub fn perform(&mut self, order: &Order) -> (Answer, Option<Work>) {
         let (answer, work) = self.answer_to(order);
-        match (order, &work) {
-            (Order::Register(_), Some(work)) if work.refused.is_some() => self.keep_early(work),
-            (Order::Register(flow), _) => {
+        match order {
+            Order::Register(flow) if answer.code != causes::DONE => {
+                self.keep_early(flow, answer.code, answer.link);
+            }
+            Order::Register(flow) => {
                 self.put_in(flow);
             }
-            (Order::Release(number), _) => {
+            Order::Release(number) => {
                 self.take_out(*number);
             }
         }
@@ -56,13 +58,15 @@ impl Registry {
         }
     }
 
-    /// The slip of storing a path's first links before a refusal at a later one.
-    pub fn keep_early(&mut self, work: &Work) {
-        if !self.slips.stored_early || work.links.is_empty() {
+    /// The slip of storing a path's first links before a refusal with this code at a later one.
+    pub fn keep_early(&mut self, flow: &Flow, code: u64, link: u64) {
+        let at_a_link = [causes::RATE, causes::DELAY, causes::BACKLOG].contains(&code);
+        if !self.slips.stored_early || !at_a_link {
             return;
         }
-        let passed = &work.hops[..work.links.len() - 1];
-        self.residue
-            .extend(passed.iter().map(|hop| (hop.hop, hop.share)));
+        let hops = hops_work(&self.queues, flow, &self.slips);
+        let refusing = flow.hops.iter().position(|hop| hop.link == link);
+        let passed = hops.iter().take(refusing.unwrap_or(0));
+        self.residue.extend(passed.map(|hop| (hop.hop, hop.share)));
     }
 }

@@ -1,7 +1,10 @@
 //! What is wrong with a line, in words.
 
 use crate::numbers::{commas, counted};
+use crate::titles::queue_name;
 use plain::faults::What;
+use plain::orders::Hop;
+use plain::table::{MOST_LEVELS, MOST_LINKS};
 
 /// `1 to 65,535`; several ranges joined by `or`.
 fn ranges(ranges: &[(u64, u64)]) -> String {
@@ -29,21 +32,22 @@ fn byte(byte: u8) -> String {
     }
 }
 
-fn turn(value: (u64, u64), before: Option<(u64, u64)>) -> String {
-    let (link, level) = value;
+fn turn((link, level): (u64, u64), before: Option<(u64, u64)>) -> String {
+    let queue = |(link, level): (u64, u64)| queue_name(Hop { link, level });
     let expected = match before {
-        None => "link 1 level 1 comes first".to_string(),
-        Some((last, below)) => format!(
-            "link {last} level {} or link {} level 1 comes here",
-            below + 1,
-            last + 1
-        ),
+        None => format!("{} comes first", queue((1, 1))),
+        Some((last, level)) => {
+            let next_level = (level < MOST_LEVELS).then_some((last, level + 1));
+            let next_link = (last < MOST_LINKS).then_some((last + 1, 1));
+            let next = [next_level, next_link].into_iter().flatten();
+            let named: Vec<String> = next.map(queue).collect();
+            match named.is_empty() {
+                true => "no line comes here".to_string(),
+                false => format!("{} comes here", named.join(" or ")),
+            }
+        }
     };
-    format!(
-        "link {} level {} is out of turn: {expected}",
-        commas(link),
-        level
-    )
+    format!("{} is out of turn: {expected}", queue((link, level)))
 }
 
 pub fn words(what: &What) -> String {

@@ -33,7 +33,7 @@ impl Filled<'_> {
         } else {
             ""
         };
-        format!("flow {}{new} {}", commas(share.number), commas(number))
+        format!("flow {}{new} {}", share.number, commas(number))
     }
 }
 

@@ -31,7 +31,6 @@ fn unread(step: &Step) -> String {
 }
 
 fn released(step: &Step, number: u64) -> String {
-    let number = commas(number);
     match step.answer.code {
         causes::DONE => format!(
             "Released: flow {number} gives back place {} and its hop entries.",
@@ -81,10 +80,7 @@ fn registered(step: &Step, flow: &Flow, work: &Work, before: &Registry) -> Strin
 
 fn held(flow: &Flow, before: &Registry) -> String {
     let place = before.holder(flow.number).map_or(0, |index| index + 1);
-    format!(
-        "Flow {} is held already, at place {place}.",
-        commas(flow.number)
-    )
+    format!("Flow {} is held already, at place {place}.", flow.number)
 }
 
 fn no_queue(at: Hop, before: &Registry) -> String {

@@ -5,7 +5,7 @@ mod orders;
 pub mod worksheet;
 
 use crate::arguments::{Arguments, Choice, Command};
-use crate::folder::{Folder, ORDERS, TABLE};
+use crate::folder::{cannot_write, Folder, ORDERS, TABLE};
 use crate::session::{remark, Session};
 use crate::status::{Outcome, Status};
 use halls::rng::Rng;
@@ -114,8 +114,5 @@ fn write_new(path: &Path, content: &[u8]) -> Result<(), Outcome> {
             .open(path)?;
         std::io::Write::write_all(&mut file, content)
     };
-    written().map_err(|error| {
-        let words = format!("{}: can't be written: {error}", path.display());
-        Outcome::failed(Status::Wrong, words)
-    })
+    written().map_err(|error| cannot_write(path, &error))
 }

@@ -4,7 +4,8 @@ use super::network::Network;
 use halls::rng::Rng;
 use plain::causes;
 use plain::columns::lines;
-use plain::orders::{read_order, write_registration, write_release, Flow, Hop, MOST_HOPS};
+use plain::orders::{read_order, write_registration, write_release};
+use plain::orders::{Flow, Hop, MOST_HOPS, SMALLEST_FRAME};
 use plain::registry::{Answer, Registry};
 
 /// What an order is wanted to be answered.
@@ -145,7 +146,9 @@ impl<'a> Orders<'a> {
             causes::APART if flow.hops.len() > 2 => {
                 flow.hops.remove(1);
             }
-            causes::FRAME => flow.burst = flow.frame - rng.between(1, flow.frame - 84 + 1),
+            causes::FRAME => {
+                flow.burst = flow.frame - rng.between(1, flow.frame - SMALLEST_FRAME + 1)
+            }
             causes::RANGE => out_of_range(rng, &mut flow),
             _ => {}
         }

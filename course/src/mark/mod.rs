@@ -28,8 +28,8 @@ ANSWERS is a text with a row of numbers, separated by blanks, for each order lin
 code, place, link and level are those of the answer line. delay (µs) and backlog (bytes) are the bounds, rounded up, at
 the queue that decides, with the new flow counted in: for 22 and 23 the failing queue, for an admission the flow's own
 queue at its last hop. stay is the longest stay predicted there for exercise three: the delay bound of that queue with
-the flows that are held after the last order, 0 where it then has none. `-` stands for a number that isn't given; the
-answers to releases and the other refusals have no bounds. 1,980 may be written 1980.
+the flows that are held after the last order, 0 where it then has none. `-` stands for a number that isn't given, and so
+do a worksheet's blanks, `____`. The answers to releases and the other refusals have no bounds. 1,980 may be written 1980.
 
 Each row is right or wrong; a line of orders.txt without a row is wrong too, but with --lines A-B only lines A to B are
 asked for. A wrong row that is right after the trainee's own earlier rows is named as such. Otherwise, where the
@@ -55,6 +55,7 @@ fn mark(arguments: &Arguments) -> Result<Outcome, Outcome> {
     let folder = Folder::read(&arguments.words[0])?;
     let rows = rows(&arguments.words[1])?;
     let session = Session::run(&folder)?;
+    let asked = within(asked, session.steps.len())?;
     let marks = marks(&session, &rows, &asked);
     let right = marks.iter().filter(|mark| mark.right).count();
     let mut printed = String::new();
@@ -62,7 +63,7 @@ fn mark(arguments: &Arguments) -> Result<Outcome, Outcome> {
         printed += &format!("line {}: {}\n", commas(mark.line), mark.words);
     }
     printed += &summary(&marks, right);
-    let status = if right == marks.len() && right > 0 {
+    let status = if right == marks.len() {
         Status::Fine
     } else {
         Status::Wrong
@@ -72,19 +73,41 @@ fn mark(arguments: &Arguments) -> Result<Outcome, Outcome> {
         .with_remark(remark()))
 }
 
-/// The lines that are asked for.
-fn asked(arguments: &Arguments) -> Result<RangeInclusive<u64>, Outcome> {
+/// The lines that are asked for; none named means all.
+fn asked(arguments: &Arguments) -> Result<Option<RangeInclusive<u64>>, Outcome> {
     let Some(word) = arguments.value("--lines") else {
-        return Ok(1..=u64::MAX);
+        return Ok(None);
     };
     let ends = word.split_once('-');
     let parsed = ends.and_then(|(first, last)| Some(first.parse().ok()?..=last.parse().ok()?));
-    parsed.ok_or_else(|| {
+    let named = parsed.filter(|lines: &RangeInclusive<u64>| !lines.is_empty());
+    named.map(Some).ok_or_else(|| {
         Outcome::failed(
             Status::Usage,
             format!("course: --lines: `{word}` isn't as 1-20"),
         )
     })
+}
+
+/// The same lines, if orders.txt has them.
+fn within(
+    asked: Option<RangeInclusive<u64>>,
+    count: usize,
+) -> Result<RangeInclusive<u64>, Outcome> {
+    let all = 1..=count as u64;
+    match asked {
+        None => Ok(all),
+        Some(lines) if all.contains(lines.start()) && all.contains(lines.end()) => Ok(lines),
+        Some(lines) => Err(Outcome::failed(
+            Status::Usage,
+            format!(
+                "course: --lines {}-{}: orders.txt has {}",
+                lines.start(),
+                lines.end(),
+                counted(count, "line", "lines")
+            ),
+        )),
+    }
 }
 
 fn rows(path: &str) -> Result<Vec<Row>, Outcome> {

@@ -15,6 +15,10 @@ pub struct Expected {
     pub bounds: [Option<u128>; 3],
 }
 
+fn numbers(answer: &Answer) -> [u64; 4] {
+    [answer.code, answer.slot, answer.link, answer.level]
+}
+
 impl Expected {
     /// `last` holds the flows that are held after all orders.
     pub fn of(answer: &Answer, work: Option<&Work>, last: &Registry) -> Expected {
@@ -27,7 +31,7 @@ impl Expected {
             bounds.map_or(0, |bounds| bounds.delay)
         });
         Expected {
-            answer: [answer.code, answer.slot, answer.link, answer.level],
+            answer: numbers(answer),
             bounds: [
                 bounds.map(|bounds| bounds.delay),
                 bounds.map(|bounds| bounds.backlog),
@@ -73,19 +77,15 @@ impl Follower {
     }
 
     /// Takes the trainee's word for what became of an order.
-    fn follow(&mut self, order: &Order, done: bool) {
+    fn follow(&mut self, order: &Order, [code, _, link, _]: [u64; 4]) {
+        let done = code == causes::DONE;
         match order {
             Order::Register(flow) if done => {
                 if self.registry.holder(flow.number).is_none() {
                     self.registry.put_in(flow);
                 }
             }
-            Order::Register(flow) => {
-                if self.registry.slips.stored_early {
-                    let work = self.registry.judge(flow);
-                    self.registry.keep_early(&work);
-                }
-            }
+            Order::Register(flow) => self.registry.keep_early(flow, code, link),
             Order::Release(number) if done => self.registry.take_out(*number),
             Order::Release(_) => {}
         }
@@ -146,9 +146,9 @@ impl Followers {
 
     /// Goes on by the trainee's row, or where there is none by the true answer.
     pub fn follow(&mut self, order: &Order, row: Option<&Row>, answer: &Answer) {
-        let code = row.map_or(answer.code, |row| row.answer[0]);
+        let given = row.map_or(numbers(answer), |row| row.answer);
         for follower in std::iter::once(&mut self.true_rules).chain(&mut self.slipping) {
-            follower.follow(order, code == causes::DONE);
+            follower.follow(order, given);
         }
     }
 }

@@ -3,8 +3,7 @@
 
 use super::run::Send;
 use crate::numbers::commas;
-use halls::sources::SMALLEST_FRAME;
-use plain::orders::Flow;
+use plain::orders::{Flow, SMALLEST_FRAME};
 use std::fmt;
 
 /// The first frame by which a source doesn't conform.

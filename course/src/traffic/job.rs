@@ -6,12 +6,14 @@ use super::hall::Hall;
 use super::network::Network;
 use super::page::stretch::{Recorder, Stretch};
 use super::run::{self, Arrivals, Send};
-use super::{cannot_write, page, report, trace, usage, watch};
+use super::{page, report, trace, usage, watch};
 use crate::arguments::Arguments;
+use crate::folder::cannot_write;
 use crate::numbers::{commas, counted};
 use crate::status::{Outcome, Status};
 use std::fs::File;
 use std::io::BufWriter;
+use std::path::Path;
 
 /// No run lasts longer, not even the most and largest frames that SENDS can ask for, sent at its last
 /// instant over 12 links of 1 Mbit/s.
@@ -27,6 +29,45 @@ pub struct Job<'a> {
     pub sends: Vec<Send>,
     /// Lines before the report.
     pub preface: String,
+    /// What the page is to show.
+    pub shown: Chosen,
+}
+
+/// The ends of a stretch that the options name.
+pub struct Chosen {
+    from: Option<u64>,
+    to: Option<u64>,
+}
+
+impl Chosen {
+    pub fn of(arguments: &Arguments) -> Result<Chosen, Outcome> {
+        let end = |name: &str| match arguments.number(name)? {
+            Some(instant) if instant > LAST_INSTANT => {
+                let last = commas(LAST_INSTANT);
+                Err(usage(&format!("{name}: instants go to {last}")))
+            }
+            instant => Ok(instant),
+        };
+        let (from, to) = (end("--from")?, end("--to")?);
+        if let (Some(from), Some(to)) = (from, to) {
+            stretch(from, to)?;
+        }
+        Ok(Chosen { from, to })
+    }
+
+    /// The stretch at hand, with the ends that are named.
+    fn in_place_of(&self, usual: Stretch) -> Result<Stretch, Outcome> {
+        let from = self.from.unwrap_or(usual.from);
+        let to = self.to.unwrap_or(usual.to.max(from + 1));
+        stretch(from, to)
+    }
+}
+
+fn stretch(from: u64, to: u64) -> Result<Stretch, Outcome> {
+    match from < to {
+        true => Ok(Stretch { from, to }),
+        false => Err(usage("--from must be before --to")),
+    }
 }
 
 impl Job<'_> {
@@ -89,7 +130,7 @@ impl Job<'_> {
         let network = Network::new(&self.hall.queues, &self.hall.flows);
         let mut figures = Figures::new(&self.hall.queues);
         let path = self.arguments.value("--trace");
-        let failed = |error| cannot_write(path.unwrap_or_default(), &error);
+        let failed = |error| cannot_write(Path::new(path.unwrap_or_default()), &error);
         let file = path.map(File::create).transpose().map_err(failed)?;
         let mut trace = file.map(|file| trace::Trace::new(&self.hall, BufWriter::new(file)));
         let progress = watch::Progress::on_terminal(self.sends.len());
@@ -118,7 +159,8 @@ impl Job<'_> {
             from: first,
             to: end.max(first),
         };
-        let stretch = self.stretch(Stretch::around(&self.hall, verdict.closest.as_ref(), whole))?;
+        let usual = Stretch::around(&self.hall, verdict.closest.as_ref(), whole);
+        let stretch = self.shown.in_place_of(usual)?;
         let network = Network::new(&self.hall.queues, &self.hall.flows);
         let mut recorder = Recorder::new(stretch, &self.hall, verdict.closest);
         run::run(&network, &self.sends, self.arrivals.clone(), &mut recorder);
@@ -128,24 +170,7 @@ impl Job<'_> {
             remark,
         };
         let html = page::page(&self.hall, seen, verdict, &recorder, &words);
-        std::fs::write(path, html).map_err(|error| cannot_write(path, &error))
-    }
-
-    /// The stretch that the options choose, in place of the one at hand.
-    fn stretch(&self, usual: Stretch) -> Result<Stretch, Outcome> {
-        let chosen = |name: &str| match self.arguments.number(name)? {
-            Some(instant) if instant > LAST_INSTANT => {
-                let last = commas(LAST_INSTANT);
-                Err(usage(&format!("{name}: instants go to {last}")))
-            }
-            instant => Ok(instant),
-        };
-        let from = chosen("--from")?.unwrap_or(usual.from);
-        let to = chosen("--to")?.unwrap_or(usual.to.max(from + 1));
-        match from < to {
-            true => Ok(Stretch { from, to }),
-            false => Err(usage("--from must be before --to")),
-        }
+        std::fs::write(path, html).map_err(|error| cannot_write(Path::new(path), &error))
     }
 }
 

@@ -22,15 +22,15 @@ use crate::session::{remark, Session};
 use crate::status::{Outcome, Status};
 use hall::Hall;
 use halls::rng::Rng;
-use job::Job;
+use job::{Chosen, Job};
 use run::Arrivals;
 use search_command::Found;
 use std::path::Path;
 
 pub const COMMAND: Command = Command {
     name: "traffic",
-    usage: "FOLDER SENDS [--page FILE.html] [--trace FILE.tsv] [--arrivals first|last|SEED] \
-            [--anyway]",
+    usage: "FOLDER SENDS [--page FILE.html] [--trace FILE.tsv] [--arrivals first|last|SEED] [--anyway]\n\
+            FOLDER --search [--seconds S] [--tries N] [--seed SEED] [--queue LINK.LEVEL] [--out SENDS]",
     about: "puts traffic on the flows held after the orders: exercises three and four",
     help: include_str!("help.txt"),
     words: 1..=2,
@@ -132,6 +132,7 @@ fn judge(arguments: &Arguments) -> Result<(), Outcome> {
 fn prepare(arguments: &Arguments) -> Result<Job<'_>, Outcome> {
     judge(arguments)?;
     let arrivals = arrivals(arguments)?;
+    let shown = Chosen::of(arguments)?;
     let hall = held(&Folder::read(&arguments.words[0])?)?;
     let Found {
         name,
@@ -151,6 +152,7 @@ fn prepare(arguments: &Arguments) -> Result<Job<'_>, Outcome> {
         name,
         sends,
         preface,
+        shown,
     })
 }
 
@@ -173,10 +175,6 @@ fn arrivals(arguments: &Arguments) -> Result<Arrivals, Outcome> {
             Err(_) => Err(usage("--arrivals takes `first`, `last` or a whole number")),
         },
     }
-}
-
-fn cannot_write(path: &str, error: &std::io::Error) -> Outcome {
-    unreadable(format!("{path}: can't be written: {error}"))
 }
 
 /// The hall with the flows held after its orders.

@@ -7,8 +7,8 @@ use super::network::Network;
 use super::run::{run, Arrivals, Send, Stay};
 use crate::numbers::{commas, counted};
 use halls::rng::Rng;
-use halls::sources::{sends, Pace, Pattern, Sizes, SMALLEST_FRAME};
-use plain::orders::Flow;
+use halls::sources::{sends, Pace, Pattern, Sizes};
+use plain::orders::{Flow, SMALLEST_FRAME};
 use std::time::Instant;
 
 /// So many changes without a longer stay end a climb.

@@ -4,11 +4,13 @@ use super::hall::Hall;
 use super::run::Arrivals;
 use super::schedule;
 use super::search::{Limits, Search};
-use super::{cannot_write, unreadable, usage};
+use super::{unreadable, usage};
 use crate::arguments::Arguments;
+use crate::folder::cannot_write;
 use crate::numbers::counted;
 use crate::status::Outcome;
 use std::io::{IsTerminal, Write};
+use std::path::Path;
 use std::time::{Duration, Instant};
 
 const SECONDS: u64 = 10;
@@ -49,7 +51,7 @@ pub fn command(arguments: &Arguments, hall: &Hall, arrivals: &Arrivals) -> Resul
             preface,
         });
     };
-    std::fs::write(path, &text).map_err(|error| cannot_write(path, &error))?;
+    std::fs::write(path, &text).map_err(|error| cannot_write(Path::new(path), &error))?;
     let preface = format!("{path}: {}\n", search.words());
     let name = path.to_string();
     Ok(Found {
@@ -61,9 +63,13 @@ pub fn command(arguments: &Arguments, hall: &Hall, arrivals: &Arrivals) -> Resul
 
 fn limits(arguments: &Arguments) -> Result<Limits, Outcome> {
     let seconds = arguments.number("--seconds")?.unwrap_or(SECONDS);
+    let tries = arguments.number("--tries")?.unwrap_or(u64::MAX);
+    if seconds == 0 || tries == 0 {
+        return Err(usage("--seconds and --tries are at least 1"));
+    }
     Ok(Limits {
         until: Instant::now() + Duration::from_secs(seconds.min(1_000_000)),
-        tries: arguments.number("--tries")?.unwrap_or(u64::MAX),
+        tries,
     })
 }
 

@@ -2,9 +2,10 @@
 
 use super::run::Send;
 use crate::numbers::commas;
+use crate::rows::{rows, Word};
 use halls::rng::Rng;
 use halls::sources::{sends, Pace, Pattern, Sizes};
-use plain::orders::Flow;
+use plain::orders::{Flow, NUMBER};
 use std::fmt;
 
 /// Far beyond any run that is looked at; keeps every product within 64 bits.
@@ -48,24 +49,12 @@ pub struct Entry {
 struct Words<'a> {
     line: usize,
     end: usize,
-    words: Vec<(usize, &'a str)>,
+    words: Vec<Word<'a>>,
     next: usize,
 }
 
 impl<'a> Words<'a> {
-    fn of(line: usize, text: &'a str) -> Words<'a> {
-        let text = text.split('#').next().unwrap_or("");
-        let mut words = Vec::new();
-        let mut rest = text;
-        let mut column = 1;
-        while let Some(at) = rest.find(|letter: char| !letter.is_whitespace()) {
-            column += rest[..at].chars().count();
-            let word = &rest[at..];
-            let end = word.find(char::is_whitespace).unwrap_or(word.len());
-            words.push((column, &word[..end]));
-            column += word[..end].chars().count();
-            rest = &word[end..];
-        }
+    fn of(line: usize, words: Vec<Word<'a>>) -> Words<'a> {
         let end = words
             .last()
             .map_or(1, |(column, word)| column + word.chars().count());
@@ -128,7 +117,8 @@ impl<'a> Words<'a> {
 
     /// The index of a held flow.
     fn flow(&mut self, flows: &[Flow]) -> Result<usize, Mistake> {
-        let number = self.number("flow", 1, 65_535)?;
+        let (least, most) = NUMBER.ranges[0];
+        let number = self.number("flow", least, most)?;
         match flows.iter().position(|flow| flow.number == number) {
             Some(index) => Ok(index),
             None => {
@@ -149,11 +139,8 @@ impl<'a> Words<'a> {
 /// The lines of SENDS over the held flows.
 pub fn read(text: &str, flows: &[Flow]) -> Result<Vec<Entry>, Mistake> {
     let mut entries = Vec::new();
-    for (index, line) in text.lines().enumerate() {
-        let mut words = Words::of(index + 1, line);
-        if words.words.is_empty() {
-            continue;
-        }
+    for (line, words) in rows(text) {
+        let mut words = Words::of(line, words);
         let entry = if words.keyword("greedy") {
             read_greedy(&mut words, flows)?
         } else {

@@ -4,8 +4,39 @@ use super::hall::Hall;
 use super::run::{Stay, Watch};
 use std::io::{self, Write};
 
-pub const HEADER: &str =
-    "flow\tframe\tlink\tlevel\tcame\tstarted\tstarted_bit\tgone\tstay\tthreshold\tbytes";
+/// What the trace and the page tell of a stay.
+pub const COLUMNS: [&str; 11] = [
+    "flow",
+    "frame",
+    "link",
+    "level",
+    "came",
+    "started",
+    "bit",
+    "gone",
+    "stay",
+    "threshold",
+    "bytes",
+];
+
+/// A stay's numbers by these columns. It started at the instant at or before its first bit, after the bits of that interval
+/// before it.
+pub fn numbers(hall: &Hall, stay: &Stay) -> [u64; COLUMNS.len()] {
+    let queue = &hall.queues[stay.queue];
+    [
+        hall.flows[stay.flow].number,
+        stay.frame,
+        queue.link,
+        queue.level,
+        stay.came,
+        stay.first_bit / queue.speed,
+        stay.first_bit % queue.speed,
+        stay.gone,
+        stay.length(),
+        queue.threshold,
+        stay.bytes,
+    ]
+}
 
 /// Looks on and writes each stay as it ends.
 pub struct Trace<'a, W: Write> {
@@ -16,7 +47,7 @@ pub struct Trace<'a, W: Write> {
 
 impl<'a, W: Write> Trace<'a, W> {
     pub fn new(hall: &'a Hall, mut out: W) -> Trace<'a, W> {
-        let failed = writeln!(out, "{HEADER}").err();
+        let failed = writeln!(out, "{}", COLUMNS.join("\t")).err();
         Trace { hall, out, failed }
     }
 
@@ -33,22 +64,8 @@ impl<W: Write> Watch for Trace<'_, W> {
         if self.failed.is_some() {
             return;
         }
-        let queue = &self.hall.queues[stay.queue];
-        // The instant at or before its first bit, and the bits of that interval before it.
-        let (started, bit) = (stay.first_bit / queue.speed, stay.first_bit % queue.speed);
-        let written = writeln!(
-            self.out,
-            "{}\t{}\t{}\t{}\t{}\t{started}\t{bit}\t{}\t{}\t{}\t{}",
-            self.hall.flows[stay.flow].number,
-            stay.frame,
-            queue.link,
-            queue.level,
-            stay.came,
-            stay.gone,
-            stay.length(),
-            queue.threshold,
-            stay.bytes
-        );
+        let row = numbers(self.hall, stay).map(|number| number.to_string());
+        let written = writeln!(self.out, "{}", row.join("\t"));
         self.failed = written.err();
     }
 }

@@ -4,15 +4,15 @@ use super::tags::{well_formed, Tag};
 use super::{course as call, example, Temporary};
 use course::numbers::commas;
 use course::status::{Outcome, Status};
+use course::traffic::trace::COLUMNS;
 use std::collections::{BTreeMap, BTreeSet};
 
-/// A trace's columns: flow, frame, link, level, came, started, started_bit, gone, stay, threshold, bytes.
+/// A trace's columns: flow, frame, link, level, came, started, bit, gone, stay, threshold, bytes.
 pub type Row = [u64; 11];
 
 fn trace_rows(text: &str) -> Vec<Row> {
     let mut lines = text.lines();
-    let header =
-        "flow\tframe\tlink\tlevel\tcame\tstarted\tstarted_bit\tgone\tstay\tthreshold\tbytes";
+    let header = "flow\tframe\tlink\tlevel\tcame\tstarted\tbit\tgone\tstay\tthreshold\tbytes";
     assert_eq!(lines.next(), Some(header));
     let row = |line: &str| {
         let numbers: Vec<u64> = line.split('\t').map(|word| word.parse().unwrap()).collect();
@@ -85,23 +85,10 @@ fn frames_agree(made: &Made, tags: &[Tag]) {
         .find(|tag| tag.get("id") == Some("stretch"))
         .unwrap();
     let (from, to) = (stretch.number("data-from"), stretch.number("data-to"));
-    let names = [
-        "flow",
-        "frame",
-        "link",
-        "level",
-        "came",
-        "started",
-        "bit",
-        "gone",
-        "stay",
-        "threshold",
-        "bytes",
-    ];
     let drawn: BTreeSet<Row> = tags
         .iter()
         .filter(|tag| tag.get("class") == Some("frame"))
-        .map(|tag| names.map(|name| tag.number(&format!("data-{name}"))))
+        .map(|tag| COLUMNS.map(|name| tag.number(&format!("data-{name}"))))
         .collect();
     let meeting = made
         .rows

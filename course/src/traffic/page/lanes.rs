@@ -8,6 +8,7 @@ use crate::numbers::commas;
 use crate::traffic::figures::Seen;
 use crate::traffic::hall::Hall;
 use crate::traffic::run::Stay;
+use crate::traffic::trace;
 
 const ROW: f64 = 11.0;
 /// With more rows than fit, rows are lower.
@@ -133,20 +134,11 @@ impl Lanes<'_> {
     fn one_frame(&mut self, stay: &Stay, y: f64, height: f64) {
         let queue = &self.hall.queues[stay.queue];
         let number = self.hall.flows[stay.flow].number;
-        let (started, bit) = (stay.first_bit / queue.speed, stay.first_bit % queue.speed);
-        self.drawing.raw(&format!(
-            "<g class=\"frame\" data-flow=\"{number}\" data-frame=\"{}\" data-link=\"{}\" data-level=\"{}\" \
-             data-came=\"{}\" data-started=\"{started}\" data-bit=\"{bit}\" data-gone=\"{}\" data-stay=\"{}\" \
-             data-threshold=\"{}\" data-bytes=\"{}\">",
-            stay.frame,
-            queue.link,
-            queue.level,
-            stay.came,
-            stay.gone,
-            stay.length(),
-            queue.threshold,
-            stay.bytes
-        ));
+        let told = trace::COLUMNS.iter().zip(trace::numbers(self.hall, stay));
+        let data: String = told
+            .map(|(name, value)| format!(" data-{name}=\"{value}\""))
+            .collect();
+        self.drawing.raw(&format!("<g class=\"frame\"{data}>"));
         let of_speed = |bits: u64| bits as f64 / queue.speed as f64;
         let sent = (
             of_speed(stay.first_bit),
