@@ -8,6 +8,19 @@ pub struct Choice {
     pub value: Option<&'static str>,
 }
 
+impl Choice {
+    pub const fn flag(name: &'static str) -> Choice {
+        Choice { name, value: None }
+    }
+
+    pub const fn with(name: &'static str, value: &'static str) -> Choice {
+        Choice {
+            name,
+            value: Some(value),
+        }
+    }
+}
+
 /// A command: what it is called with, what its help says, and what it does.
 pub struct Command {
     pub name: &'static str,
@@ -20,7 +33,8 @@ pub struct Command {
     /// How many words beside options it takes.
     pub words: std::ops::RangeInclusive<usize>,
     pub choices: &'static [Choice],
-    pub run: fn(&Arguments) -> Outcome,
+    /// What it prints, or why it can't.
+    pub run: fn(&Arguments) -> Result<Outcome, Outcome>,
 }
 
 /// What a command was called with.
@@ -89,7 +103,7 @@ impl Command {
         }
         match self.parse(given) {
             Err(what) => self.misused(what),
-            Ok(arguments) => (self.run)(&arguments),
+            Ok(arguments) => (self.run)(&arguments).unwrap_or_else(|failed| failed),
         }
     }
 

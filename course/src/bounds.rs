@@ -23,16 +23,9 @@ delay bounds of its queues, the sum of their thresholds, which is what is promis
 
 Exit status: 0; 1 a refused batch or an unreadable file; 2 usage.",
     words: 1..=1,
-    choices: &[Choice {
-        name: "--after",
-        value: Some("N"),
-    }],
-    run,
+    choices: &[Choice::with("--after", "N")],
+    run: bounds,
 };
-
-fn run(arguments: &Arguments) -> Outcome {
-    bounds(arguments).unwrap_or_else(|failed| failed)
-}
 
 fn bounds(arguments: &Arguments) -> Result<Outcome, Outcome> {
     let after = arguments.number("--after")?;
@@ -113,24 +106,11 @@ fn further() -> impl Iterator<Item = &'static plain::table::Entry> {
 }
 
 fn level_heads() -> Vec<String> {
-    let heads = [
-        "level",
-        "rate",
-        "burst",
-        "frame",
-        "Res",
-        "Y",
-        "delay",
-        "threshold",
-        "%",
-        "backlog",
-        "buffer",
-        "%",
-    ];
+    let heads = "level rate burst frame Res Y delay threshold % backlog buffer %";
     let further = further().map(|entry| entry.field.name.to_string());
     heads
+        .split(' ')
         .map(str::to_string)
-        .into_iter()
         .chain(further)
         .collect()
 }

@@ -55,7 +55,7 @@ impl Watch for Filled {
     fn stay(&mut self, stay: &Stay) {
         self.record
             .stays
-            .push((stay.queue, stay.flow, stay.came, stay.gone));
+            .push((stay.queue, stay.frame.flow, stay.frame.came, stay.gone));
     }
 
     fn queue(&mut self, queue: usize, instant: u64, frames: u64, bytes: u64) {
@@ -187,7 +187,7 @@ fn has_the_worked_runs_figures() {
     impl Watch for Stays {
         fn stay(&mut self, stay: &Stay) {
             self.0
-                .push((stay.flow, stay.came, stay.gone, stay.first_bit));
+                .push((stay.frame.flow, stay.frame.came, stay.gone, stay.first_bit));
         }
     }
     let mut stays = Stays(Vec::new());

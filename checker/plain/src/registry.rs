@@ -7,11 +7,6 @@ use crate::orders::{Flow, Hop};
 use crate::slips::Slips;
 use crate::table::{read_table, Queue, Refusal};
 
-/// Document 01's places.
-pub const SLOTS: usize = 256;
-/// Document 01's hop entries, for all flows together.
-pub const HOP_POOL: usize = 1_024;
-
 /// What an answer line holds after the line number.
 #[derive(Clone, Copy, Debug, PartialEq)]
 pub struct Answer {
@@ -44,6 +39,11 @@ impl Answer {
         }
     }
 }
+
+/// Document 01's places.
+pub const SLOTS: usize = 256;
+/// Document 01's hop entries, for all flows together.
+pub const HOP_POOL: usize = 1_024;
 
 /// A flow's share in a queue.
 #[derive(Clone, Copy, Debug, PartialEq)]

@@ -20,15 +20,17 @@ pub struct Slips {
     pub rounded_each_hop: bool,
 }
 
+const NO_SLIP: Slips = Slips {
+    only_below: false,
+    frame_left: false,
+    stored_early: false,
+    source_burst: false,
+    fraction_dropped: false,
+    rounded_each_hop: false,
+};
+
 impl Slips {
-    pub const NONE: Slips = Slips {
-        only_below: false,
-        frame_left: false,
-        stored_early: false,
-        source_burst: false,
-        fraction_dropped: false,
-        rounded_each_hop: false,
-    };
+    pub const NONE: Slips = NO_SLIP;
 
     /// Each slip by itself, in document 01's order, with its name.
     #[rustfmt::skip]

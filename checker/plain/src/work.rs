@@ -8,16 +8,6 @@ use crate::registry::{HOP_POOL, SLOTS};
 use crate::slips::Slips;
 use crate::table::Queue;
 
-/// What a flow adds at one hop of its path.
-#[derive(Clone, Debug, PartialEq)]
-pub struct HopWork {
-    pub hop: Hop,
-    pub threshold: u64,
-    /// S: the thresholds of the earlier hops, summed.
-    pub earlier: u128,
-    pub share: Aggregate,
-}
-
 /// A level of a link with its figures; bounds where it carries a flow and the rate rule holds.
 #[derive(Clone, Debug, PartialEq)]
 pub struct LevelWork {
@@ -43,6 +33,16 @@ pub struct LinkWork {
     pub rate_sum: u128,
     pub rate_limit: u128,
     pub levels: Vec<LevelWork>,
+}
+
+/// What a flow adds at one hop of its path.
+#[derive(Clone, Debug, PartialEq)]
+pub struct HopWork {
+    pub hop: Hop,
+    pub threshold: u64,
+    /// S: the thresholds of the earlier hops, summed.
+    pub earlier: u128,
+    pub share: Aggregate,
 }
 
 /// What was worked out for a registration that was read.

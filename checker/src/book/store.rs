@@ -3,6 +3,15 @@
 
 use super::{POOL, SLOTS};
 
+const FREE: Slot = Slot {
+    number: 0,
+    rate: 0,
+    burst: 0,
+    frame: 0,
+    deadline: 0,
+    hops: 0,
+};
+
 /// A flow as its line gave it; hop count 0 means that the slot is free.
 #[derive(Clone, Copy)]
 pub struct Slot {
@@ -14,16 +23,13 @@ pub struct Slot {
     pub hops: u32,
 }
 
-impl Slot {
-    pub const FREE: Slot = Slot {
-        number: 0,
-        rate: 0,
-        burst: 0,
-        frame: 0,
-        deadline: 0,
-        hops: 0,
-    };
+#[derive(Clone)]
+pub struct Store {
+    pub slots: [Slot; SLOTS],
+    pub pool: [u32; POOL],
+}
 
+impl Slot {
     /// Code 11's ranges, the hop count apart.
     #[inline]
     pub fn in_range(&self) -> bool {
@@ -35,15 +41,9 @@ impl Slot {
     }
 }
 
-#[derive(Clone)]
-pub struct Store {
-    pub slots: [Slot; SLOTS],
-    pub pool: [u32; POOL],
-}
-
 impl Store {
     pub const EMPTY: Store = Store {
-        slots: [Slot::FREE; SLOTS],
+        slots: [FREE; SLOTS],
         pool: [0; POOL],
     };
 

@@ -27,7 +27,7 @@ empty. A flow that is refused for another cause is no typing mistake: `course ex
 Exit status: 0 no mistake; 1 a mistake; 2 usage.",
     words: 1..=1,
     choices: &[],
-    run,
+    run: check,
 };
 
 /// Something wrong with a text; line and column are 0 where the whole text is meant.
@@ -76,7 +76,7 @@ pub fn order_line(bytes: &[u8], ended: bool) -> Vec<Mistake> {
     texts::orders(&[bytes, end].concat())
 }
 
-fn run(arguments: &Arguments) -> Outcome {
+fn check(arguments: &Arguments) -> Result<Outcome, Outcome> {
     let folder = Path::new(&arguments.words[0]);
     let mut printed = String::new();
     let mut count = 0;
@@ -97,9 +97,11 @@ fn run(arguments: &Arguments) -> Outcome {
     }
     if count > 0 {
         printed += &format!("{}\n", counted(count, "mistake", "mistakes"));
-        return Outcome::fine(printed).with_status(Status::Wrong);
+        return Ok(Outcome::fine(printed).with_status(Status::Wrong));
     }
     let queues = counted(plain::columns::lines(&table).len(), "queue", "queues");
     let orders = counted(plain::columns::lines(&orders).len(), "order", "orders");
-    Outcome::fine(format!("no typing mistake: {queues}, {orders}\n"))
+    Ok(Outcome::fine(format!(
+        "no typing mistake: {queues}, {orders}\n"
+    )))
 }

@@ -27,16 +27,9 @@ means that the link, or the level, before it decides. For a refusal by 21, 22 or
 
 Exit status: 0, whatever the orders are answered; 1 a refused batch or an unreadable file; 2 usage.",
     words: 1..=1,
-    choices: &[Choice {
-        name: "--line",
-        value: Some("N"),
-    }],
-    run,
+    choices: &[Choice::with("--line", "N")],
+    run: explain,
 };
-
-fn run(arguments: &Arguments) -> Outcome {
-    explain(arguments).unwrap_or_else(|failed| failed)
-}
 
 fn explain(arguments: &Arguments) -> Result<Outcome, Outcome> {
     let wanted = arguments.number("--line")?;

@@ -28,21 +28,11 @@ are released, and what was turned away and what was released is registered again
 Exit status: 0; 1 a file that can't be written; 2 usage.",
     words: 0..=0,
     choices: &[
-        Choice {
-            name: "--seed",
-            value: Some("S"),
-        },
-        Choice {
-            name: "--out",
-            value: Some("FOLDER"),
-        },
+        Choice::with("--seed", "S"),
+        Choice::with("--out", "FOLDER"),
     ],
-    run,
+    run: hall,
 };
-
-fn run(arguments: &Arguments) -> Outcome {
-    hall(arguments).unwrap_or_else(|failed| failed)
-}
 
 /// A made hall's texts, and how many orders belong to exercise one.
 pub struct Made {

@@ -39,16 +39,9 @@ rules with one of document 01's slips give the row, the slip is named:
 
 Exit status: 0 all rows right; 1 a wrong row, a refused batch or an unreadable file or row; 2 usage.",
     words: 2..=2,
-    choices: &[Choice {
-        name: "--lines",
-        value: Some("A-B"),
-    }],
-    run,
+    choices: &[Choice::with("--lines", "A-B")],
+    run: mark,
 };
-
-fn run(arguments: &Arguments) -> Outcome {
-    mark(arguments).unwrap_or_else(|failed| failed)
-}
 
 fn mark(arguments: &Arguments) -> Result<Outcome, Outcome> {
     let asked = asked(arguments)?;

@@ -35,66 +35,25 @@ pub const COMMAND: Command = Command {
     help: include_str!("help.txt"),
     words: 1..=2,
     choices: &[
-        Choice {
-            name: "--page",
-            value: Some("FILE.html"),
-        },
-        Choice {
-            name: "--from",
-            value: Some("INSTANT"),
-        },
-        Choice {
-            name: "--to",
-            value: Some("INSTANT"),
-        },
-        Choice {
-            name: "--trace",
-            value: Some("FILE.tsv"),
-        },
-        Choice {
-            name: "--arrivals",
-            value: Some("first, last or a seed"),
-        },
-        Choice {
-            name: "--anyway",
-            value: None,
-        },
-        Choice {
-            name: "--search",
-            value: None,
-        },
-        Choice {
-            name: "--seconds",
-            value: Some("SECONDS"),
-        },
-        Choice {
-            name: "--tries",
-            value: Some("COUNT"),
-        },
-        Choice {
-            name: "--seed",
-            value: Some("SEED"),
-        },
-        Choice {
-            name: "--queue",
-            value: Some("LINK.LEVEL"),
-        },
-        Choice {
-            name: "--out",
-            value: Some("SENDS"),
-        },
+        Choice::with("--page", "FILE.html"),
+        Choice::with("--from", "INSTANT"),
+        Choice::with("--to", "INSTANT"),
+        Choice::with("--trace", "FILE.tsv"),
+        Choice::with("--arrivals", "first, last or a seed"),
+        Choice::flag("--anyway"),
+        Choice::flag("--search"),
+        Choice::with("--seconds", "SECONDS"),
+        Choice::with("--tries", "COUNT"),
+        Choice::with("--seed", "SEED"),
+        Choice::with("--queue", "LINK.LEVEL"),
+        Choice::with("--out", "SENDS"),
     ],
     run: traffic,
 };
 
-fn traffic(arguments: &Arguments) -> Outcome {
-    match prepare(arguments) {
-        Err(failed) => failed,
-        Ok(job) => job
-            .run()
-            .unwrap_or_else(|failed| failed)
-            .with_remark(remark()),
-    }
+fn traffic(arguments: &Arguments) -> Result<Outcome, Outcome> {
+    let outcome = prepare(arguments)?.run().unwrap_or_else(|failed| failed);
+    Ok(outcome.with_remark(remark()))
 }
 
 fn usage(what: &str) -> Outcome {

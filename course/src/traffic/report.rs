@@ -22,9 +22,9 @@ pub const HEADINGS: [(&str, &str); 8] = [
 pub fn worst_frame(hall: &Hall, stay: &Stay) -> String {
     format!(
         "flow {} frame {}, instants {} to {}",
-        hall.flows[stay.flow].number,
-        commas(stay.frame),
-        commas(stay.came),
+        hall.flows[stay.frame.flow].number,
+        commas(stay.frame.number),
+        commas(stay.frame.came),
         commas(stay.gone)
     )
 }

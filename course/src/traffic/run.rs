@@ -7,6 +7,43 @@ use halls::rng::Rng;
 use std::cmp::Reverse;
 use std::collections::{BinaryHeap, VecDeque};
 
+/// A frame on its way.
+#[derive(Clone, Copy, Debug, PartialEq)]
+pub struct Frame {
+    pub flow: usize,
+    /// Counted from 1 in the order in which the flow's source sends.
+    pub number: u64,
+    pub hop: usize,
+    pub bytes: u64,
+    /// The instant at which it reached its queue.
+    pub came: u64,
+}
+
+/// A frame's stay in one queue.
+#[derive(Clone, Copy, Debug, PartialEq)]
+pub struct Stay {
+    pub frame: Frame,
+    pub queue: usize,
+    /// Its first bit: bits that the link could have sent since instant 0.
+    pub first_bit: u64,
+    /// The instant at which it has left.
+    pub gone: u64,
+}
+
+impl Stay {
+    pub fn length(&self) -> u64 {
+        self.gone - self.frame.came
+    }
+}
+
+/// In which order the arrivals of one instant are appended.
+#[derive(Clone)]
+pub enum Arrivals {
+    ForwardedFirst,
+    ForwardedLast,
+    Shuffled(Rng),
+}
+
 /// A frame that a source adds.
 #[derive(Clone, Copy, Debug, PartialEq)]
 pub struct Send {
@@ -18,37 +55,6 @@ pub struct Send {
     pub line: usize,
 }
 
-/// In which order the arrivals of one instant are appended.
-#[derive(Clone)]
-pub enum Arrivals {
-    ForwardedFirst,
-    ForwardedLast,
-    Shuffled(Rng),
-}
-
-/// A frame's stay in one queue.
-#[derive(Clone, Copy, Debug, PartialEq)]
-pub struct Stay {
-    pub flow: usize,
-    /// Counted from 1 in the order in which the flow's source sends.
-    pub frame: u64,
-    pub hop: usize,
-    pub queue: usize,
-    pub bytes: u64,
-    /// The instant at which it reached the queue.
-    pub came: u64,
-    /// Its first bit: bits that the link could have sent since instant 0.
-    pub first_bit: u64,
-    /// The instant at which it has left.
-    pub gone: u64,
-}
-
-impl Stay {
-    pub fn length(&self) -> u64 {
-        self.gone - self.came
-    }
-}
-
 /// Who looks on.
 pub trait Watch {
     /// A frame has left.
@@ -58,14 +64,6 @@ pub trait Watch {
     fn queue(&mut self, _queue: usize, _instant: u64, _frames: u64, _bytes: u64) {}
     /// An instant is done; so many frames of the sources have been added so far.
     fn instant(&mut self, _instant: u64, _sent: usize) {}
-}
-
-struct Frame {
-    flow: usize,
-    number: u64,
-    hop: usize,
-    bytes: u64,
-    came: u64,
 }
 
 /// The queue of the frame under way, its first bit and the bit after its last.
@@ -187,12 +185,8 @@ impl<'a> Run<'a> {
                 self.bytes[queue] -= frame.bytes;
                 self.changed.add(queue);
                 watch.stay(&Stay {
-                    flow: frame.flow,
-                    frame: frame.number,
-                    hop: frame.hop,
+                    frame,
                     queue,
-                    bytes: frame.bytes,
-                    came: frame.came,
                     first_bit,
                     gone: now,
                 });

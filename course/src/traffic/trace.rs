@@ -24,17 +24,17 @@ pub const COLUMNS: [&str; 11] = [
 pub fn numbers(hall: &Hall, stay: &Stay) -> [u64; COLUMNS.len()] {
     let queue = &hall.queues[stay.queue];
     [
-        hall.flows[stay.flow].number,
-        stay.frame,
+        hall.flows[stay.frame.flow].number,
+        stay.frame.number,
         queue.link,
         queue.level,
-        stay.came,
+        stay.frame.came,
         stay.first_bit / queue.speed,
         stay.first_bit % queue.speed,
         stay.gone,
         stay.length(),
         queue.threshold,
-        stay.bytes,
+        stay.frame.bytes,
     ]
 }
 

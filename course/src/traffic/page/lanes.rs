@@ -76,7 +76,7 @@ fn rows(stays: &[Stay], threshold: u64) -> Vec<usize> {
         let mut free_from: Vec<u64> = Vec::new();
         let mut rows = Vec::new();
         for stay in stays {
-            let row = free_from.iter().position(|&free| free <= stay.came);
+            let row = free_from.iter().position(|&free| free <= stay.frame.came);
             let row = row.unwrap_or_else(|| {
                 free_from.push(0);
                 free_from.len() - 1
@@ -86,7 +86,7 @@ fn rows(stays: &[Stay], threshold: u64) -> Vec<usize> {
         }
         (free_from.len(), rows)
     };
-    let (count, apart) = assign(&|stay| stay.gone.max(stay.came + threshold));
+    let (count, apart) = assign(&|stay| stay.gone.max(stay.frame.came + threshold));
     match count <= MOST_ROWS {
         true => apart,
         false => assign(&|stay| stay.gone).1,
@@ -98,7 +98,7 @@ impl Lanes<'_> {
     fn lane(&mut self, queue: usize, top: f64) -> f64 {
         let (limits, shown) = (&self.hall.queues[queue], &self.recorder.shown[queue]);
         let mut stays = shown.stays.clone();
-        stays.sort_by_key(|stay| (stay.came, stay.first_bit));
+        stays.sort_by_key(|stay| (stay.frame.came, stay.first_bit));
         let rows = rows(&stays, limits.threshold);
         // Two rows at least: the lane's name and threshold stand beside it.
         let count = rows.iter().max().map_or(2, |row| (row + 1).max(2)) as f64;
@@ -133,7 +133,7 @@ impl Lanes<'_> {
     /// A frame's bars, with its numbers for a reader who points at it.
     fn one_frame(&mut self, stay: &Stay, y: f64, height: f64) {
         let queue = &self.hall.queues[stay.queue];
-        let number = self.hall.flows[stay.flow].number;
+        let number = self.hall.flows[stay.frame.flow].number;
         let told = trace::COLUMNS.iter().zip(trace::numbers(self.hall, stay));
         let data: String = told
             .map(|(name, value)| format!(" data-{name}=\"{value}\""))
@@ -142,13 +142,13 @@ impl Lanes<'_> {
         let of_speed = |bits: u64| bits as f64 / queue.speed as f64;
         let sent = (
             of_speed(stay.first_bit),
-            of_speed(stay.first_bit + 8 * stay.bytes),
+            of_speed(stay.first_bit + 8 * stay.frame.bytes),
         );
         self.drawing.raw(&format!(
             "<title>flow {number} frame {}, {} bytes: came {}, sent from {:.2} to {:.2}, stay {} of {} µs</title>",
-            commas(stay.frame),
-            commas(stay.bytes),
-            commas(stay.came),
+            commas(stay.frame.number),
+            commas(stay.frame.bytes),
+            commas(stay.frame.came),
             sent.0,
             sent.1,
             commas(stay.length()),
@@ -171,12 +171,12 @@ impl Lanes<'_> {
             drawing.rect(Rect(x, y, (end - x).max(0.6), height), look);
             end - x
         };
-        let (came, gone) = (stay.came as f64, stay.gone as f64);
-        let limit = (stay.came + threshold) as f64;
+        let (came, gone) = (stay.frame.came as f64, stay.gone as f64);
+        let limit = (stay.frame.came + threshold) as f64;
         let fill = |colour: String| format!("fill=\"{colour}\"");
         bar(came, limit, "class=\"threshold\"");
-        bar(came, first, &fill(colours::waiting(stay.flow)));
-        let width = bar(first, last, &fill(colours::sending(stay.flow)));
+        bar(came, first, &fill(colours::waiting(stay.frame.flow)));
+        let width = bar(first, last, &fill(colours::sending(stay.frame.flow)));
         if stay.length() > threshold {
             bar(limit, gone, "class=\"late\"");
         }
@@ -187,7 +187,7 @@ impl Lanes<'_> {
             let x = scale.x(limit);
             drawing.line((x, y), (x, y + height), "class=\"limit\"");
         }
-        let label = self.hall.flows[stay.flow].number.to_string();
+        let label = self.hall.flows[stay.frame.flow].number.to_string();
         if width >= 5.5 * label.len() as f64 + 2.0 && height >= 8.5 {
             let middle = scale.x(first) + width / 2.0;
             drawing.text((middle, y + 7.6), "class=\"on\"", &label);

@@ -126,7 +126,7 @@ fn legend(hall: &Hall, recorder: &Recorder) -> String {
     let mut html = String::from("<ul class=\"flows\">\n");
     for (index, flow) in hall.flows.iter().enumerate() {
         let mut stays = recorder.shown.iter().flat_map(|shown| &shown.stays);
-        if !stays.any(|stay| stay.flow == index) {
+        if !stays.any(|stay| stay.frame.flow == index) {
             continue;
         }
         html += &format!(

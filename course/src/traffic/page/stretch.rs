@@ -24,11 +24,13 @@ impl Stretch {
         let threshold = hall.queues[stay.queue].threshold;
         let half = threshold / 2 + 1;
         let whole = Stretch {
-            to: whole.to.max(stay.came + threshold + threshold / 50 + 1),
+            to: whole
+                .to
+                .max(stay.frame.came + threshold + threshold / 50 + 1),
             ..whole
         };
         let near = Stretch {
-            from: stay.came.saturating_sub(half),
+            from: stay.frame.came.saturating_sub(half),
             to: stay.gone + half,
         };
         match whole.to - whole.from <= 2 * (near.to - near.from) {
@@ -71,7 +73,7 @@ impl Recorder {
 
 impl Watch for Recorder {
     fn stay(&mut self, stay: &Stay) {
-        if !self.stretch.meets(stay.came, stay.gone) {
+        if !self.stretch.meets(stay.frame.came, stay.gone) {
             return;
         }
         let shown = &mut self.shown[stay.queue];
