@@ -122,7 +122,8 @@ Once entries = (j k : ℕ) → j < k → k < length entries → getD entries j 0
 
 -- What the path added at each queue is taken out, where a rate sum of 0 says that no flow is left (`Carried`). Figures off the path
 -- stay, and so does a largest frame that isn't the flow's own where flows are left. `again` only where a queue of the path has flows left
--- and its largest frame must be raised. Free: `again` where the path names a queue twice.
+-- and its largest frame must be raised. Free: `again` where the path names a queue twice; with
+-- `again`, how far below the right one a largest frame on the path stands that may have been the flow's own.
 pub record PathRemoved (share : Aggregate) (table entries sums sums′ : List ℕ) (again : Bool) : Type 0 where
   pub long : length sums′ ≡ sumNumbers
   pub left : (f : Flow) (fs : List Flow) → AllQueues table entries → FlowOf share entries f
