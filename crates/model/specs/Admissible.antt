@@ -10,7 +10,7 @@ use Rattle.model.specs.Formula.{Aggregate, delay, backlog}
 use Rattle.model.specs.QueueTable.{Queue, Link, Table}
 use Rattle.model.specs.Orders.{Hop, Flow}
 use Rattle.model.specs.Aggregates.{linkAt, aggregateAt, levelAggregates}
-use Rattle.model.specs.Reference.{thresholdSum}
+use Rattle.model.specs.Reference.{pathDelay}
 
 -- One of the flows has a hop at the queue.
 pub record Carries (fs : List Flow) (q : Hop) : Type 0 where
@@ -39,8 +39,8 @@ module _ (t : Table) (fs : List Flow) (n : ℕ) (k : Link) where
     pub rate : total (λ a. a .rate) (levelAggregates t fs n 1 (k .levels)) < 1000 * k .speed
     pub levels : (p : ℕ) (q : Queue) → nth (k .levels) p ≡ some q → Carries fs (record { link = n; level = p }) → LevelAdmits p q
 
--- The new flow `f` beside the held ones: the thresholds along the path don't sum above the deadline (eq. 14), and each link on the path
--- admits all flows, the new one counted in.
+-- The new flow `f` beside the held ones: the thresholds and fixed delays along the path don't sum above the deadline (eq. 14), and each
+-- link on the path admits all flows, the new one counted in.
 pub record Admissible (t : Table) (held : List Flow) (f : Flow) : Type 0 where
-  pub deadline : thresholdSum t (f .path) ≤ f .deadline
+  pub deadline : pathDelay t (f .path) ≤ f .deadline
   pub links : (h : Hop) (k : Link) → List·Memᴰ h (f .path) → linkAt t (h .link) ≡ some k → LinkAdmits t (f ∷ held) (h .link) k

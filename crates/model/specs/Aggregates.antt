@@ -21,6 +21,10 @@ unfoldable pub thresholdOf : Option Queue → ℕ
 thresholdOf none = 0
 thresholdOf (some q) = q .threshold
 
+unfoldable pub fixedDelayOf : Option Link → ℕ
+fixedDelayOf none = 0
+fixedDelayOf (some l) = l .fixedDelay
+
 -- What a flow adds at its source: its rate, its burst and its largest frame.
 abbrev pub source : Flow → Aggregate
 source f = record { rate = f .rate; burst = f .burst; frame = f .frame }

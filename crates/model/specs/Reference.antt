@@ -13,7 +13,7 @@ use Rattle.model.specs.Columns.{Line, ended, unended, lines, fieldAt}
 use Rattle.model.specs.QueueTable.{Link, Table, TableText, accepted, refused, readTable}
 use Rattle.model.specs.Orders.{Hop, Flow, Order, register, release, rejected, Kind, kindNumber, readOrder}
 use Rattle.model.specs.LinkCheck.{Finding, linkFinding}
-use Rattle.model.specs.Aggregates.{linkAt, queueAt, thresholdOf, levelAggregates}
+use Rattle.model.specs.Aggregates.{linkAt, queueAt, thresholdOf, fixedDelayOf, levelAggregates}
 
 -- A slot: a flow as its line gave it, or none.
 abbrev pub Slot : Type 0
@@ -43,9 +43,13 @@ unfoldable pub crosses : ℕ → List Hop → Bool
 crosses n [] = false
 crosses n (h ∷ path) = eqb (h .link) n || crosses n path
 
--- The sum of the thresholds along a path.
-unfoldable pub thresholdSum : Table → List Hop → ℕ
-thresholdSum t path = total (λ h. thresholdOf (queueAt t h)) path
+-- A hop's part of the sum held against the deadline: the threshold of its queue, and the fixed delay of its link.
+abbrev pub hopDelay : Table → Hop → ℕ
+hopDelay t h = thresholdOf (queueAt t h) + fixedDelayOf (linkAt t (h .link))
+
+-- That sum: thresholds plus fixed delays along a path.
+unfoldable pub pathDelay : Table → List Hop → ℕ
+pathDelay t path = total (hopDelay t) path
 
 -- A cause: its code, and the link and level that an answer line has for it.
 pub record Cause : Type 0 where
@@ -104,9 +108,9 @@ lineFindings t f =
     ∷ atHop 15 (startsElsewhere t) [] (f .path)
     ∷ []
 
--- 20 deadline (eq. 14): the thresholds along the path must not sum above it.
+-- 20 deadline (eq. 14): the thresholds and fixed delays along the path must not sum above it.
 unfoldable pub deadlineFinding : Table → Flow → Option Cause
-deadlineFinding t f = whole 20 (ltb (f .deadline) (thresholdSum t (f .path)))
+deadlineFinding t f = whole 20 (ltb (f .deadline) (pathDelay t (f .path)))
 
 unfoldable pub isHeld : Slot → Bool
 isHeld s = not (isNone s)

@@ -1,17 +1,17 @@
 -- Document 01, "The run that the mission's third line speaks of": frames, links, a bit slot, an interval, an instant, runs and conforming sources.
--- Instants are whole µs. A flow is named by its index in the list of flows, a hop by its index in the path, both from 0.
+-- Request W-201: cables. Instants are whole µs. A flow is named by its index in the list of flows, a hop by its index in the path, both from 0.
 use Prim.Native.Nat.{ℕ, zero, suc, _+_, _-_, _*_, _≤_}
 use mathlib.Core.Path.{_≡_}
 use mathlib.Core.Bool.{Bool, false, cond}
 use mathlib.Core.List.{List, [], _∷_, _++_, map, List·Permᴰ}
 use mathlib.Core.Option.{Option, none, some}
-use lib.ListN.{getElem?}
-use lib.Dec.{eqb}
+use lib.ListN.{length, getElem?}
+use lib.Dec.{leb, eqb}
 use Rattle.model.specs.Words.{All, filter, andThen, nth}
 use Rattle.model.specs.Total.{total}
 use Rattle.model.specs.QueueTable.{Queue, Link, Table}
 use Rattle.model.specs.Orders.{Hop, Flow}
-use Rattle.model.specs.Aggregates.{linkAt, sameHop}
+use Rattle.model.specs.Aggregates.{linkAt, fixedDelayOf, sameHop}
 
 -- A frame: its flow, the hop it is at, its bytes, the instant it reached this queue, and the instant its source sent it (which nothing here reads; `Delivery` does).
 pub record Frame : Type 0 where
@@ -85,18 +85,26 @@ interval (suc n) l = bitSlot (interval n l)
 unfoldable pub hopOf : List Flow → Frame → Option Hop
 hopOf fs f = andThen (getElem? fs (f .flow)) λ fl. getElem? (fl .path) (f .hop)
 
--- A frame that has left a queue reaches the next hop of its path at instant `x`.
+-- A frame that comes off a cable reaches the next hop of its path at instant `x`.
 unfoldable pub next : (x : ℕ) → Frame → Frame
 next x f = record { flow = f .flow; hop = suc (f .hop); length = f .length; since = x; born = f .born }
 
--- The frames that have left the links, which are those from number `n` on.
-unfoldable pub departed : (ℕ → LinkState) → (n : ℕ) → Table → List Frame
-departed links n [] = []
-departed links n (k ∷ t) = links n .left ++ departed links (suc n) t
+-- Each link, by its number, before the arrivals of each instant.
+abbrev pub History : Type 0
+History = (x link : ℕ) → LinkState
 
--- What moves at instant `x`: the frames that have left a link, then those that the sources add.
-unfoldable pub moving : Table → (ℕ → LinkState) → (x : ℕ) → List Frame → List Frame
-moving t links x sent = map (next x) (departed links 1 t) ++ sent
+-- The frames that had left link `n` `ago` µs before instant `x`. It begins at instant 0, with no frame on a cable.
+unfoldable pub leftAgo : History → (n x ago : ℕ) → List Frame
+leftAgo before n x ago = cond (leb ago x) (before (x - ago) n .left) []
+
+-- What the cables of links 1 to `n` hand on at instant `x`: each the frames that left its link its fixed delay ago.
+unfoldable pub handedOn : Table → History → (x n : ℕ) → List Frame
+handedOn t before x zero = []
+handedOn t before x (suc n) = handedOn t before x n ++ leftAgo before (suc n) x (fixedDelayOf (linkAt t (suc n)))
+
+-- What moves at instant `x`: the frames that the cables hand on, then those that the sources add.
+unfoldable pub moving : Table → History → (x : ℕ) → List Frame → List Frame
+moving t before x sent = map (next x) (handedOn t before x (length t)) ++ sent
 
 -- Whether a frame's queue is `q`.
 abbrev pub isAt : Hop → Option Hop → Bool
@@ -146,11 +154,11 @@ pub record Run (t : Table) (fs : List Flow) : Type 0 where
   -- What the sources add at an instant.
   pub sent : ℕ → List Frame
   pub sends : (x : ℕ) → All (Sends fs x) (sent x)
-  pub before : (x link : ℕ) → LinkState
+  pub before : History
   pub after : (x link : ℕ) → LinkState
   -- What reaches a queue at an instant, in the order in which it is appended: any order.
   pub arrivals : (x link level : ℕ) → List Frame
-  pub anyOrder : (x : ℕ) (q : Hop) → List·Permᴰ (arrivals x (q .link) (q .level)) (reaching fs q (moving t (before x) x (sent x)))
+  pub anyOrder : (x : ℕ) (q : Hop) → List·Permᴰ (arrivals x (q .link) (q .level)) (reaching fs q (moving t before x (sent x)))
   pub starts : (n : ℕ) → before 0 n ≡ emptyLink (linkAt t n)
   pub enters : (x n : ℕ) → after x n ≡ enter (arrivals x n) (before x n)
   pub serves : (x n : ℕ) → before (suc x) n ≡ interval (speedOf (linkAt t n)) (after x n)

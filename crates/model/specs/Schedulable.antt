@@ -8,7 +8,7 @@ use Rattle.model.specs.QueueTable.{Queue, Link, Table}
 use Rattle.model.specs.Orders.{Hop, Flow}
 use Rattle.model.specs.LinkCheck.{linkFinding}
 use Rattle.model.specs.Aggregates.{linkAt, queueAt, levelAggregates}
-use Rattle.model.specs.Reference.{thresholdSum}
+use Rattle.model.specs.Reference.{pathDelay}
 
 -- The link of a hop meets the rate rule, and each of its levels that carries a flow meets eq. 15.
 pub record LinkMeets (t : Table) (fs : List Flow) (link : ℕ) : Type 0 where
@@ -22,7 +22,7 @@ pub record Named (t : Table) (h : Hop) : Type 0 where
 pub record FlowMeets (t : Table) (fs : List Flow) (f : Flow) : Type 0 where
   pub queues : All (Named t) (f .path)
   pub links : All (λ h. LinkMeets t fs (h .link)) (f .path)
-  pub deadline : thresholdSum t (f .path) ≤ f .deadline
+  pub deadline : pathDelay t (f .path) ≤ f .deadline
 
 pub record Schedulable (t : Table) (fs : List Flow) : Type 0 where
   pub thresholds : (h : Hop) (q : Queue) → queueAt t h ≡ some q → 1 ≤ q .threshold

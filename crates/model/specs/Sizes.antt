@@ -25,9 +25,12 @@ slotCount = 256
 abbrev pub hopEntries : ℕ
 hopEntries = 1024
 
--- Columns of a table line; bytes of a table text, whose lines end in LF: 18,944.
+-- Columns of a table line: the longest has rowColumns, one without a fixed delay shortRowColumns. Bytes of a table text, whose lines end in LF: 22,528.
+abbrev pub shortRowColumns : ℕ
+shortRowColumns = 36
+
 abbrev pub rowColumns : ℕ
-rowColumns = 36
+rowColumns = 43
 
 abbrev pub tableBytes : ℕ
 tableBytes = queuesMost * (rowColumns + 1)
