@@ -15,7 +15,7 @@ use Rattle.model.specs.Orders.{Hop}
 use Rattle.model.specs.Total.{total}
 use Rattle.model.specs.Laws.All.{all-getD}
 use Rattle.model.specs.Aggregates as model
-use Rattle.model.specs.Reference.{atHop, start, end, noQueue, crosses, startsElsewhere, thresholdSum}
+use Rattle.model.specs.Reference.{atHop, start, end, noQueue, crosses, startsElsewhere, pathDelay}
 use Rattle.model.specs.Laws.Test.{both-and, every-all}
 use Rattle.queue_table.specs.View.{tableOf, linkCount, fromAt, toAt, levelsAt, thresholdAt, linkAt, entryAt, linkIn, levelIn, hopAt, isQueue, AllQueues}
 use Rattle.queue_table.proofs.LookupLaws.{link-found, queue-found, queue-no-link, queue-no-level, queue-link-zero, queue-level-zero}
@@ -97,12 +97,17 @@ module _ (table : List ℕ) where
   unfolding startsElsewhere hopAt start end linkAt
   starts-elsewhere earlier before here p q = rw (link-found table (linkIn here) (queue-within table here q .0), link-found table (linkIn before) (queue-within table before p .0))
 
-  -- The thresholds of the entries, summed.
-  pub threshold-entries : (entries : List ℕ) → AllQueues table entries
-      → thresholdSum (tableOf table) (map hopAt entries) ≡ total (thresholdAt table) entries
-  unfolding thresholdSum total
-  threshold-entries [] a = refl
-  threshold-entries (e ∷ entries) a = ap₂ (λ (x y : ℕ). x + y) (threshold-named table e (a .0)) (threshold-entries entries (a .1))
+  -- An entry's part of the sum held against the deadline, and that sum.
+  abbrev pub delayAt : (entry : ℕ) → ℕ
+  delayAt e = thresholdAt table e + fixedDelayAt table (linkIn e)
+
+  pub delay-entries : (entries : List ℕ) → AllQueues table entries → pathDelay (tableOf table) (map hopAt entries) ≡ total delayAt entries
+  unfolding pathDelay total
+  delay-entries [] a = refl
+  delay-entries (e ∷ entries) a =
+      ap₂ (λ (x y : ℕ). x + y)
+      (ap₂ (λ (x y : ℕ). x + y) (threshold-named table e (a .0)) (fixed-named table e (a .0)))
+      (delay-entries entries (a .1))
 
   -- Entry i of a path names a queue, so that its link and itself are in the table.
   module _ (entries : List ℕ) (a : AllQueues table entries) (few : linkCount table ≤ linksMost) (i : ℕ) (h : i < length entries) where

@@ -9,7 +9,7 @@ ghost use Prim.Native.Nat.{_≤_, _<_};
 ghost use lib.ListN.{length, getD};
 ghost use Rattle.model.specs.Words.{isNone};
 ghost use Rattle.model.specs.Sizes.{hopsMost};
-ghost use Rattle.model.specs.Reference.{atHop, noQueue, metEarlier, startsElsewhere, thresholdSum};
+ghost use Rattle.model.specs.Reference.{atHop, noQueue, metEarlier, startsElsewhere, pathDelay};
 ghost use Rattle.queue_table.specs.View.{tableOf, hopAt, AllQueues, WellFormed};
 ghost use Rattle.orders.specs.View.{hopNumbers};
 ghost use Rattle.path_check.specs.View.{hopCause, earlierThan, EntryOf, PathLocated};
@@ -149,16 +149,18 @@ pub fn broken(table: &[u32], entries: &[u32]) -> usize
     i
 }
 
-// The sum of the thresholds along a path. They are 32 bits each, and MOST_HOPS of them fit.
-pub fn threshold_sum(table: &[u32], entries: &[u32]) -> Micros
+// The sum of the thresholds and fixed delays along a path. They are 32 bits each, and MOST_HOPS pairs of them fit.
+pub fn path_delay(table: &[u32], entries: &[u32]) -> Micros
     requires { ⌜ WellFormed (now table) × AllQueues (now table) (now entries) × (length (now entries) ≤ hopsMost) ⌝ }
-    ensures { λ r. ⌜ r .0 ≡ thresholdSum (tableOf (now (table .entry))) (map hopAt (now (entries .entry))) ⌝ }
+    ensures { λ r. ⌜ r .0 ≡ pathDelay (tableOf (now (table .entry))) (map hopAt (now (entries .entry))) ⌝ }
 {
     let mut sum: u64 = 0;
     let mut i = 0;
     while i < entries.len() {
-        let here = queue_table::queue_at(entries[i] as usize, table);
-        sum += here.threshold.0;
+        let entry = entries[i] as usize;
+        let here = queue_table::queue_at(entry, table);
+        let link = queue_table::link_at(queue_table::link_of(entry), table);
+        sum += here.threshold.0 + link.fixed.0;
         i += 1;
     }
     Micros(sum)

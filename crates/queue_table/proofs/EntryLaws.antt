@@ -12,8 +12,8 @@ use borrow.Author.Tests.{ltb-true}
 use Rattle.model.specs.Sizes.{linksMost, levelsMost, queuesMost}
 use Rattle.model.specs.Aggregates as model
 use Rattle.model.specs.Laws.Test.{and-both}
-use Rattle.queue_table.specs.View.{entryAt, linkIn, levelIn, queueAt, linkCount, levelsAt, thresholdAt, tableOf, hopAt, isQueue}
-use Rattle.queue_table.proofs.LookupLaws.{queue-found}
+use Rattle.queue_table.specs.View.{entryAt, linkIn, levelIn, queueAt, linkCount, levelsAt, fixedDelayAt, thresholdAt, linkAt, tableOf, hopAt, isQueue}
+use Rattle.queue_table.proofs.LookupLaws.{link-found, queue-found}
 
 -- An entry is that of its link and level.
 pub entry-same : (e : ℕ) → entryAt (linkIn e) (levelIn e) ≡ e
@@ -36,3 +36,7 @@ module _ (table : List ℕ) (e : ℕ) (named : isQueue table e ≡ true) where
   pub threshold-named : model.thresholdOf (model.queueAt (tableOf table) (hopAt e)) ≡ thresholdAt table e
   unfolding model.thresholdOf queueAt
   threshold-named = ap model.thresholdOf queue-named ∙ ap (thresholdAt table) (entry-same e)
+
+  pub fixed-named : model.fixedDelayOf (model.linkAt (tableOf table) (hopAt e .link)) ≡ fixedDelayAt table (linkIn e)
+  unfolding model.fixedDelayOf hopAt linkAt
+  fixed-named = ap model.fixedDelayOf (link-found table (linkIn e) (queue-within .0))

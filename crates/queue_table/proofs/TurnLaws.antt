@@ -18,9 +18,9 @@ use Rattle.queue_table.specs.declared.Fault.{Fault}
 use Rattle.queue_table.specs.declared.Fault.the-variants.{Malformed, OutOfRange, OutOfTurn, Disagrees, TooLong}
 use Rattle.queue_table.specs.declared.Judgement.{Judgement}
 use Rattle.queue_table.specs.declared.Judgement.the-variants.{Fine, Faulty}
-use Rattle.queue_table.specs.View.{upTo, queueAt, fromAt, toAt, speedAt, levelsAt, linkAt, linksOf, faultCode, codeOf, stepWhen, leftWhen, rowStored, Linked, Placed}
+use Rattle.queue_table.specs.View.{upTo, queueAt, fromAt, toAt, speedAt, levelsAt, fixedDelayAt, linkAt, linksOf, faultCode, codeOf, stepWhen, leftWhen, rowStored, Linked, Placed}
 use Rattle.queue_table.proofs.ViewLaws.{begins-at, continues-none, continues-at, same-at, links-newest}
-use Rattle.queue_table.proofs.StoreLaws.{older-links, older-levels, stored, stored-levels, link-stored, stored-long}
+use Rattle.queue_table.proofs.StoreLaws.{linkWith, older-links, older-levels, stored, stored-levels, link-stored, stored-long}
 
 -- How a row may stand in turn after n links.
 record Begun (n : ℕ) (r : model.Row) : Type 0 where
@@ -34,6 +34,7 @@ record Continued (n : ℕ) (table : List ℕ) (r : model.Row) : Type 0 where
   from : r .from ≡ fromAt table (n - 1)
   to : r .to ≡ toAt table (n - 1)
   speed : r .speed ≡ speedAt table (n - 1)
+  fixed : r .fixedDelay ≡ fixedDelayAt table (n - 1)
 
 module _ (n : ℕ) (table : List ℕ) (r : model.Row) (free : model.rowCause (linksOf n table) r ≡ 0) where
   judged : RowRules (linksOf n table) r
@@ -62,8 +63,9 @@ module _ (n : ℕ) (table : List ℕ) (r : model.Row) (free : model.rowCause (li
       go (suc m) at =
           let more : 0 < n = omega arith in
           let turn = and-both (eqb (r .link) n) (eqb (r .level) (levelsAt table (n - 1) + 1)) (sym (continues-at table n r more) ∙ continues e) in
-          let three = sym (same-at table n r more) ∙ same e in
-          let ends = and-both (eqb (r .from) (fromAt table (n - 1)) && eqb (r .to) (toAt table (n - 1))) (eqb (r .speed) (speedAt table (n - 1))) three in
+          let four = sym (same-at table n r more) ∙ same e in
+          let three = and-both (eqb (r .from) (fromAt table (n - 1)) && eqb (r .to) (toAt table (n - 1)) && eqb (r .speed) (speedAt table (n - 1))) _ four in
+          let ends = and-both (eqb (r .from) (fromAt table (n - 1)) && eqb (r .to) (toAt table (n - 1))) (eqb (r .speed) (speedAt table (n - 1))) (three .0) in
           let nodes = and-both (eqb (r .from) (fromAt table (n - 1))) (eqb (r .to) (toAt table (n - 1))) (ends .0) in
           record {
             more = more;
@@ -72,6 +74,7 @@ module _ (n : ℕ) (table : List ℕ) (r : model.Row) (free : model.rowCause (li
             from = eqb-true (r .from) (fromAt table (n - 1)) (nodes .0);
             to = eqb-true (r .to) (toAt table (n - 1)) (nodes .1);
             speed = eqb-true (r .speed) (speedAt table (n - 1)) (ends .1);
+            fixed = eqb-true (r .fixedDelay) (fixedDelayAt table (n - 1)) (three .1);
           }
 
 -- A row that begins a link is a link more; any other goes to the newest.
@@ -106,19 +109,17 @@ module _ (n : ℕ) (table : List ℕ) (r : model.Row) (linked : Linked n table) 
 
   -- The stored row's link, before the older ones.
   newest : linksOf (r .link) (rowStored r table)
-      ≡ record { from = r .from; to = r .to; speed = r .speed; levels = upTo (r .level - 1) (queueAt table (r .link - 1)) ++ (model.queueOf r ∷ []) }
-      ∷ linksOf (r .link - 1) table
+      ≡ linkWith r (upTo (r .level - 1) (queueAt table (r .link - 1)) ++ (model.queueOf r ∷ [])) ∷ linksOf (r .link - 1) table
   newest =
       let lows = low (model.begins (linksOf n table) r) refl in
       links-newest (rowStored r table) (r .link) (lows .0)
       ∙ ap₂ (λ (l : model.Link) (ls : List model.Link). l ∷ ls)
-      (stored r table placed
-      ∙ ap (λ (qs : List model.Queue). record { from = r .from; to = r .to; speed = r .speed; levels = qs }) (stored-levels r table placed))
+      (stored r table placed ∙ ap (linkWith r) (stored-levels r table placed))
       (older-links r table placed (r .link - 1) (omega arith) (λ i lt. linked .shallow i (omega (arith, lows .2))))
 
   -- Continued, it is the newest link with a level more.
   grown : Continued n table r
-      → record { from = r .from; to = r .to; speed = r .speed; levels = upTo (r .level - 1) (queueAt table (r .link - 1)) ++ (model.queueOf r ∷ []) }
+      → linkWith r (upTo (r .level - 1) (queueAt table (r .link - 1)) ++ (model.queueOf r ∷ []))
       ≡ model.addLevel (linkAt table (n - 1)) (model.queueOf r)
   unfolding model.addLevel linkAt
   grown at =
@@ -129,6 +130,7 @@ module _ (n : ℕ) (table : List ℕ) (r : model.Row) (linked : Linked n table) 
         from = at .from t;
         to = at .to t;
         speed = at .speed t;
+        fixedDelay = at .fixed t;
         levels = upTo (levels t) (queueAt table (link t)) ++ (model.queueOf r ∷ []);
       }
 

@@ -36,6 +36,7 @@ numbersOf r =
       level = r .level;
       threshold = r .threshold;
       buffer = r .buffer;
+      fixedDelay = r .fixed;
     }
 
 abbrev pub rowOf : RowRead → Option model.Row
@@ -81,7 +82,7 @@ hopAt entry = record { link = linkIn entry + 1; level = levelIn entry + 1 }
 
 -- Where the numbers of a link stand, those of a queue, and the number of links; how many numbers there are.
 abbrev pub linkPosition : (link : ℕ) → ℕ
-linkPosition i = 4 * i
+linkPosition i = 5 * i
 
 abbrev pub queuePosition : (entry : ℕ) → ℕ
 queuePosition e = linkPosition linksMost + 2 * e
@@ -96,7 +97,7 @@ tableNumbers = countPosition + 1
 unfoldable pub linkCount : (table : List ℕ) → ℕ
 linkCount table = getD table countPosition 0
 
--- From node, to node, speed and number of levels of link i, counted from 0.
+-- From node, to node, speed, number of levels and fixed delay of link i, counted from 0.
 unfoldable pub fromAt : (table : List ℕ) (i : ℕ) → ℕ
 fromAt table i = getD table (linkPosition i) 0
 
@@ -108,6 +109,9 @@ speedAt table i = getD table (linkPosition i + 2) 0
 
 unfoldable pub levelsAt : (table : List ℕ) (i : ℕ) → ℕ
 levelsAt table i = getD table (linkPosition i + 3) 0
+
+unfoldable pub fixedDelayAt : (table : List ℕ) (i : ℕ) → ℕ
+fixedDelayAt table i = getD table (linkPosition i + 4) 0
 
 -- Threshold and buffer of the queue that an entry names.
 unfoldable pub thresholdAt : (table : List ℕ) (entry : ℕ) → ℕ
@@ -123,7 +127,13 @@ queueAt table i p = record { threshold = thresholdAt table (entryAt i p); buffer
 -- Link i, counted from 0.
 unfoldable pub linkAt : (table : List ℕ) (i : ℕ) → model.Link
 linkAt table i =
-    record { from = fromAt table i; to = toAt table i; speed = speedAt table i; levels = upTo (levelsAt table i) (queueAt table i) }
+    record {
+      from = fromAt table i;
+      to = toAt table i;
+      speed = speedAt table i;
+      fixedDelay = fixedDelayAt table i;
+      levels = upTo (levelsAt table i) (queueAt table i);
+    }
 
 -- The first n links, newest first: how a table stands while it is read.
 unfoldable pub linksOf : (n : ℕ) (table : List ℕ) → List model.Link
@@ -153,7 +163,7 @@ WellFormed table = Linked (linkCount table) table
 
 -- A row's numbers stored in the array: those of its link, then those of its queue.
 unfoldable pub linkStored : model.Row → List ℕ → List ℕ
-linkStored r table = sets table (linkPosition (r .link - 1)) (r .from ∷ r .to ∷ r .speed ∷ r .level ∷ [])
+linkStored r table = sets table (linkPosition (r .link - 1)) (r .from ∷ r .to ∷ r .speed ∷ r .level ∷ r .fixedDelay ∷ [])
 
 unfoldable pub queueStored : model.Row → List ℕ → List ℕ
 queueStored r table = sets table (queuePosition (entryAt (r .link - 1) (r .level - 1))) (r .threshold ∷ r .buffer ∷ [])

@@ -1,7 +1,7 @@
 // The queue table: links with their levels, read from a text (document 01, "Columns", table lines; codes 1 to 5).
 //
-// The table is one array of numbers. Link i, counted from 0, has its from node, to node, speed and number of levels from
-// `link_position(i)` on; queue e, which `entry_at` counts, has its threshold and buffer from
+// The table is one array of numbers. Link i, counted from 0, has its from node, to node, speed, number of levels and fixed
+// delay from `link_position(i)` on; queue e, which `entry_at` counts, has its threshold and buffer from
 // `queue_position(e)` on; the last number is how many links there are. What stands past them and their levels is free.
 mod access;
 mod consistency;
@@ -39,7 +39,7 @@ pub const LEVELS: usize = 8;
 pub const QUEUES: usize = LINKS * LEVELS;
 
 // How many numbers a link has in the array, and a queue; where the number of links stands.
-const LINK_NUMBERS: usize = 4;
+const LINK_NUMBERS: usize = 5;
 
 const QUEUE_NUMBERS: usize = 2;
 
@@ -48,8 +48,10 @@ const COUNT: usize = LINK_NUMBERS * LINKS + QUEUE_NUMBERS * QUEUES;
 // How many numbers the array has.
 pub const TABLE_NUMBERS: usize = COUNT + 1;
 
-// How many columns a table line has, and how many bytes a table text at the most.
-const ROW_COLUMNS: usize = 36;
+// How many columns a table line has, without a fixed delay and at the most, and how many bytes a table text at the most.
+const SHORT_ROW_COLUMNS: usize = 36;
+
+const ROW_COLUMNS: usize = 43;
 
 pub const TABLE_BYTES: usize = QUEUES * (ROW_COLUMNS + 1);
 
@@ -61,7 +63,7 @@ pub enum Fault {
     OutOfRange,
     // 3: out of turn, or past the most links or levels.
     OutOfTurn,
-    // 4: from equals to, or nodes or speed differ within a link.
+    // 4: from equals to, or nodes, speed or fixed delay differ within a link.
     Disagrees,
     // 5: text too long.
     TooLong,
@@ -118,7 +120,7 @@ pub fn fault_code(fault: Fault) -> u32
     }
 }
 
-// Stores a line's numbers. Within a link the nodes and the speed are stored again as they were.
+// Stores a line's numbers. Within a link those of the link are stored again as they were.
 fn store_row(r: Row, table: &mut [u32]) -> usize
     requires { ⌜ Placed (numbersOf r) (now table) ⌝ }
     ensures { λ n. ⌜ n ≡ r .link ⌝ }
@@ -130,6 +132,7 @@ fn store_row(r: Row, table: &mut [u32]) -> usize
     let to = r.to;
     let speed = r.speed;
     let levels = r.level;
+    let fixed = r.fixed;
     let threshold = r.threshold;
     let buffer = r.buffer;
     let at = link_position(link - 1);
@@ -137,6 +140,7 @@ fn store_row(r: Row, table: &mut [u32]) -> usize
     table[at + 1] = to;
     table[at + 2] = speed;
     table[at + 3] = levels;
+    table[at + 4] = fixed;
     let q = queue_position(entry_at(link - 1, level - 1));
     table[q] = threshold;
     table[q + 1] = buffer;

@@ -1,17 +1,19 @@
 // One table line: its numbers, and what is against it after the links before (document 01, codes 1 to 4).
 ghost use mathlib.Core.Path.{_≡_};
 ghost use mathlib.Core.Bool.{_&&_};
-ghost use Prim.Native.Nat.{_+_, _≤_};
+ghost use Prim.Native.Nat.{_+_, _≤_, _<_};
 ghost use lib.ListN.{length};
 ghost use lib.Dec.{eqb};
+ghost use Rattle.columns.specs.View.{valueOf};
 ghost use Rattle.model.specs.Sizes.{linksMost};
-ghost use Rattle.model.specs.QueueTable.{row, rowInRange, continues, rowInTurn, sameLink, rowAgrees, rowCause};
+ghost use Rattle.model.specs.QueueTable.{isRowLength, laterField, row, rowInRange, continues, rowInTurn, sameLink, rowAgrees, rowCause};
 ghost use Rattle.queue_table.specs.View.{tableNumbers, rowOf, numbersOf, linksOf, codeOf};
 use crate::Fault;
 use crate::Judgement;
 use crate::LEVELS;
 use crate::LINKS;
 use crate::ROW_COLUMNS;
+use crate::SHORT_ROW_COLUMNS;
 use crate::access::link_at;
 use columns::Field;
 
@@ -24,6 +26,7 @@ pub(crate) struct Row {
     pub(crate) level: u32,
     pub(crate) threshold: u32,
     pub(crate) buffer: u32,
+    pub(crate) fixed: u32,
 }
 
 pub(crate) enum RowRead {
@@ -31,10 +34,31 @@ pub(crate) enum RowRead {
     Malformed,
 }
 
+// A line may have so many columns.
+fn is_row_length(columns: usize) -> bool
+    ensures { λ b. ⌜ b ≡ isRowLength columns ⌝ }
+{
+    if columns == SHORT_ROW_COLUMNS {
+        return true;
+    }
+    columns == ROW_COLUMNS
+}
+
+// A field that shorter lines haven't: there it is 0.
+fn later_field(line: &[u8], first: usize, last: usize) -> Field
+    requires { ⌜ (1 ≤ first) × ((first ≤ last) × (last < first + 9)) ⌝ }
+    ensures { λ r. ⌜ valueOf r ≡ laterField first last (now (line .entry)) ⌝ }
+{
+    if line.len() < last {
+        return Field::Number(0);
+    }
+    columns::read_at(line, first, last)
+}
+
 pub(crate) fn read_row(line: &[u8]) -> RowRead
     ensures { λ r. ⌜ rowOf r ≡ row (now (line .entry)) ⌝ }
 {
-    if line.len() != ROW_COLUMNS {
+    if !is_row_length(line.len()) {
         return RowRead::Malformed;
     }
     let Field::Number(link) = columns::read_at(line, 1, 4) else {
@@ -58,6 +82,9 @@ pub(crate) fn read_row(line: &[u8]) -> RowRead
     let Field::Number(buffer) = columns::read_at(line, 28, 36) else {
         return RowRead::Malformed;
     };
+    let Field::Number(fixed) = later_field(line, 37, 43) else {
+        return RowRead::Malformed;
+    };
     RowRead::Numbers(Row {
         link,
         from,
@@ -66,6 +93,7 @@ pub(crate) fn read_row(line: &[u8]) -> RowRead
         level,
         threshold,
         buffer,
+        fixed,
     })
 }
 
@@ -78,6 +106,7 @@ pub(crate) fn in_range(r: Row) -> bool
     let speed = r.speed;
     let threshold = r.threshold;
     let buffer = r.buffer;
+    let fixed = r.fixed;
     if !columns::within(1, 9999, columns::wide(from)) {
         return false;
     }
@@ -90,7 +119,10 @@ pub(crate) fn in_range(r: Row) -> bool
     if !columns::within(1, 100_000, columns::wide(threshold)) {
         return false;
     }
-    columns::within(1, 16_777_215, columns::wide(buffer))
+    if !columns::within(1, 16_777_215, columns::wide(buffer)) {
+        return false;
+    }
+    columns::within(0, 10_000, columns::wide(fixed))
 }
 
 // The line is level 1 of the next link, after n of them.
@@ -145,7 +177,7 @@ fn in_turn(r: Row, n: usize, table: &[u32]) -> bool
     continues(r, n, table)
 }
 
-// The line has the nodes and the speed of the newest of n links.
+// The line has the nodes, the speed and the fixed delay of the newest of n links.
 fn same_link(r: Row, n: usize, table: &[u32]) -> bool
     requires { ⌜ (n ≤ linksMost) × (length (now table) ≡ tableNumbers) ⌝ }
     ensures { λ b. ⌜ b ≡ sameLink (linksOf n (now (table .entry))) (numbersOf r) ⌝ }
@@ -153,6 +185,7 @@ fn same_link(r: Row, n: usize, table: &[u32]) -> bool
     let from = r.from;
     let to = r.to;
     let speed = r.speed;
+    let fixed = columns::wide(r.fixed);
     if n == 0 {
         return false;
     }
@@ -163,10 +196,13 @@ fn same_link(r: Row, n: usize, table: &[u32]) -> bool
     if to != newest.to {
         return false;
     }
-    speed == newest.speed
+    if speed != newest.speed {
+        return false;
+    }
+    fixed == newest.fixed.0
 }
 
-// 4: from and to are two nodes, and from, to and speed are the same within a link.
+// 4: from and to are two nodes, and from, to, speed and fixed delay are the same within a link.
 fn agrees(r: Row, n: usize, table: &[u32]) -> bool
     requires { ⌜ (n ≤ linksMost) × (length (now table) ≡ tableNumbers) ⌝ }
     ensures { λ b. ⌜ b ≡ rowAgrees (linksOf n (now (table .entry))) (numbersOf r) ⌝ }

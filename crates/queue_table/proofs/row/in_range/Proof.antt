@@ -21,6 +21,9 @@ speed-within c = ap (between 1 10000) (sym (c .before .before .wide3 .ensures)) 
 threshold-within : (c : tie.Else4) → between 1 100000 (c .before .before .before .before .before .before .before .before .before .before .before .before .args .r .threshold) ≡ true
 threshold-within c = ap (between 1 100000) (sym (c .before .before .wide4 .ensures)) ∙ sym (c .before .within4 .ensures) ∙ not-false _ (c .if4 .left)
 
+buffer-within : (c : tie.Else5) → between 1 16777215 (c .before .before .before .before .before .before .before .before .before .before .before .before .before .before .before .args .r .buffer) ≡ true
+buffer-within c = ap (between 1 16777215) (sym (c .before .before .wide5 .ensures)) ∙ sym (c .before .within5 .ensures) ∙ not-false _ (c .if5 .left)
+
 returns : tie.Need-returns
 unfolding rowInRange
 returns c =
@@ -48,10 +51,15 @@ returns-4 c =
 returns-5 : tie.Need-returns-5
 unfolding rowInRange
 returns-5 c =
-    c .within5 .ensures ∙ ap (between 1 16777215) (c .before .wide5 .ensures) ∙ sym (simp (from-within (c .before .before .before .before .before .before .before .before .before .before .before), to-within (c .before .before .before .before .before .before .before .before), speed-within (c .before .before .before .before .before), threshold-within (c .before .before)))
+    let ends = ap (between 1 16777215) (sym (c .before .before .wide5 .ensures)) ∙ sym (c .before .within5 .ensures) ∙ not-true _ (c .if5 .taken) in
+    sym (simp (from-within (c .before .before .before .before .before .before .before .before .before .before .before .before), to-within (c .before .before .before .before .before .before .before .before .before), speed-within (c .before .before .before .before .before .before), threshold-within (c .before .before .before), ends))
+
+returns-6 : tie.Need-returns-6
+unfolding rowInRange
+returns-6 c =
+    c .within6 .ensures ∙ ap (between 0 10000) (c .before .wide6 .ensures) ∙ sym (simp (from-within (c .before .before .before .before .before .before .before .before .before .before .before .before .before .before), to-within (c .before .before .before .before .before .before .before .before .before .before .before), speed-within (c .before .before .before .before .before .before .before .before), threshold-within (c .before .before .before .before .before), buffer-within (c .before .before)))
 
 pub in-range-spec : {M : Type 1} → statement M
 in-range-spec =
     tie.close
-    (tie.spec (λ c κs. search needs) (λ c κs. search needs) returns (λ c κs. search needs) (λ c κs. search needs) returns-2 (λ c κs. search needs)
-    (λ c κs. search needs) returns-3 (λ c κs. search needs) (λ c κs. search needs) returns-4 (λ c κs. search needs) (λ c κs. search needs) returns-5)
+    (tie.spec (λ c κs. search needs) (λ c κs. search needs) returns (λ c κs. search needs) (λ c κs. search needs) returns-2 (λ c κs. search needs) (λ c κs. search needs) returns-3 (λ c κs. search needs) (λ c κs. search needs) returns-4 (λ c κs. search needs) (λ c κs. search needs) returns-5 (λ c κs. search needs) (λ c κs. search needs) returns-6)

@@ -10,22 +10,22 @@ use Rattle.queue_table.proofs.ViewLaws.{same-none, same-at}
 use Rattle.queue_table.proofs.row.same_link.Statement.{statement}
 use Rattle.queue_table.proofs.row.same_link.Tie as tie
 
--- Two tests that hold leave the third.
-last-test : (a b c : Bool) → a ≡ true → b ≡ true → (a && b && c) ≡ c
-last-test a b c p q = simp (p, q)
+-- Three tests that hold leave the fourth.
+last-test : (a b c d : Bool) → a ≡ true → b ≡ true → c ≡ true → (a && b && c && d) ≡ d
+last-test a b c d p q s = simp (p, q, s)
 
 returns : tie.Need-returns
-returns c = sym (same-none (c .before .before .args .table .now) (c .before .before .args .n) (numbersOf (c .before .before .args .r)) (c .if1 .taken))
+returns c = sym (same-none (c .before .before .before .args .table .now) (c .before .before .before .args .n) (numbersOf (c .before .before .before .args .r)) (c .if1 .taken))
 
 returns-2 : tie.Need-returns-2
 returns-2 c =
-    let args = c .before .before .before .before .before .args in
+    let args = c .before .before .before .before .before .before .args in
     let link = c .before .before .link-at .ensures in
     sym (same-at (args .table .now) (args .n) (numbersOf (args .r)) (omega arith) ∙ simp (ne-eqb _ _ (λ e. c .if2 .taken (e ∙ sym (link .0 .0)))))
 
 returns-3 : tie.Need-returns-3
 returns-3 c =
-    let args = c .before .before .before .before .before .before .before .args in
+    let args = c .before .before .before .before .before .before .before .before .args in
     let link = c .before .before .before .before .link-at .ensures in
     sym
     (same-at (args .table .now) (args .n) (numbersOf (args .r)) (omega arith)
@@ -33,13 +33,21 @@ returns-3 c =
 
 returns-4 : tie.Need-returns-4
 returns-4 c =
-    let args = c .before .before .before .before .before .before .before .before .args in
-    let link = c .before .before .before .before .before .link-at .ensures in
-    rw (link .1 .0)
+    let args = c .before .before .before .before .before .before .before .before .before .before .args in
+    let link = c .before .before .before .before .before .before .link-at .ensures in
+    sym
+    (same-at (args .table .now) (args .n) (numbersOf (args .r)) (omega arith)
+    ∙ simp (eq-eqb _ _ (c .before .before .before .before .if2 .left ∙ link .0 .0), eq-eqb _ _ (c .before .before .if3 .left ∙ link .0 .1), ne-eqb _ _ (λ e. c .if4 .taken (e ∙ sym (link .1 .0)))))
+
+returns-5 : tie.Need-returns-5
+returns-5 c =
+    let args = c .before .before .before .before .before .before .before .before .before .before .before .args in
+    let link = c .before .before .before .before .before .before .before .link-at .ensures in
+    rw (link .1 .2, c .before .before .before .before .before .before .before .before .before .wide .ensures)
     (sym (same-at (args .table .now) (args .n) (numbersOf (args .r)) (omega arith)
-    ∙ last-test _ _ _ (eq-eqb _ _ (c .before .before .before .if2 .left ∙ link .0 .0)) (eq-eqb _ _ (c .before .if3 .left ∙ link .0 .1))))
+    ∙ last-test _ _ _ _ (eq-eqb _ _ (c .before .before .before .before .before .if2 .left ∙ link .0 .0)) (eq-eqb _ _ (c .before .before .before .if3 .left ∙ link .0 .1)) (eq-eqb _ _ (c .before .if4 .left ∙ link .1 .0))))
 
 pub same-link-spec : {M : Type 1} → statement M
 same-link-spec =
     tie.close
-    (tie.spec returns (λ c. search needs) (λ c κs. search needs) returns-2 returns-3 returns-4)
+    (tie.spec (λ c κs. search needs) returns (λ c. search needs) (λ c κs. search needs) returns-2 returns-3 returns-4 returns-5)
