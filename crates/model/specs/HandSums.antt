@@ -1,13 +1,15 @@
--- Document 01, "Sums to check by hand", the starred ones: 100 Mbit/s, flows of rate 1,000, burst and frame 1,542.
+-- Document 01, "Sums to check by hand", the starred ones, and those of request W-201: 100 Mbit/s, flows of rate 1,000, burst and frame 1,542.
 -- That each comes out as given is shown in `Laws.HandSums`.
 use Prim.Native.Nat.{ℕ}
 use mathlib.Core.List.{List, [], _∷_, map}
+use mathlib.Core.Option.{Option, none, some}
 use lib.ListN.{getD}
 use Rattle.model.specs.Formula.{Aggregate, delay, backlog}
-use Rattle.model.specs.QueueTable.{Link}
+use Rattle.model.specs.QueueTable.{Link, Table}
 use Rattle.model.specs.Orders.{Hop, Flow}
 use Rattle.model.specs.Aggregates.{shares}
 use Rattle.model.specs.LinkCheck.{rateCode}
+use Rattle.model.specs.Reference.{Cause, deadlineFinding}
 
 unfoldable pub one : Aggregate
 one = record { rate = 1000; burst = 1542; frame = 1542 }
@@ -15,9 +17,12 @@ one = record { rate = 1000; burst = 1542; frame = 1542 }
 unfoldable pub rateOnly : ℕ → Aggregate
 rateOnly r = record { rate = r; burst = 0; frame = 0 }
 
--- Links of one level with a threshold of 371.
-unfoldable pub link : Link
-link = record { from = 1; to = 2; speed = 100; levels = record { threshold = 371; buffer = 2000 } ∷ [] }
+-- Links of one level with a threshold of 371, and with a fixed delay; those of a path, the last one's given.
+unfoldable pub link : (fixedDelay : ℕ) → Link
+link fixedDelay = record { from = 1; to = 2; speed = 100; fixedDelay = fixedDelay; levels = record { threshold = 371; buffer = 2000 } ∷ [] }
+
+unfoldable pub links : (last : ℕ) → Table
+links last = link 295 ∷ link 296 ∷ link last ∷ []
 
 unfoldable pub along : List Hop
 along = record { link = 1; level = 1 } ∷ record { link = 2; level = 1 } ∷ record { link = 3; level = 1 } ∷ []
@@ -27,7 +32,12 @@ flow = record { number = 7; rate = 1000; burst = 1542; frame = 1542; deadline = 
 
 -- The bursts of the flow at its hops.
 unfoldable pub bursts : List ℕ
-bursts = map (λ s. s .adds .burst) (shares (link ∷ link ∷ link ∷ []) flow 0 along)
+bursts = map (λ s. s .adds .burst) (shares (links 296) flow 0 along)
+
+-- The code of a cause, 0 where there is none.
+unfoldable pub code : Option Cause → ℕ
+code none = 0
+code (some c) = c .code
 
 -- What is worked out, and what document 01 gives for it.
 pub record Sum : Type 0 where
@@ -47,10 +57,13 @@ handSums =
     ∷ sum (backlog 100 (one ∷ []) one []) 1574
     ∷ sum (delay 100 [] one (one ∷ [])) 371
     ∷ sum (backlog 100 [] one (one ∷ [])) 1573
-    -- burst after a threshold of 371, and after two (rounded at each hop it would be 1,636)
+    -- burst after a threshold of 371, and after two (rounded at each hop it would be 1,636); the fixed delays don't count
     ∷ sum (getD bursts 1 0) 1589
     ∷ sum (getD bursts 2 0) 1635
     -- held rates 99,000, new 999 and new 1,000
     ∷ sum (rateCode 100 (rateOnly 99000 ∷ rateOnly 999 ∷ [])) 0
     ∷ sum (rateCode 100 (rateOnly 99000 ∷ rateOnly 1000 ∷ [])) 21
+    -- three thresholds and fixed delays of 295, 296 and 296 are the deadline, 2,000; with one µs of cable more at the last hop it is missed
+    ∷ sum (code (deadlineFinding (links 296) flow)) 0
+    ∷ sum (code (deadlineFinding (links 297) flow)) 20
     ∷ []

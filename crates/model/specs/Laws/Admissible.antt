@@ -19,7 +19,7 @@ use Rattle.model.specs.Laws.LinkCheck.{link-meets, meets-link}
 use Rattle.model.specs.Laws.Levels.{level-admits, admits-level}
 use Rattle.model.specs.Aggregates.{linkAt, levelAggregates}
 use Rattle.model.specs.Schedulable.{LinkMeets}
-use Rattle.model.specs.Reference.{State, heldFlows, apply, perform, fill, findings, deadlineFinding, thresholdSum}
+use Rattle.model.specs.Reference.{State, heldFlows, apply, perform, fill, findings, deadlineFinding, pathDelay}
 use Rattle.model.specs.Outcomes.{NoneOthers}
 use Rattle.model.specs.Laws.Finding.{whole-none, none-whole}
 use Rattle.model.specs.Laws.All.{all-member, member-all, all-imp}
@@ -56,7 +56,7 @@ frame-range f e =
     between-true 84 1542 (f .frame) (and-both (numberInRange (f .number) && between 1 10000000 (f .rate) && between 84 1000000 (f .burst)) _ e₁ .1)
 
 -- The deadline's finding and eq. 14.
-pub deadline-met : (t : Table) (f : Flow) → (deadlineFinding t f ≡ none) ↔ (thresholdSum t (f .path) ≤ f .deadline)
+pub deadline-met : (t : Table) (f : Flow) → (deadlineFinding t f ≡ none) ↔ (pathDelay t (f .path) ≤ f .deadline)
 unfolding deadlineFinding
 deadline-met t f = (λ e. ltb-false _ _ (whole-none 20 _ e), λ h. none-whole 20 _ (le-ltb _ _ h))
 

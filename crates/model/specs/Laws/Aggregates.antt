@@ -29,6 +29,10 @@ pub hop-same : (q h : Hop) → q ≡ h → sameHop q h ≡ true
 unfolding sameHop
 hop-same q h e = both-and (eq-eqb (q .link) (h .link) (ap (λ h. h .link) e)) (eq-eqb (q .level) (h .level) (ap (λ h. h .level) e))
 
+-- S past the hops of a path: what they add to it, summed.
+unfoldable pub growthSum : Table → List Hop → ℕ
+growthSum t path = total (growth t) path
+
 module _ (t : Table) where
   -- Flow by flow.
   total-all : (m : Share → ℕ) (fs : List Flow) → total m (allShares t fs) ≡ total (λ f. total m (shares t f 0 (f .path))) fs

@@ -14,7 +14,7 @@ use Rattle.model.specs.Words.{All}
 use Rattle.model.specs.Total.{total, largest}
 use Rattle.model.specs.Laws.Total.{total-append, largest-append, total-zero, largest-zero}
 use Rattle.model.specs.Laws.Test.{or-neither}
-use Rattle.model.specs.Laws.Aggregates.{same-hop, hop-same, off-path}
+use Rattle.model.specs.Laws.Aggregates.{same-hop, hop-same, growthSum, off-path}
 use Rattle.model.specs.Laws.LinkSteps.{Empty}
 use Rattle.model.specs.Formula.{Aggregate}
 use Rattle.model.specs.QueueTable.{Queue, Table}
@@ -23,7 +23,7 @@ use Rattle.model.specs.Aggregates.{Share, source, grown, growth, queueAt
 use Rattle.model.specs.Schedulable.{Named}
 use Rattle.model.specs.WithFlow.{noFlow, together}
 use Rattle.model.specs.Laws.All.{append-all, all-imp}
-use Rattle.model.specs.Reference.{Cause, crosses, thresholdSum, atHop, metEarlier}
+use Rattle.model.specs.Reference.{Cause, crosses, atHop, metEarlier}
 
 -- What a list of shares adds at a queue.
 unfoldable pub sharesAt : Hop → List Share → Aggregate
@@ -132,18 +132,18 @@ module _ (t : Table) where
       }
 
   shares-split : (f : Flow) (sum : ℕ) (before after : List Hop)
-      → shares t f sum (before ++ after) ≡ shares t f sum before ++ shares t f (sum + thresholdSum t before) after
-  unfolding shares thresholdSum total
+      → shares t f sum (before ++ after) ≡ shares t f sum before ++ shares t f (sum + growthSum t before) after
+  unfolding shares growthSum total
   shares-split f sum [] after = rw (add-zero sum)
   shares-split f sum (h ∷ before) after =
       let d : ℕ = growth t h in
-      let e : sum + d + thresholdSum t before ≡ sum + (d + thresholdSum t before) = omega arith in
+      let e : sum + d + growthSum t before ≡ sum + (d + growthSum t before) = omega arith in
       ap₂ (λ (x : Share) (l : List Share). x ∷ l) refl
       (shares-split f (sum + d) before after ∙ ap (λ (n : ℕ). shares t f (sum + d) before ++ shares t f n after) e)
 
   module _ (f : Flow) (fs : List Flow) {before after : List Hop} {h : Hop} (c : Crossed (f .path) before h after) where
     sum : ℕ
-    sum = thresholdSum t before
+    sum = growthSum t before
 
     share : Share
     share = record { hop = h; adds = grown (source f) sum }
@@ -159,10 +159,10 @@ module _ (t : Table) where
         let front : sharesAt q (shares t f 0 (f .path)) ≡ sharesAt q (share ∷ after-shares)
         = ap (λ (l : List Hop). sharesAt q (shares t f 0 l)) (c .split)
         ∙ ap (sharesAt q) (shares-split f 0 before (h ∷ after))
-        ∙ shares-append q (shares t f 0 before) (shares t f (0 + thresholdSum t before) (h ∷ after))
-        ∙ ap (λ (a : Aggregate). together a (sharesAt q (shares t f (0 + thresholdSum t before) (h ∷ after)))) (shares-off f 0 q before (c .before-off))
-        ∙ together-none (sharesAt q (shares t f (0 + thresholdSum t before) (h ∷ after)))
-        ∙ rw (zero-add (thresholdSum t before)) in
+        ∙ shares-append q (shares t f 0 before) (shares t f (0 + growthSum t before) (h ∷ after))
+        ∙ ap (λ (a : Aggregate). together a (sharesAt q (shares t f (0 + growthSum t before) (h ∷ after)))) (shares-off f 0 q before (c .before-off))
+        ∙ together-none (sharesAt q (shares t f (0 + growthSum t before) (h ∷ after)))
+        ∙ rw (zero-add (growthSum t before)) in
         added f fs q ∙ ap (λ (a : Aggregate). together a (aggregateAt t fs q)) front
 
     other-level : (p : ℕ) → (p ≡ h .level → ⊥) → sameHop (record { link = h .link; level = p }) h ≡ false
@@ -175,7 +175,7 @@ module _ (t : Table) where
 
     -- The aggregate at the hop, with the flow's burst there.
     unfoldable pub counted : Aggregate
-    counted = together (aggregateAt t fs h) (grown (source f) (thresholdSum t before))
+    counted = together (aggregateAt t fs h) (grown (source f) (growthSum t before))
 
     at-level : aggregateAt t (f ∷ fs) h ≡ counted
     unfolding counted share sum

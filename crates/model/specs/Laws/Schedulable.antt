@@ -39,7 +39,8 @@ pub record RowBounds (l : Link) (q : Queue) : Type 0 where
 row-bounds : (l : Link) (q : Queue) → rowInRange (rowOf l q) ≡ true → RowBounds l q
 unfolding rowInRange rowOf
 row-bounds l q e =
-    let (e₁, buffer) = and-both (between 1 9999 (l .from) && between 1 9999 (l .to) && between 1 10000 (l .speed) && between 1 100000 (q .threshold)) _ e in
+    let e₀ = and-both (between 1 9999 (l .from) && between 1 9999 (l .to) && between 1 10000 (l .speed) && between 1 100000 (q .threshold) && between 1 16777215 (q .buffer)) _ e .0 in
+    let (e₁, buffer) = and-both (between 1 9999 (l .from) && between 1 9999 (l .to) && between 1 10000 (l .speed) && between 1 100000 (q .threshold)) _ e₀ in
     let (e₂, threshold) = and-both (between 1 9999 (l .from) && between 1 9999 (l .to) && between 1 10000 (l .speed)) _ e₁ in
     let (e₃, speed) = and-both (between 1 9999 (l .from) && between 1 9999 (l .to)) _ e₂ in
     let (low, high) = between-true 1 100000 (q .threshold) threshold in
