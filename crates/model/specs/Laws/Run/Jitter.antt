@@ -25,12 +25,15 @@ sumBefore m path zero = 0
 sumBefore m [] (suc i) = 0
 sumBefore m (h ∷ path) (suc i) = m h + sumBefore m path i
 
--- How late a frame may be at a hop, and the time that it has spent on cables.
+-- How late a frame may be at a hop, and the time that it has been on cables.
 abbrev pub upstream : Table → List Hop → (i : ℕ) → ℕ
 upstream t path i = sumBefore (growth t) path i
 
+abbrev pub cable : Table → Hop → ℕ
+cable t h = fixedDelayOf (linkAt t (h .link))
+
 abbrev pub cables : Table → List Hop → (i : ℕ) → ℕ
-cables t path i = sumBefore (λ h. fixedDelayOf (linkAt t (h .link))) path i
+cables t path i = sumBefore (cable t) path i
 
 -- A frame of a flow, which has come to its hop in time, and no sooner than cables allow.
 pub record OnTime (t : Table) (fs : List Flow) (f : Frame) : Type 0 where
@@ -79,14 +82,14 @@ module _ (t : Table) (fs : List Flow) (sch : Schedulable t fs) (r : Run t fs) wh
   leaves x y n level f d p =
       let o = p .onTime in
       let here : getElem? (o .flow .path) (f .hop) ≡ some (hop n level) = sym (known-hop fs f (o .flow) (o .known)) ∙ p .here in
-      let cable = sum-next (λ h. fixedDelayOf (linkAt t (h .link))) (o .flow .path) (f .hop) (hop n level) here in
+      let later = sum-next (cable t) (o .flow .path) (f .hop) (hop n level) here in
       record {
         flow = o .flow;
         known = o .known;
         long = o .long;
         short = o .short;
-        notSooner = omega (arith, o .notSooner, p .came, d, cable);
-        jitter = omega (arith, o .jitter, p .soon, d, cable, sum-next (growth t) (o .flow .path) (f .hop) (hop n level) here);
+        notSooner = omega (arith, o .notSooner, p .came, d, later);
+        jitter = omega (arith, o .jitter, p .soon, d, later, sum-next (growth t) (o .flow .path) (f .hop) (hop n level) here);
       }
 
   added : (x : ℕ) (f : Frame) → Sends fs x f → OnTime t fs f
