@@ -1,5 +1,5 @@
--- The network: in every run, whatever its sources send, each frame stands in the queue of its own hop, and each link keeps the number of its levels.
--- A queue takes in only what reaches it. Induction over instants. Assumes nothing.
+-- The network: in every run, whatever its sources send, each frame stands in the queue of its own hop or on the cable behind it, and each link keeps the number of its levels.
+-- A queue takes in only what reaches it, a cable what has left its link. Induction over instants. Assumes nothing.
 use Prim.Native.Nat.{ℕ, zero, suc, _+_, _-_, _≤_, _<_}
 use mathlib.Core.Path.{_≡_, refl, sym, ap, _∙_}
 use mathlib.Core.Bool.{Bool, true, false, cond, false≢true}
