@@ -1,24 +1,25 @@
 -- The network: what has come to a hop of a flow is still there, is on the cable behind it or has come to the next one, so it is at most what the source has sent.
 -- By weights that read only flow, birth and length, summed over all links: no order of arrivals matters. Assumes nothing.
-use Prim.Native.Nat.{ℕ, zero, suc, _+_, _-_, _≤_}
+use Prim.Native.Nat.{ℕ, zero, suc, _+_, _≤_}
 use mathlib.Core.Path.{_≡_, refl, ap, _∙_}
 use mathlib.Core.Bool.{cond, _&&_, and-false}
-use mathlib.Core.List.{List, [], map}
+use mathlib.Core.List.{List, map}
 use mathlib.Core.Option.{Option, none, some}
 use native.Mathlib.Omega.{arith}
 use lib.ListN.{length}
-use lib.Dec.{eqb, eqb·suc-suc, eqb·suc-zero, eqb·zero-suc, leb, leb·zero, leb·suc-zero, leb·suc-suc}
+use lib.Dec.{eqb, eqb·suc-suc, eqb·suc-zero, eqb·zero-suc}
 use borrow.Author.Tests.{eq-eqb, ne-eqb}
 use Rattle.model.specs.Total.{total}
 use Rattle.model.specs.QueueTable.{Link, Table}
 use Rattle.model.specs.Orders.{Hop, Flow}
 use Rattle.model.specs.Aggregates.{linkAt, fixedDelayOf, sameHop}
-use Rattle.model.specs.Run.{Frame, History, Sends, Run, hopOf, next, leftAgo, handedOn, moving, isAt, reaching, enter, emptyLink, speedOf, window}
-use Rattle.model.specs.Delivery.{ofFlow, atHop, leftSince, onCable}
+use Rattle.model.specs.Run.{Frame, Sends, Run, hopOf, next, leftAgo, handedOn, moving, isAt, reaching, enter, emptyLink, speedOf, window}
+use Rattle.model.specs.Delivery.{ofFlow, atHop, onCable}
 use Rattle.model.specs.Laws.Aggregates.{hop-same}
 use Rattle.model.specs.Laws.Total.{total-ext, total-append, total-map, total-filter, total-below, total-same, total-zeros, total-perm}
 use Rattle.model.specs.Laws.Test.{cond-le}
 use Rattle.model.specs.Laws.Run.Windows.{window-ext, window-mono, window-add, window-zero, window-at, window-has, window-total}
+use Rattle.model.specs.Laws.Run.Cables.{cable-step, cable-first, handed-total}
 use Rattle.model.specs.Laws.Run.OneLink.{held, all, empty-held, enter-held, interval-all}
 use Rattle.model.specs.Laws.Run.Standing.{hop, moved}
 
@@ -88,49 +89,6 @@ module _ (m : Frame → ℕ) (fs : List Flow) where
 
       on : ℕ → Frame → ℕ
       on n f = window (λ k. at n k f) 1 (levels n)
-
--- A cable, instant by instant: what leaves the link comes onto it, and what it hands on goes off it.
-module _ (m : Frame → ℕ) (before : History) (n : ℕ) where
-  left-now : (x : ℕ) → leftAgo before n x 0 ≡ before x n .left
-  unfolding leftAgo
-  left-now x = ap (λ b. cond b (before (x - 0) n .left) []) (leb·zero x) ∙ ap (λ y. before y n .left) (omega arith)
-
-  left-next : (x ago : ℕ) → leftAgo before n (suc x) (suc ago) ≡ leftAgo before n x ago
-  unfolding leftAgo
-  left-next x ago =
-      ap (λ b. cond b (before (suc x - suc ago) n .left) []) (leb·suc-suc ago x) ∙ ap (λ y. cond (leb ago x) (before y n .left) []) (omega arith)
-
-  left-first : (ago : ℕ) → leftAgo before n 0 (suc ago) ≡ []
-  unfolding leftAgo
-  left-first ago = ap (λ b. cond b (before (0 - suc ago) n .left) []) (leb·suc-zero ago)
-
-  cable-step : (x d : ℕ) → total m (leftSince before n (suc x) d) + total m (leftAgo before n (suc x) d)
-      ≡ total m (before (suc x) n .left) + total m (leftSince before n x d)
-  unfolding leftSince total
-  cable-step x zero = omega (arith, ap (total m) (left-now (suc x)))
-  cable-step x (suc d) =
-      omega (
-        arith,
-        total-append m (leftSince before n (suc x) d) (leftAgo before n (suc x) d),
-        total-append m (leftSince before n x d) (leftAgo before n x d),
-        ap (total m) (left-next x d),
-        cable-step x d,
-      )
-
-  cable-first : (d : ℕ) → total m (leftSince before n 0 d) + total m (leftAgo before n 0 d) ≡ total m (before 0 n .left)
-  unfolding leftSince total
-  cable-first zero = omega (arith, ap (total m) (left-now 0))
-  cable-first (suc d) =
-      omega (arith, total-append m (leftSince before n 0 d) (leftAgo before n 0 d), ap (total m) (left-first d), cable-first d)
-
-handed-total : (m : Frame → ℕ) (t : Table) (before : History) (x n : ℕ) →
-    total m (handedOn t before x n) ≡ window (λ k. total m (leftAgo before k x (fixedDelayOf (linkAt t k)))) 1 n
-unfolding handedOn window total
-handed-total m t before x zero = refl
-handed-total m t before x (suc n) =
-    let by : ℕ → ℕ = λ k. total m (leftAgo before k x (fixedDelayOf (linkAt t k))) in
-    let e : by (suc n) ≡ by (1 + n) = ap by (omega arith) in
-    omega (arith, total-append m (handedOn t before x n) (leftAgo before (suc n) x (fixedDelayOf (linkAt t (suc n)))), handed-total m t before x n)
 
 module _ (t : Table) (fs : List Flow) (r : Run t fs) where
   -- How many levels a link has at an instant.

@@ -22,8 +22,9 @@ use Rattle.model.specs.Laws.All.{all-append, all-at, all-imp, filter-all
 use Rattle.model.specs.Laws.Total.{total-zero}
 use Rattle.model.specs.Laws.Test.{cond-same}
 use Rattle.model.specs.Laws.Run.Windows.{window-at, window-has}
+use Rattle.model.specs.Laws.Run.Cables.{since-all}
 use Rattle.model.specs.Laws.Run.InQueue.{queue-each}
-use Rattle.model.specs.Laws.Run.Standing.{moved, since-all, Stands, stands, stands-cable}
+use Rattle.model.specs.Laws.Run.Standing.{moved, Stands, stands, stands-cable}
 use Rattle.model.specs.Laws.Run.Jitter.{sumBefore, upstream, cables, OnTime, Placed, meets, leaves, placed, moves}
 use Rattle.model.specs.Laws.Run.NotLate.{earlier, queue-placed}
 use Rattle.model.specs.Laws.Run.NoLoss.{conserved}

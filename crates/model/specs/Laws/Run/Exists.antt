@@ -1,9 +1,9 @@
 -- Runs exist: for any schedule of what the sources add, and any way to put in order what reaches a queue, there is a run.
 -- An instant reads all earlier ones, so the history grows instant by instant, and keeps what it has. Assumes nothing.
-use Prim.Native.Nat.{ℕ, zero, suc, _-_, _≤_}
-use mathlib.Core.Path.{_≡_, refl, ap, ap₂, _∙_}
-use mathlib.Core.Bool.{Bool, true, false, cond}
-use mathlib.Core.List.{List, [], _++_, map, List·Permᴰ}
+use Prim.Native.Nat.{ℕ, zero, suc, _≤_}
+use mathlib.Core.Path.{_≡_, refl, ap, _∙_}
+use mathlib.Core.Bool.{Bool, true, false}
+use mathlib.Core.List.{List, _++_, map, List·Permᴰ}
 use native.Mathlib.Omega.{arith}
 use lib.ListN.{length}
 use lib.Dec.{leb}
@@ -11,17 +11,9 @@ use borrow.Author.Tests.{leb-true, leb-false, lt-leb}
 use Rattle.model.specs.Words.{All}
 use Rattle.model.specs.QueueTable.{Table}
 use Rattle.model.specs.Orders.{Hop, Flow}
-use Rattle.model.specs.Aggregates.{linkAt, fixedDelayOf}
-use Rattle.model.specs.Run.{Frame, LinkState, History, next, leftAgo, handedOn, moving, reaching, enter, interval, emptyLink, speedOf, Sends, Run}
-
--- Histories that agree up to instant `x` hand on the same at `x`.
-handed-same : (t : Table) (before before′ : History) (x : ℕ) → ((y n : ℕ) → y ≤ x → before y n ≡ before′ y n)
-    → (n : ℕ) → handedOn t before x n ≡ handedOn t before′ x n
-unfolding handedOn leftAgo
-handed-same t before before′ x h zero = refl
-handed-same t before before′ x h (suc n) =
-    let d : ℕ = fixedDelayOf (linkAt t (suc n)) in
-    ap₂ (λ (l m : List Frame). l ++ m) (handed-same t before before′ x h n) (ap (λ l. cond (leb d x) (l .left) []) (h (x - d) (suc n) (omega arith)))
+use Rattle.model.specs.Aggregates.{linkAt}
+use Rattle.model.specs.Run.{Frame, LinkState, History, next, moving, reaching, enter, interval, emptyLink, speedOf, Sends, Run}
+use Rattle.model.specs.Laws.Run.Cables.{handed-same}
 
 module _ (t : Table) (fs : List Flow) (sent : ℕ → List Frame) (order : (x : ℕ) → Hop → List Frame → List Frame) where
   -- What of the frames that move at instant `x` reaches a queue, in its order.

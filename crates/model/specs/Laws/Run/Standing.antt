@@ -1,22 +1,20 @@
 -- The network: in every run, whatever its sources send, each frame stands in the queue of its own hop or on the cable behind it, and each link keeps the number of its levels.
 -- A queue takes in only what reaches it, a cable what has left its link. Induction over instants. Assumes nothing.
-use Prim.Native.Nat.{ℕ, zero, suc, _+_, _-_, _≤_, _<_}
-use mathlib.Core.Path.{_≡_, refl, sym, ap, _∙_}
-use mathlib.Core.Bool.{Bool, true, false, cond, false≢true}
-use mathlib.Core.List.{List, [], map}
+use Prim.Native.Nat.{ℕ, zero, suc, _+_}
+use mathlib.Core.Path.{_≡_, sym, ap, _∙_}
+use mathlib.Core.Bool.{true, false≢true}
+use mathlib.Core.List.{List, map}
 use mathlib.Core.Option.{Option, none, some}
-use native.Mathlib.Omega.{arith}
 use lib.ListN.{length, getElem?}
-use lib.Dec.{leb}
-use borrow.Author.Tests.{leb-true}
 use Rattle.model.specs.Words.{All, andThen}
 use Rattle.model.specs.QueueTable.{Table}
 use Rattle.model.specs.Orders.{Hop, Flow}
 use Rattle.model.specs.Aggregates.{linkAt, fixedDelayOf}
 use Rattle.model.specs.Laws.Aggregates.{same-hop}
-use Rattle.model.specs.Run.{Frame, History, Run, hopOf, next, leftAgo, handedOn, moving, isAt, reaching, enter, emptyLink, speedOf}
-use Rattle.model.specs.Delivery.{leftSince, onCable}
+use Rattle.model.specs.Run.{Frame, Run, hopOf, next, handedOn, moving, isAt, reaching, enter, emptyLink, speedOf}
+use Rattle.model.specs.Delivery.{onCable}
 use Rattle.model.specs.Laws.All.{all-imp, all-append, map-all, all-perm, filter-all, member-all}
+use Rattle.model.specs.Laws.Run.Cables.{since-all, handed-all}
 use Rattle.model.specs.Laws.Run.OneLink.{Each}
 use Rattle.model.specs.Laws.Run.EachFrame.{interval-each, enter-each, empty-each, interval-count, append-count}
 
@@ -35,30 +33,6 @@ known-hop fs f fl e = ap (λ o. andThen o (λ fl. getElem? (fl .path) (f .hop)))
 at-hop : (q : Hop) (o : Option Hop) → isAt q o ≡ true → o ≡ some q
 at-hop q none e = absurd (false≢true e)
 at-hop q (some h) e = ap some (sym (same-hop q h e))
-
--- What is on its way from a link has left it at an earlier instant, or now.
-module _ (P : Frame → Type 0) (before : History) where
-  ago-all : (n x ago : ℕ) → ((y : ℕ) → y + ago ≡ x → All P (before y n .left)) → All P (leftAgo before n x ago)
-  unfolding leftAgo
-  ago-all n x ago h = go (leb ago x) refl
-    where
-      go : (b : Bool) → leb ago x ≡ b → All P (cond b (before (x - ago) n .left) [])
-      go true e = h (x - ago) (omega (arith, leb-true ago x e))
-      go false e = tt
-
-  pub since-all : (n x d : ℕ) → ((y : ℕ) → y ≤ x → x < y + d → All P (before y n .left)) → All P (leftSince before n x d)
-  unfolding leftSince
-  since-all n x zero h = tt
-  since-all n x (suc d) h =
-      all-append P (leftSince before n x d) (leftAgo before n x d) (since-all n x d (λ y u v. h y u (omega arith)))
-      (ago-all n x d (λ y e. h y (omega (arith, e)) (omega (arith, e))))
-
-  handed-all : (t : Table) (x : ℕ) → ((n y : ℕ) → y + fixedDelayOf (linkAt t n) ≡ x → All P (before y n .left)) → (n : ℕ) → All P (handedOn t before x n)
-  unfolding handedOn
-  handed-all t x h zero = tt
-  handed-all t x h (suc n) =
-      let d : ℕ = fixedDelayOf (linkAt t (suc n)) in
-      all-append P (handedOn t before x n) (leftAgo before (suc n) x d) (handed-all t x h n) (ago-all (suc n) x d (h (suc n)))
 
 module _ (t : Table) (fs : List Flow) (r : Run t fs) where
   -- What moves at instant `x` left a link the time of its cable ago, or is sent now.
