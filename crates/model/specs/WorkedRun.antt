@@ -110,8 +110,8 @@ stays n zero = []
 stays n (suc x) = stays n x ++ map (λ f. record { link = n; flow = f .flow; came = f .since; gone = suc x }) (worked .before (suc x) n .left)
 
 -- Before the arrivals of instant 1, 448 of the 672 bits are sent. Frames of one level leave in the order in which they came.
--- The frame of flow 1 that left link 1 at instant 3 is on the cable at instant 4, and in no queue; at 5 it reaches link 2. It leaves that link at 7, and at 8,
--- behind the second cable, it has ended its path, 7 µs after it was sent.
+-- The frame of flow 1 that left link 1 at instant 3 is on the cable at instant 4, and in no queue of its path; at 5 it reaches link 2. It leaves that
+-- link at 7, and at 8, behind the second cable, it has ended its path, 7 µs after it was sent.
 pub the-run : (worked .before 1 1 ≡ record { wire = run.sending 2 (frame 1 0) 223; levels = [] ∷ [] ∷ []; left = [] })
     × (stays 1 6 ++ stays 2 7
     ≡ record { link = 1; flow = 1; came = 0; gone = 2 }
@@ -121,8 +121,8 @@ pub the-run : (worked .before 1 1 ≡ record { wire = run.sending 2 (frame 1 0) 
     ∷ record { link = 2; flow = 2; came = 4; gone = 6 }
     ∷ record { link = 2; flow = 0; came = 5; gone = 7 }
     ∷ [])
-    × (framesAt worked 4 (at 1 1) ≡ frame 0 3 ∷ frame 0 1 ∷ [])
     × (onCable worked 4 1 ≡ frame 0 1 ∷ [])
+    × (run.inQueue 1 (worked .after 4 1) ++ run.inQueue 1 (worked .after 4 2) ≡ frame 0 3 ∷ frame 2 4 ∷ [])
     × (alongPath worked anyBirth 0 4 0 (at 1 1 ∷ at 2 1 ∷ []) ≡ 168)
     × (delivered worked 8
     ≡ record { flow = 1; hop = 1; length = 84; since = 8; born = 1 }
