@@ -1,5 +1,5 @@
--- A worked run over two links of 448 Mbit/s, on the state that a table text and three register calls lead to: a frame goes on and waits behind another flow's at its second hop.
--- It meets what the theorems ask: its thresholds and buffers are the very bounds, and its sources conform. By computation. Assumes nothing.
+-- A worked run over two links of 448 Mbit/s with cables, on the state that a table text and three register calls lead to: a frame goes on over a cable and waits behind another flow's at its second hop.
+-- It meets what the theorems ask: its thresholds, buffers and deadlines are the very bounds, and its sources conform. By computation. Assumes nothing.
 use Prim.Native.Nat.{ℕ, zero, suc, _+_, _*_, _≤_}
 use Prim.Native.String.{String}
 use mathlib.Core.Path.{_≡_, refl, ap, subst}
@@ -12,35 +12,36 @@ use Rattle.model.specs.Words.{All, every, filter, firstIndex, isNone, nt
 use Rattle.model.specs.Total.{total, largest}
 use Rattle.model.specs.Formula.{ceilDiv, burstAtHop, residual, withinRate, delayBound, backlogBound, interference, levelResidual, delay, backlog}
 use Rattle.model.specs.Columns.{isDigit, digits, number, field, fieldAt, between, prepend, lines}
-use Rattle.model.specs.QueueTable.{Queue, Table, rowFields, row, rowInRange, continues, begins, rowInTurn, sameLink, rowAgrees, rowCause, queueOf, newLink, addLevel, addRow, rowStep, lineStep, readLines, readTable}
+use Rattle.model.specs.QueueTable.{Queue, Table, isRowLength, laterField, rowFields, row, rowInRange, continues, begins, rowInTurn, sameLink, rowAgrees, rowCause, queueOf, newLink, addLevel, addRow, rowStep, lineStep, readLines, readTable}
 use Rattle.model.specs.Orders.{Hop, Flow, registering, headFields, hopField, hopFields, pathFields, numberInRange, hopsInRange, headInRange, flowOf, withPath, registrationOf, registration, kindNumber, kindOfNumber, kindOrder, orderOfKind, readOrder}
 use Rattle.model.specs.LinkCheck.{isEmpty, levelCode, orElse, levelsFinding, rateCode, linkFinding}
-use Rattle.model.specs.Aggregates.{linkAt, queueAt, thresholdOf, shares, allShares, sameHop, addsAt, aggregateAt, levelAggregates}
-use Rattle.model.specs.Reference.{State, heldFlows, heldHops, withNumber, crosses, thresholdSum, firstCause, whole, start, end, noQueue, metEarlier, startsElsewhere, numberFinding, lineFindings, deadlineFinding, isHeld, roomFindings, linkCause, causeAt, linkFindings, registerFindings, findings, refuse, fill, perform, decide, apply, Call, lineOfKind, onlyLine, callOrder, step, tableOf, opened, final}
+use Rattle.model.specs.Aggregates.{linkAt, queueAt, thresholdOf, fixedDelayOf, shares, allShares, sameHop, addsAt, aggregateAt, levelAggregates}
+use Rattle.model.specs.Reference.{State, heldFlows, heldHops, withNumber, crosses, pathDelay, firstCause, whole, start, end, noQueue, metEarlier, startsElsewhere, numberFinding, lineFindings, deadlineFinding, isHeld, roomFindings, linkCause, causeAt, linkFindings, registerFindings, findings, refuse, fill, perform, decide, apply, Call, lineOfKind, onlyLine, callOrder, step, tableOf, opened, final}
 use Rattle.model.specs.Reference as book
 use Rattle.model.specs.Run as run
 use Rattle.model.specs.Run.{Frame, Sends, Run, window, bytesOf, Conforming}
 use Rattle.model.specs.Laws.Run.Windows.{window-join, window-within}
-use Rattle.model.specs.Laws.Run.Exists.{coming, states, runOf}
+use Rattle.model.specs.Laws.Run.Exists.{coming, goesOn, upTo, states, runOf}
 use Rattle.model.specs.Punctual.{Punctual}
-use Rattle.model.specs.Delivery.{delivered, anyBirth, ofFlow, atHop, alongPath}
+use Rattle.model.specs.Delivery.{delivered, anyBirth, ofFlow, atHop, leftSince, onCable, framesAt, alongPath}
 use Rattle.model.specs.Timely.{Timely}
 use Rattle.model.specs.WorkedBatch.{bytesFrom, bytes}
 use Rattle.model.specs.Results.{reached-timely}
 
--- Link 1 has two levels, link 2 goes on from where it ends.
+-- Link 1 has two levels and a fixed delay of 2 µs, link 2 goes on from where it ends, with one of 1 µs.
 pub text : String
-text = "   1   1   2   448 1      6      169\n   1   1   2   448 2     10      253\n   2   2   3   448 1      7      254\n"
+text =
+    "   1   1   2   448 1      6      169      2\n   1   1   2   448 2     10      253      2\n   2   2   3   448 1      7      254      1\n"
 
 pub registers : String → Call
 registers line = record { kind = registering; bytes = bytes line }
 
--- Flow 1 over both links, flow 2 on the lower level of link 1, flow 3 on link 2.
+-- Flow 1 over both links, flow 2 on the lower level of link 1, flow 3 on link 2. Their deadlines are what thresholds and fixed delays sum to.
 pub calls : List Call
 calls =
-    registers " 1     1     1000     168   84      13  2   1 1   2 1\n"
-    ∷ registers " 1     2     1000     252   84      10  1   1 2\n"
-    ∷ registers " 1     3     1000      84   84       7  1   2 1\n"
+    registers " 1     1     1000     168   84      16  2   1 1   2 1\n"
+    ∷ registers " 1     2     1000     252   84      12  1   1 2\n"
+    ∷ registers " 1     3     1000      84   84       8  1   2 1\n"
     ∷ []
 
 abbrev pub state : State
@@ -54,17 +55,23 @@ flow number burst deadline path =
     record { number = number; rate = 1000; burst = burst; frame = 84; deadline = deadline; path = path }
 
 abbrev pub flows : List Flow
-flows = flow 1 168 13 (at 1 1 ∷ at 2 1 ∷ []) ∷ flow 2 252 10 (at 1 2 ∷ []) ∷ flow 3 84 7 (at 2 1 ∷ []) ∷ []
+flows = flow 1 168 16 (at 1 1 ∷ at 2 1 ∷ []) ∷ flow 2 252 12 (at 1 2 ∷ []) ∷ flow 3 84 8 (at 2 1 ∷ []) ∷ []
 
 abbrev pub table : Table
 table =
-    record { from = 1; to = 2; speed = 448; levels = record { threshold = 6; buffer = 169 } ∷ record { threshold = 10; buffer = 253 } ∷ [] }
-    ∷ record { from = 2; to = 3; speed = 448; levels = record { threshold = 7; buffer = 254 } ∷ [] }
+    record {
+      from = 1;
+      to = 2;
+      speed = 448;
+      fixedDelay = 2;
+      levels = record { threshold = 6; buffer = 169 } ∷ record { threshold = 10; buffer = 253 } ∷ [];
+    }
+    ∷ record { from = 2; to = 3; speed = 448; fixedDelay = 1; levels = record { threshold = 7; buffer = 254 } ∷ [] }
     ∷ []
 
 -- The calls admit these flows on this table.
 pub the-state : (state .table ≡ table) × (heldFlows (state .slots) ≡ flows)
-unfolding text calls registers bytes bytesFrom isDigit digits number field fieldAt between prepend lines rowFields row rowInRange continues begins rowInTurn sameLink rowAgrees rowCause queueOf newLink addLevel addRow rowStep lineStep readLines readTable headFields hopField hopFields pathFields numberInRange hopsInRange headInRange flowOf withPath registrationOf registration kindNumber kindOfNumber kindOrder orderOfKind readOrder total largest ceilDiv burstAtHop residual withinRate delayBound backlogBound interference levelResidual delay backlog isEmpty levelCode orElse levelsFinding rateCode linkFinding nth linkAt queueAt thresholdOf shares allShares sameHop addsAt aggregateAt levelAggregates heldFlows heldHops withNumber crosses thresholdSum firstCause whole book.atHop isNone start end noQueue metEarlier startsElsewhere numberFinding lineFindings deadlineFinding every isHeld roomFindings linkCause causeAt linkFindings registerFindings findings firstIndex refuse fill perform decide apply lineOfKind onlyLine callOrder step tableOf opened final
+unfolding text calls registers bytes bytesFrom isDigit digits number field fieldAt between prepend lines isRowLength laterField rowFields row rowInRange continues begins rowInTurn sameLink rowAgrees rowCause queueOf newLink addLevel addRow rowStep lineStep readLines readTable headFields hopField hopFields pathFields numberInRange hopsInRange headInRange flowOf withPath registrationOf registration kindNumber kindOfNumber kindOrder orderOfKind readOrder total largest ceilDiv burstAtHop residual withinRate delayBound backlogBound interference levelResidual delay backlog isEmpty levelCode orElse levelsFinding rateCode linkFinding nth linkAt queueAt thresholdOf fixedDelayOf shares allShares sameHop addsAt aggregateAt levelAggregates heldFlows heldHops withNumber crosses pathDelay firstCause whole book.atHop isNone start end noQueue metEarlier startsElsewhere numberFinding lineFindings deadlineFinding every isHeld roomFindings linkCause causeAt linkFindings registerFindings findings firstIndex refuse fill perform decide apply lineOfKind onlyLine callOrder step tableOf opened final
 the-state = (refl, refl)
 
 -- A frame of the flow with index `j` that its source adds at instant `x`. It takes a link 1.5 µs.
@@ -76,14 +83,16 @@ one f j x e u = record { flow = f; known = e; first = refl; least = omega arith;
 
 -- At instant 1 a frame of level 2 is under way when one of level 1 comes; at instant 3 the link is free just when another comes.
 abbrev pub sent : ℕ → List Frame
-sent x = getD ((frame 1 0 ∷ []) ∷ (frame 1 1 ∷ frame 0 1 ∷ []) ∷ (frame 1 2 ∷ frame 2 2 ∷ []) ∷ (frame 0 3 ∷ []) ∷ []) x []
+sent x =
+    getD ((frame 1 0 ∷ []) ∷ (frame 1 1 ∷ frame 0 1 ∷ []) ∷ (frame 1 2 ∷ []) ∷ (frame 0 3 ∷ []) ∷ (frame 2 4 ∷ []) ∷ []) x []
 
 pub sends : (x : ℕ) → All (Sends flows x) (sent x)
 sends zero = (one _ 1 0 refl (omega arith), tt)
 sends (suc zero) = (one _ 1 1 refl (omega arith), (one _ 0 1 refl (omega arith), tt))
-sends (suc (suc zero)) = (one _ 1 2 refl (omega arith), (one _ 2 2 refl (omega arith), tt))
+sends (suc (suc zero)) = (one _ 1 2 refl (omega arith), tt)
 sends (suc (suc (suc zero))) = (one _ 0 3 refl (omega arith), tt)
-sends (suc (suc (suc (suc x)))) = tt
+sends (suc (suc (suc (suc zero)))) = (one _ 2 4 refl (omega arith), tt)
+sends (suc (suc (suc (suc (suc x))))) = tt
 
 abbrev pub worked : Run table flows
 worked = runOf table flows sent (λ x q l. l) sends (λ x q l. Permᴰ·refl l)
@@ -101,41 +110,47 @@ stays n zero = []
 stays n (suc x) = stays n x ++ map (λ f. record { link = n; flow = f .flow; came = f .since; gone = suc x }) (worked .before (suc x) n .left)
 
 -- Before the arrivals of instant 1, 448 of the 672 bits are sent. Frames of one level leave in the order in which they came.
--- At instant 4 the first flow has a frame under way at each of its hops. Of the two frames that leave at instant 5 one goes on, and one has ended its path,
--- 4 µs after it was sent.
+-- The frame of flow 1 that left link 1 at instant 3 is on the cable at instant 4, and in no queue of its path; at 5 it reaches link 2. It leaves that
+-- link at 7, and at 8, behind the second cable, it has ended its path, 7 µs after it was sent.
 pub the-run : (worked .before 1 1 ≡ record { wire = run.sending 2 (frame 1 0) 223; levels = [] ∷ [] ∷ []; left = [] })
-    × (stays 1 6 ++ stays 2 5
+    × (stays 1 6 ++ stays 2 7
     ≡ record { link = 1; flow = 1; came = 0; gone = 2 }
     ∷ record { link = 1; flow = 0; came = 1; gone = 3 }
     ∷ record { link = 1; flow = 0; came = 3; gone = 5 }
     ∷ record { link = 1; flow = 1; came = 1; gone = 6 }
-    ∷ record { link = 2; flow = 2; came = 2; gone = 4 }
-    ∷ record { link = 2; flow = 0; came = 3; gone = 5 }
+    ∷ record { link = 2; flow = 2; came = 4; gone = 6 }
+    ∷ record { link = 2; flow = 0; came = 5; gone = 7 }
     ∷ [])
-    × (alongPath anyBirth 0 (worked .after 4) 0 (at 1 1 ∷ at 2 1 ∷ []) ≡ 168)
-    × (delivered worked 5 ≡ record { flow = 0; hop = 2; length = 84; since = 5; born = 1 } ∷ [])
-unfolding stays delivered ofFlow atHop alongPath total run.onWire run.inQueue runOf states coming run.pastEmpty run.pick run.bits run.start run.take run.send run.bitSlot run.interval run.hopOf run.next run.departed run.moving run.reaching run.append run.enter run.emptyLevels run.emptyLink run.speedOf filter isNone nth linkAt sameHop
-the-run = (refl, refl, refl, refl)
+    × (onCable worked 4 1 ≡ frame 0 1 ∷ [])
+    × (run.inQueue 1 (worked .after 4 1) ++ run.inQueue 1 (worked .after 4 2) ≡ frame 0 3 ∷ frame 2 4 ∷ [])
+    × (alongPath worked anyBirth 0 4 0 (at 1 1 ∷ at 2 1 ∷ []) ≡ 168)
+    × (delivered worked 8
+    ≡ record { flow = 1; hop = 1; length = 84; since = 8; born = 1 }
+    ∷ record { flow = 0; hop = 2; length = 84; since = 8; born = 1 }
+    ∷ [])
+unfolding stays delivered ofFlow atHop leftSince onCable framesAt alongPath total run.onWire run.inQueue runOf states goesOn upTo coming run.pastEmpty run.pick run.bits run.start run.take run.send run.bitSlot run.interval run.hopOf run.next run.leftAgo run.handedOn run.moving run.reaching run.append run.enter run.emptyLevels run.emptyLink run.speedOf filter isNone nth linkAt fixedDelayOf sameHop
+the-run = (refl, refl, refl, refl, refl, refl)
 
 -- Each source sends no more than its burst in all.
-none-later : (j x : ℕ) → 0 + 4 ≤ x → bytesOf j (sent x) ≡ 0
+none-later : (j x : ℕ) → 0 + 5 ≤ x → bytesOf j (sent x) ≡ 0
 unfolding bytesOf total
 none-later j zero u = absurd (omega arith)
 none-later j (suc zero) u = absurd (omega arith)
 none-later j (suc (suc zero)) u = absurd (omega arith)
 none-later j (suc (suc (suc zero))) u = absurd (omega arith)
-none-later j (suc (suc (suc (suc x)))) u = refl
+none-later j (suc (suc (suc (suc zero)))) u = absurd (omega arith)
+none-later j (suc (suc (suc (suc (suc x))))) u = refl
 
-in-all : (j s n : ℕ) → window (λ x. bytesOf j (sent x)) s n ≤ window (λ x. bytesOf j (sent x)) 0 4
+in-all : (j s n : ℕ) → window (λ x. bytesOf j (sent x)) s n ≤ window (λ x. bytesOf j (sent x)) 0 5
 in-all j s n =
     let g : ℕ → ℕ = λ x. bytesOf j (sent x) in
-    omega (arith, window-join g 0 s n, window-within g 0 4 (s + n) (none-later j), ap (λ z. window g z n) (zero-add s))
+    omega (arith, window-join g 0 s n, window-within g 0 5 (s + n) (none-later j), ap (λ z. window g z n) (zero-add s))
 
 pub conforming : Conforming flows sent
 unfolding window bytesOf total
 conforming = record { bound = bound }
   where
-    bursts : (j : ℕ) (f : Flow) → getElem? flows j ≡ some f → window (λ x. bytesOf j (sent x)) 0 4 ≤ f .burst
+    bursts : (j : ℕ) (f : Flow) → getElem? flows j ≡ some f → window (λ x. bytesOf j (sent x)) 0 5 ≤ f .burst
     bursts zero f e = omega (arith, ap (λ z. z .burst) (Option·some-injective _ f e))
     bursts (suc zero) f e = omega (arith, ap (λ z. z .burst) (Option·some-injective _ f e))
     bursts (suc (suc zero)) f e = omega (arith, ap (λ z. z .burst) (Option·some-injective _ f e))

@@ -1,5 +1,7 @@
 -- The proofs that no frame is late or lost, and that runs exist, one file for each step.
+pub mod Instants
 pub mod Windows
+pub mod Cables
 pub mod OneLink
 pub mod EachFrame
 pub mod Workload

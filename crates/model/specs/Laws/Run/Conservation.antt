@@ -1,9 +1,9 @@
--- The network: what has come to a hop of a flow is still there or has come to the next one, so it is at most what the source has sent.
+-- The network: what has come to a hop of a flow is still there, is on the cable behind it or has come to the next one, so it is at most what the source has sent.
 -- By weights that read only flow, birth and length, summed over all links: no order of arrivals matters. Assumes nothing.
 use Prim.Native.Nat.{ℕ, zero, suc, _+_, _≤_}
 use mathlib.Core.Path.{_≡_, refl, ap, _∙_}
 use mathlib.Core.Bool.{cond, _&&_, and-false}
-use mathlib.Core.List.{List, [], _∷_, map}
+use mathlib.Core.List.{List, map}
 use mathlib.Core.Option.{Option, none, some}
 use native.Mathlib.Omega.{arith}
 use lib.ListN.{length}
@@ -12,13 +12,14 @@ use borrow.Author.Tests.{eq-eqb, ne-eqb}
 use Rattle.model.specs.Total.{total}
 use Rattle.model.specs.QueueTable.{Link, Table}
 use Rattle.model.specs.Orders.{Hop, Flow}
-use Rattle.model.specs.Aggregates.{linkAt, sameHop}
-use Rattle.model.specs.Run.{Frame, LinkState, Sends, Run, hopOf, next, departed, moving, isAt, reaching, enter, emptyLink, speedOf, window}
-use Rattle.model.specs.Delivery.{ofFlow, atHop}
+use Rattle.model.specs.Aggregates.{linkAt, fixedDelayOf, sameHop}
+use Rattle.model.specs.Run.{Frame, Sends, Run, hopOf, next, leftAgo, handedOn, moving, isAt, reaching, enter, emptyLink, speedOf, window}
+use Rattle.model.specs.Delivery.{ofFlow, atHop, onCable}
 use Rattle.model.specs.Laws.Aggregates.{hop-same}
 use Rattle.model.specs.Laws.Total.{total-ext, total-append, total-map, total-filter, total-below, total-same, total-zeros, total-perm}
 use Rattle.model.specs.Laws.Test.{cond-le}
-use Rattle.model.specs.Laws.Run.Windows.{window-ext, window-mono, window-add, window-zero, window-front, window-at, window-has, window-total}
+use Rattle.model.specs.Laws.Run.Windows.{window-ext, window-mono, window-add, window-zero, window-at, window-has, window-total}
+use Rattle.model.specs.Laws.Run.Cables.{cable-step, cable-first, handed-total}
 use Rattle.model.specs.Laws.Run.OneLink.{held, all, empty-held, enter-held, interval-all}
 use Rattle.model.specs.Laws.Run.Standing.{hop, moved}
 
@@ -89,25 +90,13 @@ module _ (m : Frame → ℕ) (fs : List Flow) where
       on : ℕ → Frame → ℕ
       on n f = window (λ k. at n k f) 1 (levels n)
 
-departed-total : (m : Frame → ℕ) (links : ℕ → LinkState) (n : ℕ) (ks : Table) →
-    total m (departed links n ks) ≡ window (λ k. total m (links k .left)) n (length ks)
-unfolding departed window total
-departed-total m links n [] = refl
-departed-total m links n (k ∷ ks) =
-    omega (
-      arith,
-      total-append m (links n .left) (departed links (suc n) ks),
-      departed-total m links (suc n) ks,
-      window-front (λ k. total m (links k .left)) n (length ks),
-    )
-
 module _ (t : Table) (fs : List Flow) (r : Run t fs) where
   -- How many levels a link has at an instant.
   abbrev pub levels : (x link : ℕ) → ℕ
   levels x n = length (r .before x n .levels)
 
   module _ (m : Frame → ℕ) where
-    -- What moves at an instant, what of it reaches the queues of all links, and what has left a link.
+    -- What moves at an instant, what of it reaches the queues of all links, and what all cables hand on.
     unfoldable pub reached : ℕ → ℕ
     reached x = total m (moved r x)
 
@@ -115,11 +104,14 @@ module _ (t : Table) (fs : List Flow) (r : Run t fs) where
     coming x = total (λ f. brings (m f) (hopOf fs f) (levels x) (length t)) (moved r x)
 
     unfoldable pub out : ℕ → ℕ
-    out x = total m (departed (r .before x) 1 t)
+    out x = total m (handedOn t (r .before) x (length t))
 
-    -- What waits or is under way on all links, after the arrivals of an instant.
+    -- What is on a link after the arrivals of an instant, waiting, under way or on its cable; and on all links.
+    abbrev pub onLink : (x n : ℕ) → ℕ
+    onLink x n = held (λ k. m) (r .after x n) + total m (onCable r x n)
+
     unfoldable pub inside : ℕ → ℕ
-    inside x = window (λ n. held (λ k. m) (r .after x n)) 1 (length t)
+    inside x = window (onLink x) 1 (length t)
 
     pub coming-most : (x : ℕ) → coming x ≤ reached x
     unfolding coming reached
@@ -147,17 +139,19 @@ module _ (t : Table) (fs : List Flow) (r : Run t fs) where
         let gone : total m (r .after x n .left) ≡ 0 = ap (λ l. total m (l .left)) (r .enters x n) in
         ap (all m) (r .serves x n) ∙ interval-all m (speedOf (linkAt t n)) (r .after x n) ∙ omega (arith, gone)
 
+    abbrev handed : (x n : ℕ) → ℕ
+    handed x n = total m (leftAgo (r .before) n x (fixedDelayOf (linkAt t n)))
+
     step : (x : ℕ) → inside (suc x) + out (suc x) ≡ inside x + coming (suc x)
-    unfolding inside out
+    unfolding inside out onCable
     step x =
         omega (
           arith,
-          window-ext (λ n. held (λ k. m) (r .after (suc x) n) + total m (r .before (suc x) n .left)) (λ n. held (λ k. m) (r .after x n) + new (suc x) n) 1
-              (length t)
-              (λ n. omega (arith, enters (suc x) n, serves x n)),
-          window-add (λ n. held (λ k. m) (r .after (suc x) n)) (λ n. total m (r .before (suc x) n .left)) 1 (length t),
-          window-add (λ n. held (λ k. m) (r .after x n)) (new (suc x)) 1 (length t),
-          departed-total m (r .before (suc x)) 1 t,
+          window-ext (λ n. onLink (suc x) n + handed (suc x) n) (λ n. onLink x n + new (suc x) n) 1 (length t)
+              (λ n. omega (arith, enters (suc x) n, serves x n, cable-step m (r .before) n x (fixedDelayOf (linkAt t n)))),
+          window-add (onLink (suc x)) (handed (suc x)) 1 (length t),
+          window-add (onLink x) (new (suc x)) 1 (length t),
+          handed-total m t (r .before) (suc x) (length t),
           all-new (suc x),
         )
 
@@ -166,17 +160,26 @@ module _ (t : Table) (fs : List Flow) (r : Run t fs) where
     empty-left none = refl
     empty-left (some k) = refl
 
-    at-first : (inside 0 ≡ coming 0) × (out 0 ≡ 0)
-    unfolding inside out
-    at-first = (
-      window-ext (λ n. held (λ k. m) (r .after 0 n)) (new 0) 1 (length t)
-          (λ n. omega (arith, enters 0 n, ap (held (λ k. m)) (r .starts n) ∙ empty-held (λ k. m) (linkAt t n)))
-          ∙ all-new 0,
-      departed-total m (r .before 0) 1 t
-          ∙ window-zero (λ n. total m (r .before 0 n .left)) 1 (length t) (λ n a b. rw (r .starts n) (empty-left (linkAt t n))),
-    )
+    at-first : inside 0 + out 0 ≡ coming 0
+    unfolding inside out onCable
+    at-first =
+        omega (
+          arith,
+          window-ext (λ n. onLink 0 n + handed 0 n) (new 0) 1 (length t)
+              (λ n.
+              omega (
+                arith,
+                enters 0 n,
+                ap (held (λ k. m)) (r .starts n) ∙ empty-held (λ k. m) (linkAt t n),
+                cable-first m (r .before) n (fixedDelayOf (linkAt t n)),
+                ap (λ l. total m (l .left)) (r .starts n) ∙ empty-left (linkAt t n),
+              )),
+          window-add (onLink 0) (handed 0) 1 (length t),
+          handed-total m t (r .before) 0 (length t),
+          all-new 0,
+        )
 
-    -- What has come to a queue up to instant `x` has left its link, or is inside.
+    -- What has come to a queue up to instant `x` has been handed on, or is inside.
     pub so-far : (x : ℕ) → window out 0 (suc x) + inside x ≡ window coming 0 (suc x)
     unfolding window
     so-far zero =
@@ -215,11 +218,11 @@ module _ (t : Table) (fs : List Flow) (r : Run t fs) where
     sent-first x f s = ap (λ b. cond b (ofFlow w j f) 0) (eq-eqb (f .hop) 0 (s .first))
 
     -- What moves to a hop: from the links, and from the sources.
-    parts : (i x : ℕ) → reached (atHop w j i) x ≡ total (λ f. atHop w j i (next x f)) (departed (r .before x) 1 t) + total (atHop w j i) (r .sent x)
+    parts : (i x : ℕ) → reached (atHop w j i) x ≡ total (λ f. atHop w j i (next x f)) (handedOn t (r .before) x (length t)) + total (atHop w j i) (r .sent x)
     unfolding reached moving
     parts i x =
-        total-append (atHop w j i) (map (next x) (departed (r .before x) 1 t)) (r .sent x)
-        ∙ ap (λ z. z + total (atHop w j i) (r .sent x)) (total-map (next x) (atHop w j i) (departed (r .before x) 1 t))
+        total-append (atHop w j i) (map (next x) (handedOn t (r .before) x (length t))) (r .sent x)
+        ∙ ap (λ z. z + total (atHop w j i) (r .sent x)) (total-map (next x) (atHop w j i) (handedOn t (r .before) x (length t)))
 
     pub reach-next : (i x : ℕ) → reached (atHop w j (suc i)) x ≡ out (atHop w j i) x
     unfolding out
@@ -227,7 +230,7 @@ module _ (t : Table) (fs : List Flow) (r : Run t fs) where
         omega (
           arith,
           parts (suc i) x,
-          total-ext (λ f. atHop w j (suc i) (next x f)) (atHop w j i) (departed (r .before x) 1 t) (next-hop i x),
+          total-ext (λ f. atHop w j (suc i) (next x f)) (atHop w j i) (handedOn t (r .before) x (length t)) (next-hop i x),
           total-same (Sends fs x) (atHop w j (suc i)) (λ f. 0) (r .sent x) (sent-later i x) (r .sends x),
           total-zeros (r .sent x),
         )
@@ -238,8 +241,8 @@ module _ (t : Table) (fs : List Flow) (r : Run t fs) where
         omega (
           arith,
           parts 0 x,
-          total-ext (λ f. atHop w j 0 (next x f)) (λ f. 0) (departed (r .before x) 1 t) (not-first x),
-          total-zeros (departed (r .before x) 1 t),
+          total-ext (λ f. atHop w j 0 (next x f)) (λ f. 0) (handedOn t (r .before) x (length t)) (not-first x),
+          total-zeros (handedOn t (r .before) x (length t)),
           total-same (Sends fs x) (atHop w j 0) (ofFlow w j) (r .sent x) (sent-first x) (r .sends x),
         )
 

@@ -1,5 +1,5 @@
--- The network: while no frame has been late, a frame reaches a hop at most the thresholds of the earlier hops after its source sent it.
--- Induction over instants, not over paths, so that cycles of links do no harm. Assumes nothing.
+-- The network: while no frame has been late, a frame reaches a hop at most the thresholds of the earlier hops later than the cables alone make it.
+-- Induction over all earlier instants, not over paths, so that cycles of links do no harm. Assumes nothing.
 use Prim.Native.Nat.{ℕ, zero, suc, _+_, _≤_, _<_}
 use mathlib.Core.Path.{_≡_, refl, sym, ap, _∙_}
 use mathlib.Core.List.{List, [], _∷_}
@@ -9,28 +9,40 @@ use lib.ListN.{getElem?}
 use Rattle.model.specs.Words.{All}
 use Rattle.model.specs.QueueTable.{Table}
 use Rattle.model.specs.Orders.{Hop, Flow}
-use Rattle.model.specs.Aggregates.{linkAt, queueAt, thresholdOf, growth}
+use Rattle.model.specs.Aggregates.{linkAt, queueAt, thresholdOf, fixedDelayOf, growth}
 use Rattle.model.specs.Schedulable.{Named, FlowMeets, Schedulable}
 use Rattle.model.specs.Run.{Frame, Sends, Run, hopOf, next, speedOf, inQueue}
 use Rattle.model.specs.Laws.All.{all-imp, all-at}
+use Rattle.model.specs.Laws.Run.Instants.{at-each}
 use Rattle.model.specs.Laws.Run.Standing.{hop, moved, known-hop, moved-all, arrivals-all}
 use Rattle.model.specs.Laws.Run.OneLink.{EachLevel, OnWire, Each}
 use Rattle.model.specs.Laws.Run.EachFrame.{interval-each, enter-each, empty-each, levels-both, wire-both}
 use Rattle.model.specs.Laws.Run.InQueue.{each-queue}
 
--- The sum of the thresholds of a path's hops before index `i`.
-unfoldable pub upstream : Table → List Hop → (i : ℕ) → ℕ
-upstream t path zero = 0
-upstream t [] (suc i) = 0
-upstream t (h ∷ path) (suc i) = growth t h + upstream t path i
+-- The sum of a measure over a path's hops before index `i`.
+unfoldable pub sumBefore : (measure : Hop → ℕ) → List Hop → (i : ℕ) → ℕ
+sumBefore m path zero = 0
+sumBefore m [] (suc i) = 0
+sumBefore m (h ∷ path) (suc i) = m h + sumBefore m path i
 
--- A frame of a flow, which has come to its hop in time.
+-- How late a frame may be at a hop, and the time that it has been on cables.
+abbrev pub upstream : Table → List Hop → (i : ℕ) → ℕ
+upstream t path i = sumBefore (growth t) path i
+
+abbrev pub cable : Table → Hop → ℕ
+cable t h = fixedDelayOf (linkAt t (h .link))
+
+abbrev pub cables : Table → List Hop → (i : ℕ) → ℕ
+cables t path i = sumBefore (cable t) path i
+
+-- A frame of a flow, which has come to its hop in time, and no sooner than cables allow.
 pub record OnTime (t : Table) (fs : List Flow) (f : Frame) : Type 0 where
   pub flow : Flow
   pub known : getElem? fs (f .flow) ≡ some flow
   pub long : 84 ≤ f .length
   pub short : f .length ≤ flow .frame
-  pub jitter : f .since ≤ f .born + upstream t (flow .path) (f .hop)
+  pub notSooner : f .born + cables t (flow .path) (f .hop) ≤ f .since
+  pub jitter : f .since ≤ f .born + cables t (flow .path) (f .hop) + upstream t (flow .path) (f .hop)
 
 -- It stands in queue (link, level), and at instant `x` it is not past its threshold.
 pub record Placed (t : Table) (fs : List Flow) (x link level : ℕ) (f : Frame) : Type 0 where
@@ -43,14 +55,13 @@ pub record Placed (t : Table) (fs : List Flow) (x link level : ℕ) (f : Frame) 
 abbrev pub NotLate : (t : Table) (fs : List Flow) → Run t fs → (x : ℕ) → Type 0
 NotLate t fs r x = (link level : ℕ) → All (λ f. x < f .since + thresholdOf (queueAt t (hop link level))) (inQueue level (r .before x link))
 
-upstream-next : (t : Table) (path : List Hop) (i : ℕ) (h : Hop) → getElem? path i ≡ some h →
-    upstream t path (suc i) ≡ upstream t path i + growth t h
-unfolding upstream
-upstream-next t [] i h e = absurd (Option·none-ne-some h e)
-upstream-next t (k ∷ path) zero h e =
+sum-next : (m : Hop → ℕ) (path : List Hop) (i : ℕ) (h : Hop) → getElem? path i ≡ some h → sumBefore m path (suc i) ≡ sumBefore m path i + m h
+unfolding sumBefore
+sum-next m [] i h e = absurd (Option·none-ne-some h e)
+sum-next m (k ∷ path) zero h e =
     let d : k ≡ h = cc in
-    omega (arith, ap (growth t) d)
-upstream-next t (k ∷ path) (suc i) h e = omega (arith, upstream-next t path i h e)
+    omega (arith, ap m d)
+sum-next m (k ∷ path) (suc i) h e = omega (arith, sum-next m path i h e)
 
 module _ (t : Table) (fs : List Flow) (sch : Schedulable t fs) (r : Run t fs) where
   pub meets : (f : Frame) → (o : OnTime t fs f) → FlowMeets t fs (o .flow)
@@ -65,46 +76,57 @@ module _ (t : Table) (fs : List Flow) (sch : Schedulable t fs) (r : Run t fs) wh
       let n = named f o h e in
       rw (n .found) (sch .thresholds h (n .queue) (n .found))
 
-  -- A frame that leaves a queue in time reaches the next hop in time.
-  pub leaves : (x n level : ℕ) (f : Frame) → Placed t fs x n level f → OnTime t fs (next x f)
+  -- A frame that leaves a queue in time reaches the next hop in time, behind the cable.
+  pub leaves : (x y n level : ℕ) (f : Frame) → y + fixedDelayOf (linkAt t n) ≡ x → Placed t fs y n level f → OnTime t fs (next x f)
   unfolding next
-  leaves x n level f p =
+  leaves x y n level f d p =
       let o = p .onTime in
+      let here : getElem? (o .flow .path) (f .hop) ≡ some (hop n level) = sym (known-hop fs f (o .flow) (o .known)) ∙ p .here in
+      let later = sum-next (cable t) (o .flow .path) (f .hop) (hop n level) here in
       record {
         flow = o .flow;
         known = o .known;
         long = o .long;
         short = o .short;
-        jitter =
-            omega (
-              arith,
-              o .jitter,
-              p .soon,
-              upstream-next t (o .flow .path) (f .hop) (hop n level) (sym (known-hop fs f (o .flow) (o .known)) ∙ p .here),
-            );
+        notSooner = omega (arith, o .notSooner, p .came, d, later);
+        jitter = omega (arith, o .jitter, p .soon, d, later, sum-next (growth t) (o .flow .path) (f .hop) (hop n level) here);
       }
 
   added : (x : ℕ) (f : Frame) → Sends fs x f → OnTime t fs f
+  unfolding sumBefore
   added x f s =
-      record { flow = s .flow; known = s .known; long = s .least; short = s .most; jitter = omega (arith, s .since, s .born) }
+      let first : cables t (s .flow .path) (f .hop) ≡ 0 = ap (cables t (s .flow .path)) (s .first) in
+      record {
+        flow = s .flow;
+        known = s .known;
+        long = s .least;
+        short = s .most;
+        notSooner = omega (arith, s .since, s .born, first);
+        jitter = omega (arith, s .since, s .born);
+      }
 
-  moved-on-time : (x : ℕ) → ((n : ℕ) → Each (Placed t fs x n) (r .before x n)) → All (λ f. OnTime t fs f × (f .since ≡ x)) (moved r x)
+  -- Each frame of each link, before the arrivals of an instant.
+  abbrev AllPlaced : ℕ → Type 0
+  AllPlaced x = (n : ℕ) → Each (Placed t fs x n) (r .before x n)
+
+  moved-on-time : (x : ℕ) → ((y : ℕ) → y ≤ x → AllPlaced y) → All (λ f. OnTime t fs f × (f .since ≡ x)) (moved r x)
   unfolding next
   moved-on-time x each =
       moved-all t fs r (λ f. OnTime t fs f × (f .since ≡ x)) x
-      (λ n. all-imp (r .before x n .left) (λ f p. (leaves x n (p .0) f (p .1), refl)) (each n .left))
+      (λ n y d. all-imp (r .before y n .left) (λ f p. (leaves x y n (p .0) f d (p .1), refl)) (each y (omega (arith, d)) n .left))
       (all-imp (r .sent x) (λ f s. (added x f s, s .since)) (r .sends x))
 
   pub arrived : (x : ℕ) → All (λ f. OnTime t fs f × (f .since ≡ x)) (moved r x) →
       (n level : ℕ) → All (λ f. (OnTime t fs f × (f .since ≡ x)) × (hopOf fs f ≡ some (hop n level))) (r .arrivals x n level)
   arrived x = arrivals-all t fs r (λ f. OnTime t fs f × (f .since ≡ x)) x
 
-  pub after-placed : (x : ℕ) → NotLate t fs r x → ((n : ℕ) → Each (Placed t fs x n) (r .before x n)) → (n : ℕ) → Each (Placed t fs (suc x) n) (r .after x n)
+  pub after-placed : (x : ℕ) → NotLate t fs r x → ((y : ℕ) → y ≤ x → AllPlaced y) → (n : ℕ) → Each (Placed t fs (suc x) n) (r .after x n)
   after-placed x ok each n =
+      let here = each x (omega arith) n in
       rw (r .enters x n)
       (enter-each (Placed t fs (suc x) n) (r .arrivals x n) (r .before x n) new
-      (wire-both (Placed t fs x n) Soon (Placed t fs (suc x) n) stays (r .before x n .wire) (each n .wire) (queues .0))
-      (levels-both (Placed t fs x n) Soon (Placed t fs (suc x) n) stays 1 (r .before x n .levels) (each n .levels) (queues .1)))
+      (wire-both (Placed t fs x n) Soon (Placed t fs (suc x) n) stays (r .before x n .wire) (here .wire) (queues .0))
+      (levels-both (Placed t fs x n) Soon (Placed t fs (suc x) n) stays 1 (r .before x n .levels) (here .levels) (queues .1)))
     where
       Soon : ℕ → Frame → Type 0
       Soon level f = x < f .since + thresholdOf (queueAt t (hop n level))
@@ -127,13 +149,16 @@ module _ (t : Table) (fs : List Flow) (sch : Schedulable t fs) (r : Run t fs) wh
           })
           (arrived x (moved-on-time x each) n level)
 
-  pub placed : (x : ℕ) → ((m : ℕ) → m < x → NotLate t fs r m) → (n : ℕ) → Each (Placed t fs x n) (r .before x n)
-  placed zero ok n = rw (r .starts n) (empty-each (Placed t fs 0 n) (linkAt t n))
-  placed (suc x) ok n =
-      rw (r .serves x n)
-      (interval-each (Placed t fs (suc x) n) (speedOf (linkAt t n)) (r .after x n)
-      (after-placed x (ok x (omega arith)) (placed x (λ m u. ok m (omega arith))) n))
+  pub placed : (x : ℕ) → ((m : ℕ) → m < x → NotLate t fs r m) → AllPlaced x
+  placed = at-each (λ x. ((m : ℕ) → m < x → NotLate t fs r m) → AllPlaced x) step
+    where
+      step : (x : ℕ) → ((y : ℕ) → y < x → ((m : ℕ) → m < y → NotLate t fs r m) → AllPlaced y) → ((m : ℕ) → m < x → NotLate t fs r m) → AllPlaced x
+      step zero before ok n = rw (r .starts n) (empty-each (Placed t fs 0 n) (linkAt t n))
+      step (suc x) before ok n =
+          rw (r .serves x n)
+          (interval-each (Placed t fs (suc x) n) (speedOf (linkAt t n)) (r .after x n)
+          (after-placed x (ok x (omega arith)) (λ y u. before y (omega arith) (λ m v. ok m (omega arith))) n))
 
   -- All that moves up to the instant after those with no late frame is on time.
   pub moves : (x : ℕ) → ((m : ℕ) → m < x → NotLate t fs r m) → All (λ f. OnTime t fs f × (f .since ≡ x)) (moved r x)
-  moves x ok = moved-on-time x (placed x ok)
+  moves x ok = moved-on-time x (λ y u. placed y (λ m v. ok m (omega arith)))

@@ -1,5 +1,5 @@
--- No frame is lost: what the source of a flow has sent is in the queues of its path or has been delivered, in every run, whatever the sources send.
--- At each hop what has come is still there or has gone on to the next; summed along the path. Assumes nothing.
+-- No frame is lost: what the source of a flow has sent is in the queues of its path, on the cables behind them, or has been delivered, in every run, whatever the sources send.
+-- At each hop what has come is still there, on the cable or has gone on to the next; summed along the path. Assumes nothing.
 use Prim.Native.Nat.{ℕ, zero, suc, _+_, _≤_}
 use mathlib.Core.Path.{_≡_, refl, sym, ap, subst, _∙_}
 use mathlib.Core.Bool.{Bool, true, false, cond}
@@ -17,16 +17,16 @@ use Rattle.model.specs.Orders.{Hop, Flow}
 use Rattle.model.specs.Aggregates.{linkAt, queueAt}
 use Rattle.model.specs.Schedulable.{Named}
 use Rattle.model.specs.Run.{Frame, LinkState, Run, hopOf, next, emptyLevels, emptyLink, window, inQueue}
-use Rattle.model.specs.Delivery.{delivered, ofFlow, atHop, alongPath, deliveredUpTo, Conserved}
+use Rattle.model.specs.Delivery.{delivered, ofFlow, atHop, onCable, framesAt, alongPath, deliveredUpTo, Conserved}
 use Rattle.model.specs.Laws.All.{all-imp}
-use Rattle.model.specs.Laws.Total.{total-filter, total-below, total-same, total-cond}
+use Rattle.model.specs.Laws.Total.{total-append, total-filter, total-each, total-below, total-same, total-cond}
 use Rattle.model.specs.Laws.Test.{cond-le, cond-same, and-then}
 use Rattle.model.specs.Laws.List.{index-below, none-past}
 use Rattle.model.specs.Laws.Run.Windows.{window-ext, window-at, window-has}
 use Rattle.model.specs.Laws.Run.OneLink.{held, held-each, held-le}
 use Rattle.model.specs.Laws.Run.InQueue.{queue-weight}
-use Rattle.model.specs.Laws.Run.Standing.{hop, moved, known-hop, moved-all, Stands, stands-before, stands, level-count}
-use Rattle.model.specs.Laws.Run.Conservation.{brings, there, levels, reached, coming, coming-most, out, inside, so-far, source, reach-next, reach-first}
+use Rattle.model.specs.Laws.Run.Standing.{hop, moved, known-hop, moved-all, Stands, stands-before, stands, stands-cable, level-count}
+use Rattle.model.specs.Laws.Run.Conservation.{brings, there, levels, reached, coming, coming-most, out, onLink, inside, so-far, source, reach-next, reach-first}
 
 -- A queue of the table lies within its links, and within the levels of its link.
 record Within (t : Table) (h : Hop) : Type 0 where
@@ -57,6 +57,10 @@ within t h q =
       level-low = c;
       level-high = omega (arith, empty-count (k .levels), ap (λ o. length (emptyLink o .levels)) isLink);
     }
+
+cond-add : (b : Bool) (v w : ℕ) → cond b v 0 + cond b w 0 ≡ cond b (v + w) 0
+cond-add true v w = refl
+cond-add false v w = refl
 
 level-weight : (m : Frame → ℕ) (p : ℕ) → 1 ≤ p → (l : LinkState) → total m (inQueue p l) ≡ held (λ n f. cond (eqb n p) (m f) 0) l
 level-weight m zero u l = absurd (omega arith)
@@ -105,45 +109,65 @@ module _ (t : Table) (fs : List Flow) (r : Run t fs) (w : ℕ → ℕ → ℕ) (
         weight none = 0
         weight (some g) = cond (eqb (g .level) (h .level)) (cond (eqb (g .link) (h .link)) (m f) 0) 0
 
-    on-link : (x n : ℕ) → held (λ k. m) (r .after x n) ≡ cond (eqb n (h .link)) (total m (inQueue (h .level) (r .after x n))) 0
-    on-link x n =
+    here : ℕ → Frame → ℕ
+    here n f = cond (eqb n (h .link)) (m f) 0
+
+    in-queue : (x n : ℕ) → held (λ k. m) (r .after x n) ≡ cond (eqb n (h .link)) (total m (inQueue (h .level) (r .after x n))) 0
+    unfolding here
+    in-queue x n =
         let each = stands t fs r x n in
         omega (
           arith,
-          held-each (Stands t fs r n) (λ k. m) (λ k f. cond (eqb k (h .level)) (here f) 0) (to-here n) (r .after x n) (each .wire) (each .levels),
-          held-le (λ k f. cond (eqb k (h .level)) (here f) 0) (λ k. m)
-              (λ k f. le-trans (cond-le (eqb k (h .level)) (here f)) (cond-le (eqb n (h .link)) (m f)))
+          held-each (Stands t fs r n) (λ k. m) (λ k f. cond (eqb k (h .level)) (here n f) 0) (to-here n) (r .after x n) (each .wire) (each .levels),
+          held-le (λ k f. cond (eqb k (h .level)) (here n f) 0) (λ k. m)
+              (λ k f. le-trans (cond-le (eqb k (h .level)) (here n f)) (cond-le (eqb n (h .link)) (m f)))
               (r .after x n),
-          level-weight here (h .level) (within t h queue .level-low) (r .after x n),
+          level-weight (here n) (h .level) (within t h queue .level-low) (r .after x n),
           total-cond (eqb n (h .link)) m (inQueue (h .level) (r .after x n)),
         )
-      where
-        here : Frame → ℕ
-        here f = cond (eqb n (h .link)) (m f) 0
 
-    in-queue : (x : ℕ) → inside t fs r m x ≡ total m (inQueue (h .level) (r .after x (h .link)))
-    unfolding inside
-    in-queue x =
+    on-cable : (x n : ℕ) → total m (onCable r x n) ≡ cond (eqb n (h .link)) (total m (onCable r x n)) 0
+    unfolding here
+    on-cable x n =
+        omega (
+          arith,
+          total-each (λ f. (k : ℕ) × Stands t fs r n k f) m (here n) (onCable r x n)
+              (λ f e. le-trans (to-here n (e .0) f (e .1)) (cond-le (eqb (e .0) (h .level)) (here n f)))
+              (stands-cable t fs r x n),
+          total-below (here n) m (onCable r x n) (λ f. cond-le (eqb n (h .link)) (m f)),
+          total-cond (eqb n (h .link)) m (onCable r x n),
+        )
+
+    -- What of it is inside is at this hop.
+    all-here : (x : ℕ) → inside t fs r m x ≡ total m (framesAt r x h)
+    unfolding inside framesAt
+    all-here x =
         let q = within t h queue in
         omega (
           arith,
-          window-ext (λ n. held (λ k. m) (r .after x n)) at 1 (length t) (on-link x),
-          window-at at (h .link) 1 (length t) (λ n d. ap (λ b. cond b (total m (inQueue (h .level) (r .after x n))) 0) (ne-eqb n (h .link) d)),
+          window-ext (onLink t fs r m x) at 1 (length t) (λ n. omega (arith, in-queue x n, on-cable x n, cond-add (eqb n (h .link)) (queued n) (cabled n))),
+          window-at at (h .link) 1 (length t) (λ n d. ap (λ b. cond b (queued n + cabled n) 0) (ne-eqb n (h .link) d)),
           window-has at (h .link) 1 (length t) (q .link-low) (omega (arith, q .link-high)),
-          ap (λ b. cond b (total m (inQueue (h .level) (r .after x (h .link)))) 0) (eq-eqb (h .link) (h .link) refl),
+          ap (λ b. cond b (queued (h .link) + cabled (h .link)) 0) (eq-eqb (h .link) (h .link) refl),
+          total-append m (inQueue (h .level) (r .after x (h .link))) (onCable r x (h .link)),
         )
       where
-        at : ℕ → ℕ
-        at n = cond (eqb n (h .link)) (total m (inQueue (h .level) (r .after x n))) 0
+        queued : ℕ → ℕ
+        queued n = total m (inQueue (h .level) (r .after x n))
 
-    -- What has come to the hop is in its queue, or has gone on.
-    gone-on : (x : ℕ) → window (reached t fs r m) 0 (suc x)
-        ≡ total m (inQueue (h .level) (r .after x (h .link))) + window (reached t fs r (atHop w j (suc i))) 0 (suc x)
+        cabled : ℕ → ℕ
+        cabled n = total m (onCable r x n)
+
+        at : ℕ → ℕ
+        at n = cond (eqb n (h .link)) (queued n + cabled n) 0
+
+    -- What has come to the hop is there, or has gone on.
+    gone-on : (x : ℕ) → window (reached t fs r m) 0 (suc x) ≡ total m (framesAt r x h) + window (reached t fs r (atHop w j (suc i))) 0 (suc x)
     gone-on x =
         omega (
           arith,
           so-far t fs r m x,
-          in-queue x,
+          all-here x,
           window-ext (coming t fs r m) (reached t fs r m) 0 (suc x) all-come,
           window-ext (reached t fs r (atHop w j (suc i))) (out t fs r m) 0 (suc x) (reach-next t fs r w j i),
         )
@@ -156,9 +180,9 @@ module _ (t : Table) (fs : List Flow) (r : Run t fs) (w : ℕ → ℕ → ℕ) (
   unfolding next
   all-short x =
       moved-all t fs r Short x
-      (λ n.
-      all-imp (r .before x n .left) (λ f p e. index-below (fl .path) (f .hop) (hop n (p .0)) (sym (own-hop f e) ∙ p .1))
-      (stands-before t fs r x n .left))
+      (λ n y d.
+      all-imp (r .before y n .left) (λ f p e. index-below (fl .path) (f .hop) (hop n (p .0)) (sym (own-hop f e) ∙ p .1))
+      (stands-before t fs r y n .left))
       (all-imp (r .sent x) (λ f s e. omega (arith, s .first)) (r .sends x))
 
   ends : (f : Frame) → Short f → cond (isNone (hopOf fs f)) (ofFlow w j f) 0 ≡ atHop w j (length (fl .path)) f
@@ -181,7 +205,7 @@ module _ (t : Table) (fs : List Flow) (r : Run t fs) (w : ℕ → ℕ → ℕ) (
   from-hop : (x i : ℕ) (rest : List Hop) → ((k : ℕ) → getElem? (fl .path) (i + k) ≡ getElem? rest k) → i + length rest ≡ length (fl .path)
       → All (Named t) rest
       → window (reached t fs r (atHop w j i)) 0 (suc x)
-      ≡ alongPath w j (r .after x) i rest + deliveredUpTo r w j x
+      ≡ alongPath r w j x i rest + deliveredUpTo r w j x
   unfolding alongPath deliveredUpTo
   from-hop x i [] e n a =
       let last : i ≡ length (fl .path) = omega (arith, n) in

@@ -1,14 +1,14 @@
 -- The network and its links together: no frame is late and no queue overflows, by induction over instants.
 -- A queue with a frame in it carries a flow, so its link was checked; a queue without one has nothing to show. Assumes nothing.
 use Prim.Native.Nat.{ℕ, zero, suc, _+_, _≤_, _<_}
-use mathlib.Core.Path.{_≡_, refl, sym, ap, subst, _∙_}
+use mathlib.Core.Path.{_≡_, refl, sym, ap, _∙_}
 use mathlib.Core.Bool.{Bool, true, false, cond}
 use mathlib.Core.List.{List, [], _∷_}
 use mathlib.Core.Option.{some, Option·none-ne-some, Option·some-injective}
 use native.Mathlib.Omega.{arith}
 use lib.ListN.{length, getElem?}
-use lib.Dec.{eqb, leb}
-use borrow.Author.Tests.{eqb-true, eqb-false, leb-true, le-leb}
+use lib.Dec.{leb}
+use borrow.Author.Tests.{leb-true, le-leb}
 use Rattle.model.specs.Words.{All, nth}
 use Rattle.model.specs.Total.{total}
 use Rattle.model.specs.QueueTable.{Queue, Link, Table}
@@ -20,6 +20,7 @@ use Rattle.model.specs.Schedulable.{LinkMeets, Schedulable}
 use Rattle.model.specs.Run.{Frame, Run, Conforming, hopOf, speedOf, inQueue}
 use Rattle.model.specs.Laws.List.{index-below}
 use Rattle.model.specs.Laws.All.{member-at, all-at, all-imp}
+use Rattle.model.specs.Laws.Run.Instants.{at-earlier}
 use Rattle.model.specs.Laws.Run.EachFrame.{each-up}
 use Rattle.model.specs.Laws.Run.BusyPeriod.{Sound, Served}
 use Rattle.model.specs.Laws.Run.InQueue.{queue-each}
@@ -168,12 +169,7 @@ module _ (t : Table) (fs : List Flow) (sch : Schedulable t fs) (r : Run t fs) (c
             (rw e at (level-not-late n i f (p .0 .onTime) (p .0 .here)))
 
   pub earlier : (x m : ℕ) → m < x → NotLate t fs r m
-  earlier zero m u = absurd (omega arith)
-  earlier (suc x) m u = go (eqb m x) refl (earlier x)
-    where
-      go : (b : Bool) → eqb m x ≡ b → ((m : ℕ) → m < x → NotLate t fs r m) → NotLate t fs r m
-      go true e ih = subst (NotLate t fs r) (sym (eqb-true m x e)) (now x ih)
-      go false e ih = let d = eqb-false m x e in ih m (omega (arith, d))
+  earlier = at-earlier (NotLate t fs r) now
 
   pub never-late : (x : ℕ) (h : Hop) (q : Queue) → queueAt t h ≡ some q → All (λ f. x < f .since + q .threshold) (inQueue (h .level) (r .before x (h .link)))
   never-late x h q e =
@@ -184,7 +180,7 @@ module _ (t : Table) (fs : List Flow) (sch : Schedulable t fs) (r : Run t fs) (c
   -- The frames of a queue after the arrivals of an instant.
   pub queue-placed : (x link level : ℕ) → All (Placed t fs (suc x) link level) (inQueue level (r .after x link))
   queue-placed x n level =
-      queue-each (Placed t fs (suc x) n) level (r .after x n) (after-placed t fs sch r x (now x (earlier x)) (placed t fs sch r x (earlier x)) n)
+      queue-each (Placed t fs (suc x) n) level (r .after x n) (after-placed t fs sch r x (now x (earlier x)) (λ y u. placed t fs sch r y (earlier y)) n)
 
   pub always-fits : (x : ℕ) (h : Hop) (q : Queue) → queueAt t h ≡ some q → total (λ f. f .length) (inQueue (h .level) (r .after x (h .link))) ≤ q .buffer
   unfolding total

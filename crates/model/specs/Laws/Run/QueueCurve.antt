@@ -21,7 +21,7 @@ use Rattle.model.specs.Laws.Run.Windows.{window-ext, window-add}
 use Rattle.model.specs.Laws.Run.ArrivalCurve.{Curve, curve-zero, curve-le, curve-add, curve-cond}
 use Rattle.model.specs.Laws.Run.LevelArrivals.{bytes}
 use Rattle.model.specs.Laws.Run.Standing.{moved, known-hop}
-use Rattle.model.specs.Laws.Run.Jitter.{upstream, OnTime, NotLate, moves}
+use Rattle.model.specs.Laws.Run.Jitter.{sumBefore, upstream, OnTime, NotLate, moves}
 use Rattle.model.specs.Laws.Run.Conservation.{reached, reaching-total}
 use Rattle.model.specs.Laws.Run.HopCurve.{hop-curve}
 
@@ -84,7 +84,7 @@ module _ (t : Table) (fs : List Flow) (sch : Schedulable t fs) (r : Run t fs) (c
 
   hops-curve : (j i s : ℕ) (fl : Flow) (path : List Hop) → ((k : ℕ) → HopCurve fl j (i + k) (s + upstream t path k)) →
       Curve h (sum (λ a. a .burst) (shares t fl s path)) (sum (λ a. a .rate) (shares t fl s path)) (λ x. total (hopsShare q j i path) (moved r x))
-  unfolding hopsShare shares total addsAt reached upstream
+  unfolding hopsShare shares total addsAt reached sumBefore
   hops-curve j i s fl [] c = curve-zero h 0 0 (λ x. total (λ f. 0) (moved r x)) (λ x. total-zeros (moved r x))
   hops-curve j i s fl (g ∷ path) c =
       curve-le h (head (burstAtHop (fl .rate) (fl .burst) s) + sum (λ a. a .burst) (shares t fl next path))

@@ -1,18 +1,20 @@
--- The network: in every run, whatever its sources send, each frame stands in the queue of its own hop, and each link keeps the number of its levels.
--- A queue takes in only what reaches it. Induction over instants. Assumes nothing.
-use Prim.Native.Nat.{ℕ, zero, suc}
+-- The network: in every run, whatever its sources send, each frame stands in the queue of its own hop or on the cable behind it, and each link keeps the number of its levels.
+-- A queue takes in only what reaches it, a cable what has left its link. Induction over instants. Assumes nothing.
+use Prim.Native.Nat.{ℕ, zero, suc, _+_}
 use mathlib.Core.Path.{_≡_, sym, ap, _∙_}
 use mathlib.Core.Bool.{true, false≢true}
-use mathlib.Core.List.{List, [], _∷_, map}
+use mathlib.Core.List.{List, map}
 use mathlib.Core.Option.{Option, none, some}
 use lib.ListN.{length, getElem?}
 use Rattle.model.specs.Words.{All, andThen}
 use Rattle.model.specs.QueueTable.{Table}
 use Rattle.model.specs.Orders.{Hop, Flow}
-use Rattle.model.specs.Aggregates.{linkAt}
+use Rattle.model.specs.Aggregates.{linkAt, fixedDelayOf}
 use Rattle.model.specs.Laws.Aggregates.{same-hop}
-use Rattle.model.specs.Run.{Frame, LinkState, Run, hopOf, next, departed, moving, isAt, reaching, enter, emptyLink, speedOf}
+use Rattle.model.specs.Run.{Frame, Run, hopOf, next, handedOn, moving, isAt, reaching, enter, emptyLink, speedOf}
+use Rattle.model.specs.Delivery.{onCable}
 use Rattle.model.specs.Laws.All.{all-imp, all-append, map-all, all-perm, filter-all, member-all}
+use Rattle.model.specs.Laws.Run.Cables.{since-all, handed-all}
 use Rattle.model.specs.Laws.Run.OneLink.{Each}
 use Rattle.model.specs.Laws.Run.EachFrame.{interval-each, enter-each, empty-each, interval-count, append-count}
 
@@ -21,7 +23,7 @@ hop link level = record { link = link; level = level }
 
 -- What moves at instant `x` of a run.
 abbrev pub moved : {t : Table} {fs : List Flow} → Run t fs → ℕ → List Frame
-moved {t} r x = moving t (r .before x) x (r .sent x)
+moved {t} r x = moving t (r .before) x (r .sent x)
 
 -- The path of its flow has a frame's hop.
 pub known-hop : (fs : List Flow) (f : Frame) (fl : Flow) → getElem? fs (f .flow) ≡ some fl → hopOf fs f ≡ getElem? (fl .path) (f .hop)
@@ -32,18 +34,15 @@ at-hop : (q : Hop) (o : Option Hop) → isAt q o ≡ true → o ≡ some q
 at-hop q none e = absurd (false≢true e)
 at-hop q (some h) e = ap some (sym (same-hop q h e))
 
-departed-all : (P : Frame → Type 0) (links : ℕ → LinkState) → ((n : ℕ) → All P (links n .left)) → (n : ℕ) (ks : Table) → All P (departed links n ks)
-unfolding departed
-departed-all P links h n [] = tt
-departed-all P links h n (k ∷ ks) = all-append P (links n .left) (departed links (suc n) ks) (h n) (departed-all P links h (suc n) ks)
-
 module _ (t : Table) (fs : List Flow) (r : Run t fs) where
-  -- What moves at instant `x` has left a link, or is sent then.
-  pub moved-all : (P : Frame → Type 0) (x : ℕ) → ((n : ℕ) → All (λ f. P (next x f)) (r .before x n .left)) → All P (r .sent x) → All P (moved r x)
+  -- What moves at instant `x` left a link the time of its cable ago, or is sent now.
+  pub moved-all : (P : Frame → Type 0) (x : ℕ) → ((n y : ℕ) → y + fixedDelayOf (linkAt t n) ≡ x → All (λ f. P (next x f)) (r .before y n .left))
+      → All P (r .sent x) → All P (moved r x)
   unfolding moving
   moved-all P x left sent =
-      all-append P (map (next x) (departed (r .before x) 1 t)) (r .sent x)
-      (map-all P (next x) (departed (r .before x) 1 t) (departed-all (λ f. P (next x f)) (r .before x) left 1 t))
+      let handed : List Frame = handedOn t (r .before) x (length t) in
+      all-append P (map (next x) handed) (r .sent x)
+      (map-all P (next x) handed (handed-all (λ f. P (next x f)) (r .before) t x left (length t)))
       sent
 
   -- What reaches a queue is some of what moves, and the queue is its own.
@@ -73,6 +72,12 @@ module _ (t : Table) (fs : List Flow) (r : Run t fs) where
 
   pub stands : (x n : ℕ) → Each (Stands n) (r .after x n)
   stands x n = after-stands x n (stands-before x n)
+
+  -- On the cable of a link are only frames that stood in one of its queues.
+  pub stands-cable : (x n : ℕ) → All (λ f. (level : ℕ) × Stands n level f) (onCable r x n)
+  unfolding onCable
+  stands-cable x n =
+      since-all (λ f. (level : ℕ) × Stands n level f) (r .before) n x (fixedDelayOf (linkAt t n)) (λ y u v. stands-before y n .left)
 
   pub level-count : (x n : ℕ) → length (r .before x n .levels) ≡ length (emptyLink (linkAt t n) .levels)
   unfolding enter
