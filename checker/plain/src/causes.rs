@@ -14,7 +14,7 @@ codes! {
     TABLE_COLUMNS = 1, "a table line's columns are wrong";
     TABLE_RANGE = 2, "a number of a table line is out of range";
     TABLE_TURN = 3, "link or level out of turn";
-    TABLE_ENDS = 4, "a link's ends or speed don't fit";
+    TABLE_ENDS = 4, "a link's ends, speed or fixed delay don't fit";
     TABLE_SIZE = 5, "the table is too long";
     COLUMNS = 10, "columns wrong";
     RANGE = 11, "out of range";
@@ -24,7 +24,7 @@ codes! {
     APART = 15, "a link doesn't start where the one before ended";
     LOOP = 16, "a link met earlier on the path";
     FRAME = 17, "largest frame above burst";
-    DEADLINE = 20, "thresholds above the deadline";
+    DEADLINE = 20, "thresholds and fixed delays above the deadline";
     RATE = 21, "the link's rates would reach its speed";
     DELAY = 22, "delay above the threshold";
     BACKLOG = 23, "backlog above the buffer";

@@ -162,10 +162,20 @@ pub fn threshold_at(queues: &[Queue], hop: Hop) -> u64 {
     queue_at(queues, hop).map_or(0, |queue| queue.threshold)
 }
 
+pub fn fixed_delay_at(queues: &[Queue], hop: Hop) -> u64 {
+    queue_at(queues, hop).map_or(0, |queue| queue.fixed_delay)
+}
+
 /// The sum of the thresholds of these hops, µs.
 pub fn path_thresholds(queues: &[Queue], hops: &[Hop]) -> u128 {
     let threshold = |&hop: &Hop| u128::from(threshold_at(queues, hop));
     hops.iter().map(threshold).sum()
+}
+
+/// The sum of the fixed delays of these hops, µs.
+pub fn path_fixed_delays(queues: &[Queue], hops: &[Hop]) -> u128 {
+    let fixed_delay = |&hop: &Hop| u128::from(fixed_delay_at(queues, hop));
+    hops.iter().map(fixed_delay).sum()
 }
 
 /// What a flow adds at the hop with this index.

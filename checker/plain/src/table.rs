@@ -1,4 +1,4 @@
-//! Document 01's queue table: what a table text says, or the code and line of its first fault.
+//! Document 01's queue table, with W-201's fixed delay: what a table text says, or the code and line of its first fault.
 
 use crate::causes;
 use crate::columns::{lines, Field, Line};
@@ -9,6 +9,7 @@ pub const MOST_LINKS: u64 = 64;
 pub const MOST_LEVELS: u64 = 8;
 pub const MOST_THRESHOLD: u64 = 100_000;
 pub const MOST_BUFFER: u64 = 16_777_215;
+pub const MOST_FIXED_DELAY: u64 = 10_000;
 
 /// One line of the table.
 #[derive(Clone, Debug, Default, PartialEq)]
@@ -23,6 +24,8 @@ pub struct Queue {
     pub threshold: u64,
     /// Bytes.
     pub buffer: u64,
+    /// What the link's cable and switch take after the queue, µs.
+    pub fixed_delay: u64,
 }
 
 impl Queue {
@@ -66,7 +69,7 @@ macro_rules! entry {
 
 /// The fields of a table line, in their columns.
 #[rustfmt::skip]
-pub const ENTRIES: [Entry; 7] = [
+pub const ENTRIES: [Entry; 8] = [
     entry!(Of::Turn, link, "link", "", (1, 4), &[]),
     entry!(Of::Link, from, "from node", "", (5, 8), &[(1, 9_999)]),
     entry!(Of::Link, to, "to node", "", (9, 12), &[(1, 9_999)]),
@@ -74,10 +77,11 @@ pub const ENTRIES: [Entry; 7] = [
     entry!(Of::Turn, level, "level", "", (19, 20), &[]),
     entry!(Of::Queue, threshold, "threshold", "µs", (21, 27), &[(1, MOST_THRESHOLD)]),
     entry!(Of::Queue, buffer, "buffer", "bytes", (28, 36), &[(1, MOST_BUFFER)]),
+    entry!(Of::Link, fixed_delay, "fixed delay", "µs", (37, 43), &[(0, MOST_FIXED_DELAY)]),
 ];
 
 /// The lengths that a table line may have, shortest first; a field past its end is 0.
-pub const LENGTHS: [usize; 1] = [36];
+pub const LENGTHS: [usize; 2] = [36, 43];
 
 const LONGEST: usize = LENGTHS[LENGTHS.len() - 1];
 
@@ -250,10 +254,20 @@ fn end_faults(queue: &Queue, before: Option<&Queue>) -> Vec<Fault> {
     faults
 }
 
-/// A queue as its table line.
+/// A queue as its table line, in the shortest of the lengths that gives all its numbers.
 pub fn write_queue(queue: &Queue) -> Vec<u8> {
+    let zero_past = |length: usize| {
+        let mut past = ENTRIES.iter().filter(|entry| entry.field.last > length);
+        past.all(|entry| (entry.get)(queue) == 0)
+    };
+    let shortest = LENGTHS.into_iter().find(|&length| zero_past(length));
+    write_queue_in(queue, shortest.unwrap_or(LONGEST))
+}
+
+/// A queue's fields in a table line of this length.
+pub fn write_queue_in(queue: &Queue, length: usize) -> Vec<u8> {
     let mut line = Vec::new();
-    for entry in &ENTRIES {
+    for entry in ENTRIES.iter().filter(|entry| entry.field.last <= length) {
         entry.field.put(&mut line, (entry.get)(queue));
     }
     line.push(b'\n');

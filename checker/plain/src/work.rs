@@ -3,8 +3,8 @@
 use crate::causes;
 use crate::formula::{rate_limit, rate_sum, Aggregate, Sums};
 use crate::orders::{Flow, Hop};
-use crate::registry::{path_thresholds, queue_at, share_at, threshold_at, Answer, Registry};
-use crate::registry::{HOP_POOL, SLOTS};
+use crate::registry::{fixed_delay_at, path_thresholds, queue_at, share_at, threshold_at};
+use crate::registry::{Answer, Registry, HOP_POOL, SLOTS};
 use crate::slips::Slips;
 use crate::table::Queue;
 
@@ -40,6 +40,7 @@ pub struct LinkWork {
 pub struct HopWork {
     pub hop: Hop,
     pub threshold: u64,
+    pub fixed_delay: u64,
     /// S: the thresholds of the earlier hops, summed.
     pub earlier: u128,
     pub share: Aggregate,
@@ -62,6 +63,17 @@ impl Work {
     /// The thresholds along the path, summed.
     pub fn thresholds(&self) -> u128 {
         self.hops.iter().map(|hop| u128::from(hop.threshold)).sum()
+    }
+
+    /// The fixed delays along the path, summed.
+    pub fn fixed_delays(&self) -> u128 {
+        let delays = self.hops.iter().map(|hop| u128::from(hop.fixed_delay));
+        delays.sum()
+    }
+
+    /// What is held against the deadline.
+    pub fn end_to_end(&self) -> u128 {
+        self.thresholds() + self.fixed_delays()
     }
 
     /// The queue that decides, with its bounds: the failing one for 22 and 23, for an admission the flow's own at the last
@@ -141,11 +153,12 @@ impl LinkWork {
     }
 }
 
-/// What a flow adds at each hop of its path; at a hop without a queue a threshold of 0 counts.
+/// What a flow adds at each hop of its path; at a hop without a queue its numbers count as 0.
 pub fn hops_work(queues: &[Queue], flow: &Flow, slips: &Slips) -> Vec<HopWork> {
     let hop = |(index, &hop): (usize, &Hop)| HopWork {
         hop,
         threshold: threshold_at(queues, hop),
+        fixed_delay: fixed_delay_at(queues, hop),
         earlier: path_thresholds(queues, &flow.hops[..index]),
         share: share_at(queues, flow, index, slips),
     };
@@ -193,7 +206,7 @@ impl Registry {
             }
             causes::DEADLINE => {
                 work.hops = hops_work(&self.queues, flow, &self.slips);
-                work.thresholds() > u128::from(flow.deadline)
+                work.end_to_end() > u128::from(flow.deadline)
             }
             causes::NO_SLOT => work.held.0 == SLOTS,
             causes::NO_HOPS => work.held.1 + flow.hops.len() > HOP_POOL,

@@ -22,6 +22,7 @@ fn row(links: u64, levels: &[(u64, u64)]) -> Vec<Queue> {
                 level: index as u64 + 1,
                 threshold,
                 buffer,
+                fixed_delay: 0,
             });
         }
     }
@@ -84,6 +85,48 @@ fn bursts_along_a_path() {
         ..Slips::NONE
     };
     assert_eq!(bursts(each), [1_542, 1_589, 1_636]);
+}
+
+/// The deadline holds thresholds and fixed delays, the last hop's too; a microsecond more of cable is too much.
+#[test]
+fn fixed_delays_count_against_the_deadline() {
+    let mut queues = row(3, &[(371, 5_000)]);
+    for (queue, fixed_delay) in queues.iter_mut().zip([0, 5, 10_000]) {
+        queue.fixed_delay = fixed_delay;
+    }
+    let new = Flow {
+        deadline: 3 * 371 + 10_005,
+        ..flow(7, 3, 1)
+    };
+    let met = Registry::over(queues.clone()).judge(&new);
+    assert_eq!(met.refused, None);
+    let sums = (met.thresholds(), met.fixed_delays(), met.end_to_end());
+    assert_eq!(sums, (1_113, 10_005, 11_118));
+    let delays: Vec<u64> = met.hops.iter().map(|hop| hop.fixed_delay).collect();
+    assert_eq!(delays, [0, 5, 10_000]);
+    for link in 0..3 {
+        let mut longer = queues.clone();
+        longer[link].fixed_delay += 1;
+        let missed = Registry::over(longer).judge(&new).refused;
+        assert_eq!(missed.map(|answer| answer.code), Some(20));
+    }
+}
+
+#[test]
+fn bursts_do_not_grow_on_a_cable() {
+    let mut queues = row(3, &[(371, 5_000)]);
+    for queue in &mut queues {
+        queue.fixed_delay = 10_000;
+    }
+    let new = Flow {
+        deadline: 100_000,
+        ..flow(7, 3, 1)
+    };
+    let work = Registry::over(queues).judge(&new);
+    let bursts: Vec<u128> = work.hops.iter().map(|hop| hop.share.burst).collect();
+    assert_eq!(bursts, [1_542, 1_589, 1_635]);
+    let earlier: Vec<u128> = work.hops.iter().map(|hop| hop.earlier).collect();
+    assert_eq!(earlier, [0, 371, 742]);
 }
 
 #[test]
