@@ -17,7 +17,8 @@ use Rattle.model.specs.QueueTable.{Table}
 use Rattle.model.specs.Orders.{Flow}
 use Rattle.model.specs.Aggregates as model
 use Rattle.model.specs.Schedulable.{Named}
-use Rattle.model.specs.Reference.{Cause, causeAt, linkFindings, firstCause, thresholdSum}
+use Rattle.model.specs.Reference.{Cause, causeAt, linkFindings, firstCause}
+use Rattle.model.specs.Laws.Aggregates.{growthSum}
 use Rattle.model.specs.Laws.All.{all-imp, map-all, all-getD}
 use Rattle.model.specs.Laws.Figures.{Crossed, crossed}
 use Rattle.queue_table.specs.View.{linkIn, levelIn, queueAt, tableOf, hopAt, isQueue, AllQueues, WellFormed}
@@ -34,7 +35,7 @@ use Rattle.figures.proofs.LinkLaws.{hop-cause}
 pub record Checking (share : Aggregate) (table sums entries : List ℕ) (sum i : ℕ) : Type 0 where
   pub within : i ≤ length entries
   pub sum-below : sum ≤ i * 100000
-  pub sum-is : OnTable table entries → sum ≡ thresholdSum (tableOf table) (map hopAt (take i entries))
+  pub sum-is : OnTable table entries → sum ≡ growthSum (tableOf table) (map hopAt (take i entries))
   pub left : (fs : List Flow) (f : Flow) → WellFormed table → OnTable table entries → FlowOf share entries f
       → Figures (tableOf table) fs sums
       → All (λ g. All (Named (tableOf table)) (g .path)) fs
@@ -61,7 +62,7 @@ module _ (share : Aggregate) (table sums entries : List ℕ) where
   t = tableOf table
 
   pub checking-none : Checking share table sums entries 0 0
-  unfolding thresholdSum total
+  unfolding growthSum total
   checking-none = record { within = omega arith; sum-below = omega arith; sum-is = λ path. refl; left = λ fs f well path is figures on. refl }
 
   module _ {sum i : ℕ} (so-far : Checking share table sums entries sum i) where
@@ -109,8 +110,8 @@ module _ (share : Aggregate) (table sums entries : List ℕ) where
                 sym (first-fault (findingOf r) (linkFindings t (f ∷ fs) (drop (i + 1) (f .path))) fault) ∙ step fs f well path is figures on;
           }
 
-      sum-next : OnTable table entries → sum + growthAt table e ≡ thresholdSum t (map hopAt (take (i + 1) entries))
-      unfolding thresholdSum total
+      sum-next : OnTable table entries → sum + growthAt table e ≡ growthSum t (map hopAt (take (i + 1) entries))
+      unfolding growthSum total
       sum-next path =
           let taken : map hopAt (take (i + 1) entries) ≡ map hopAt (take i entries) ++ (hopAt e ∷ [])
           = ap (λ k. map hopAt (take k entries)) (add-one i) ∙ ap (map hopAt) (take-suc entries i 0 more) ∙ map-append hopAt (take i entries) (e ∷ []) in

@@ -19,7 +19,8 @@ use Rattle.model.specs.Aggregates as model
 use Rattle.model.specs.WithFlow.{noFlow, together}
 use Rattle.model.specs.LinkCheck.{Finding, linkFinding}
 use Rattle.model.specs.Schedulable.{Named, LinkMeets}
-use Rattle.model.specs.Reference.{linkCause, causeAt, thresholdSum}
+use Rattle.model.specs.Reference.{linkCause, causeAt}
+use Rattle.model.specs.Laws.Aggregates.{growthSum}
 use Rattle.model.specs.Laws.LinkSteps.{padding}
 use Rattle.model.specs.Laws.Figures.{Crossed, counted, levels-more, levels-append, levels-length, levels-empty, aggregate-unnamed}
 use Rattle.queue_table.specs.View.{upTo, entryAt, linkIn, levelIn, linkCount, speedAt, levelsAt, queueAt, linkAt, tableOf, hopAt, isQueue, WellFormed}
@@ -87,7 +88,7 @@ module _ (table : List ℕ) where
       i = linkIn e
 
       abbrev there : Aggregate
-      there = model.grown (model.source f) (thresholdSum t before)
+      there = model.grown (model.source f) (growthSum t before)
 
       hop-levels : model.levelAggregates t (f ∷ fs) (i + 1) 1 (upTo levelsMost (queueAt table i)) ≡ levelsWith sums e there
       unfolding levelsWith counted hopAt

@@ -25,7 +25,7 @@ unfoldable pub entryFindings : Table → (deadline : ℕ) → List model.Hop →
 entryFindings t deadline path =
     model-causes.atHop 16 model-causes.metEarlier [] path
     ∷ model-causes.atHop 15 (model-causes.startsElsewhere t) [] path
-    ∷ model-causes.whole 20 (ltb deadline (model-causes.thresholdSum t path))
+    ∷ model-causes.whole 20 (ltb deadline (model-causes.pathDelay t path))
     ∷ []
 
 -- 14, 16, 15 and 20 of a path.

@@ -48,7 +48,7 @@ fn judge_entries(deadline: Micros, table: &[u32], entries: &[u32]) -> Finding
         let hop = queue_table::hop_at(entries[apart]);
         return Finding::Against(Cause::StartsElsewhere(hop.link, hop.level));
     }
-    let sum = path_check::threshold_sum(table, entries);
+    let sum = path_check::path_delay(table, entries);
     if deadline.0 < sum.0 {
         return Finding::Against(Cause::OverDeadline);
     }

@@ -17,10 +17,11 @@ use Rattle.model.specs.Laws.All.{all-getD}
 use Rattle.model.specs.Aggregates as model
 use Rattle.model.specs.Reference.{atHop, start, end, noQueue, crosses, startsElsewhere, pathDelay}
 use Rattle.model.specs.Laws.Test.{both-and, every-all}
-use Rattle.queue_table.specs.View.{tableOf, linkCount, fromAt, toAt, levelsAt, thresholdAt, linkAt, entryAt, linkIn, levelIn, hopAt, isQueue, AllQueues}
+use Rattle.queue_table.specs.View.{tableOf, linkCount, fromAt, toAt, levelsAt, linkAt, entryAt, linkIn, levelIn, hopAt, isQueue, AllQueues}
+use Rattle.path_check.specs.View.{delayAt}
 use Rattle.queue_table.proofs.LookupLaws.{link-found, queue-found, queue-no-link, queue-no-level, queue-link-zero, queue-level-zero}
 use Rattle.queue_table.proofs.ViewLaws.{same-test}
-use Rattle.queue_table.proofs.EntryLaws.{queue-within, queue-low, threshold-named}
+use Rattle.queue_table.proofs.EntryLaws.{queue-within, queue-low, threshold-named, fixed-named}
 
 -- Link i + 1 is crossed, one entry at a time.
 pub crosses-entry : (i e : ℕ) (path : List Hop) → crosses (i + 1) (hopAt e ∷ path) ≡ (eqb (linkIn e) i || crosses (i + 1) path)
@@ -97,11 +98,8 @@ module _ (table : List ℕ) where
   unfolding startsElsewhere hopAt start end linkAt
   starts-elsewhere earlier before here p q = rw (link-found table (linkIn here) (queue-within table here q .0), link-found table (linkIn before) (queue-within table before p .0))
 
-  -- An entry's part of the sum held against the deadline, and that sum.
-  abbrev pub delayAt : (entry : ℕ) → ℕ
-  delayAt e = thresholdAt table e + fixedDelayAt table (linkIn e)
-
-  pub delay-entries : (entries : List ℕ) → AllQueues table entries → pathDelay (tableOf table) (map hopAt entries) ≡ total delayAt entries
+  -- The sum held against the deadline, entry by entry.
+  pub delay-entries : (entries : List ℕ) → AllQueues table entries → pathDelay (tableOf table) (map hopAt entries) ≡ total (delayAt table) entries
   unfolding pathDelay total
   delay-entries [] a = refl
   delay-entries (e ∷ entries) a =

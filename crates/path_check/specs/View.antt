@@ -1,5 +1,5 @@
 -- What the answers of this crate say in the terms of the model.
-use Prim.Native.Nat.{ℕ, zero, suc, _≤_}
+use Prim.Native.Nat.{ℕ, zero, suc, _+_, _≤_}
 use mathlib.Core.Path.{_≡_}
 use mathlib.Core.Bool.{true}
 use mathlib.Core.List.{List, [], _∷_, map, reverse}
@@ -9,10 +9,14 @@ use Rattle.model.specs.Orders.{Hop}
 use Rattle.model.specs.Aggregates.{queueAt}
 use Rattle.model.specs.Reference.{Cause, atHop, noQueue}
 use Rattle.orders.specs.View.{linePath}
-use Rattle.queue_table.specs.View.{tableOf, hopAt, isQueue, AllQueues}
+use Rattle.queue_table.specs.View.{thresholdAt, fixedDelayAt, linkIn, tableOf, hopAt, isQueue, AllQueues}
 use Rattle.path_check.specs.declared.Located.{Located}
 use Rattle.path_check.specs.declared.Entry.{Entry}
 use Rattle.path_check.specs.declared.Entry.the-variants.{At, Missing}
+
+-- An entry's part of the sum held against the deadline: the threshold of its queue and the fixed delay of its link.
+abbrev pub delayAt : (table : List ℕ) (entry : ℕ) → ℕ
+delayAt table entry = thresholdAt table entry + fixedDelayAt table (linkIn entry)
 
 -- The cause with this code at hop i of a path, counted from 0; none past its end. Of hops with the same link and level any may stand for the first.
 unfoldable pub hopCause : (code : ℕ) (path : List Hop) (i : ℕ) → Option Cause

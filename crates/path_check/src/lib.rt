@@ -1,18 +1,18 @@
 // What a path must meet by itself (document 01, "Who can cause which refusal"): 14, 16, 15 at their first hop, and the
-// sum of thresholds that 20 asks for.
+// sum of thresholds and fixed delays that 20 asks for.
 //
 // A path's entries name its queues, one number each (`queue_table::entry_at`). A search answers the index of the hop that
 // it finds, the path's length where it finds none; of hops with the same link and level it may answer any.
 ghost use mathlib.Core.Path.{_≡_};
 ghost use mathlib.Core.List.{[], map};
-ghost use Prim.Native.Nat.{_≤_, _<_};
+ghost use Prim.Native.Nat.{_≤_, _<_, _^_};
 ghost use lib.ListN.{length, getD};
 ghost use Rattle.model.specs.Words.{isNone};
-ghost use Rattle.model.specs.Sizes.{hopsMost};
+ghost use Rattle.model.specs.Sizes.{queuesMost, hopsMost};
 ghost use Rattle.model.specs.Reference.{atHop, noQueue, metEarlier, startsElsewhere, pathDelay};
-ghost use Rattle.queue_table.specs.View.{tableOf, hopAt, AllQueues, WellFormed};
+ghost use Rattle.queue_table.specs.View.{tableNumbers, tableOf, hopAt, AllQueues, WellFormed};
 ghost use Rattle.orders.specs.View.{hopNumbers};
-ghost use Rattle.path_check.specs.View.{hopCause, earlierThan, EntryOf, PathLocated};
+ghost use Rattle.path_check.specs.View.{delayAt, hopCause, earlierThan, EntryOf, PathLocated};
 use orders::MOST_HOPS;
 use units::Micros;
 
@@ -149,7 +149,17 @@ pub fn broken(table: &[u32], entries: &[u32]) -> usize
     i
 }
 
-// The sum of the thresholds and fixed delays along a path. They are 32 bits each, and MOST_HOPS pairs of them fit.
+// A hop's part of the sum held against the deadline: the threshold of its queue and the fixed delay of its link, of 32 bits each.
+fn hop_delay(entry: usize, table: &[u32]) -> Micros
+    requires { ⌜ (entry < queuesMost) × (length (now table) ≡ tableNumbers) ⌝ }
+    ensures { λ r. ⌜ (r .0 ≡ delayAt (now (table .entry)) entry) × (r .0 < 2 ^ 33) ⌝ }
+{
+    let queue = queue_table::queue_at(entry, table);
+    let link = queue_table::link_at(queue_table::link_of(entry), table);
+    Micros(queue.threshold.0 + link.fixed.0)
+}
+
+// The sum of the thresholds and fixed delays along a path; MOST_HOPS of them fit.
 pub fn path_delay(table: &[u32], entries: &[u32]) -> Micros
     requires { ⌜ WellFormed (now table) × AllQueues (now table) (now entries) × (length (now entries) ≤ hopsMost) ⌝ }
     ensures { λ r. ⌜ r .0 ≡ pathDelay (tableOf (now (table .entry))) (map hopAt (now (entries .entry))) ⌝ }
@@ -157,10 +167,8 @@ pub fn path_delay(table: &[u32], entries: &[u32]) -> Micros
     let mut sum: u64 = 0;
     let mut i = 0;
     while i < entries.len() {
-        let entry = entries[i] as usize;
-        let here = queue_table::queue_at(entry, table);
-        let link = queue_table::link_at(queue_table::link_of(entry), table);
-        sum += here.threshold.0 + link.fixed.0;
+        let here = hop_delay(entries[i] as usize, table);
+        sum += here.0;
         i += 1;
     }
     Micros(sum)

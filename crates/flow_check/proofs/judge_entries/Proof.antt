@@ -33,11 +33,11 @@ returns-2 c =
 
 returns-3 : tie.Need-returns-3
 unfolding firstCause entryFindings whole
-returns-3 c = sym (simp (once (c .before .before .before .before .before .before), joined (c .before .before .before .before), sym (c .before .before .before .threshold-sum .ensures), lt-ltb _ _ (c .if3 .taken)))
+returns-3 c = sym (simp (once (c .before .before .before .before .before .before), joined (c .before .before .before .before), sym (c .before .before .before .path-delay .ensures), lt-ltb _ _ (c .if3 .taken)))
 
 returns-4 : tie.Need-returns-4
 unfolding firstCause entryFindings whole
-returns-4 c = sym (simp (once (c .before .before .before .before .before .before), joined (c .before .before .before .before), sym (c .before .before .before .threshold-sum .ensures), le-ltb _ _ (c .if3 .left)))
+returns-4 c = sym (simp (once (c .before .before .before .before .before .before), joined (c .before .before .before .before), sym (c .before .before .before .path-delay .ensures), le-ltb _ _ (c .if3 .left)))
 
 pub judge-entries-spec : {M : Type 1} → statement M
 judge-entries-spec = tie.close (tie.spec (λ c κs. search needs) (λ c. search needs) (λ c. search needs) (λ c κs. search needs) returns (λ c κs. search needs) (λ c. search needs) (λ c. search needs) (λ c κs. search needs) returns-2 (λ c κs. search needs) returns-3 returns-4)
