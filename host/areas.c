@@ -145,10 +145,14 @@ static void refused_tables(void)
     check("range", TEXT("   1   1   2   100 1      0     2000\n"), orders, 80, DEVVONUR_TABLE_RANGE, 1, none);
     check("turn", TEXT(FIRST "   3   2   3   100 1    370     2000\n"), orders, 80, DEVVONUR_TABLE_TURN, 2, none);
     check("link", TEXT(FIRST "   1   1   3   100 2    370     2000\n"), orders, 80, DEVVONUR_TABLE_LINK, 2, none);
+    check("a fixed delay out of range", TEXT("   1   1   2   100 1    370     2000  10001\n"), orders, 80,
+          DEVVONUR_TABLE_RANGE, 1, none);
+    check("fixed delays differ", TEXT(FIRST "   1   1   2   100 2    374     2000      1\n"), orders, 80,
+          DEVVONUR_TABLE_LINK, 2, none);
     struct text longest = filled('\n', DEVVONUR_MOST_TABLE_BYTES);
     struct text longer = filled('\n', DEVVONUR_MOST_TABLE_BYTES + 1);
-    check("18,944 bytes", longest, orders, 80, DEVVONUR_TABLE_COLUMNS, 1, none);
-    check("18,945 bytes", longer, orders, 80, DEVVONUR_TABLE_LONG, 0, none);
+    check("22,528 bytes", longest, orders, 80, DEVVONUR_TABLE_COLUMNS, 1, none);
+    check("22,529 bytes", longer, orders, 80, DEVVONUR_TABLE_LONG, 0, none);
     free((void *)longest.bytes);
     free((void *)longer.bytes);
 }

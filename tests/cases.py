@@ -7,16 +7,18 @@ import sys
 from pathlib import Path
 
 
-def row(link, frm, to, speed, level, threshold, buffer):
-    return f"{link:4}{frm:4}{to:4}{speed:6}{level:2}{threshold:7}{buffer:9}\n"
+def row(link, frm, to, speed, level, threshold, buffer, fixed=None):
+    """A table line; without a fixed delay it has 36 columns, with one 43."""
+    return f"{link:4}{frm:4}{to:4}{speed:6}{level:2}{threshold:7}{buffer:9}" + ("" if fixed is None else f"{fixed:7}") + "\n"
 
 
-def full(links, levels):
-    return "".join(row(l, l, l + 1, 100, p, 370, 2000) for l in range(1, links + 1) for p in range(1, levels + 1))
+def full(links, levels, fixed=None):
+    return "".join(row(l, l, l + 1, 100, p, 370, 2000, fixed) for l in range(1, links + 1) for p in range(1, levels + 1))
 
 
 one = row(1, 1, 2, 100, 1, 370, 2000)
 two = one + row(1, 1, 2, 100, 2, 374, 2000)
+cabled = row(1, 1, 2, 100, 1, 370, 2000, 5)
 
 # (text, code, line, links, queues)
 tables = [
@@ -28,7 +30,10 @@ tables = [
     (two.replace("\n", "\r\n"), 1, 1, 0, 0),                     # CR LF
     (two[:40] + "\0" + two[41:], 1, 2, 0, 0),                    # a NUL byte
     (full(64, 8), 0, 0, 64, 512),                                # 64 links of 8 levels: 18,944 bytes
-    (full(64, 8) + "x", 5, 0, 0, 0),                             # 18,945 bytes
+    (full(64, 8) + "x", 1, 513, 0, 0),                           # a line more of them, and it isn't ended
+    (full(64, 8) + row(65, 65, 66, 100, 1, 370, 2000), 3, 513, 0, 0),
+    (full(64, 8, 10000), 0, 0, 64, 512),                         # the same with fixed delays: 22,528 bytes
+    (full(64, 8, 10000) + "x", 5, 0, 0, 0),                      # 22,529 bytes
     (full(64, 7) + row(65, 65, 66, 100, 1, 370, 2000), 3, 449, 0, 0),   # link 65
     (full(1, 8) + row(1, 1, 2, 100, 9, 370, 2000), 3, 9, 0, 0),  # level 9
     (row(2, 1, 2, 100, 1, 370, 2000), 3, 1, 0, 0),               # the first line is link 1 level 1
@@ -55,6 +60,24 @@ tables = [
     (two + "\n", 1, 3, 0, 0),
     (row(2, 5, 5, 0, 3, 370, 2000), 2, 1, 0, 0),                 # 2 before 3 and 4
     (row(2, 5, 5, 1, 3, 370, 2000), 3, 1, 0, 0),                 # 3 before 4
+    (cabled, 0, 0, 1, 1),                                        # fixed delays
+    (row(1, 1, 2, 100, 1, 370, 2000, 0), 0, 0, 1, 1),
+    (row(1, 1, 2, 100, 1, 370, 2000, 10001), 2, 1, 0, 0),
+    (row(1, 1, 2, 100, 1, 370, 2000, "05"), 1, 1, 0, 0),         # a leading zero
+    (row(1, 1, 2, 100, 1, 370, 2000, ""), 1, 1, 0, 0),           # no number
+    (row(1, 1, 2, 100, 1, 370, 2000, "5 "), 1, 1, 0, 0),         # not right-justified
+    (one[:-1] + "     5\n", 1, 1, 0, 0),                         # 42 columns
+    (one[:-1] + "       5\n", 1, 1, 0, 0),                       # 44 columns
+    (cabled[:-1] + "    0\n", 1, 1, 0, 0),                       # 48 columns
+    (cabled + row(1, 1, 2, 100, 2, 374, 2000, 5), 0, 0, 1, 2),
+    (one + row(1, 1, 2, 100, 2, 374, 2000, 0), 0, 0, 1, 2),      # lines of a link may differ in length
+    (row(1, 1, 2, 100, 1, 370, 2000, 0) + two[len(one):], 0, 0, 1, 2),
+    (cabled + row(1, 1, 2, 100, 2, 374, 2000, 6), 4, 2, 0, 0),   # what must agree is the value
+    (cabled + two[len(one):], 4, 2, 0, 0),
+    (one + row(1, 1, 2, 100, 2, 374, 2000, 1), 4, 2, 0, 0),
+    (cabled + row(2, 2, 1, 100, 1, 370, 2000), 0, 0, 2, 2),      # another link has its own
+    (cabled + row(1, 1, 2, 100, 2, 374, 2000, 10001), 2, 2, 0, 0),   # 2 before 4
+    (cabled + row(1, 1, 2, 100, 3, 374, 2000, 6), 3, 2, 0, 0),   # 3 before 4
 ]
 
 
@@ -129,7 +152,7 @@ def said(code, slot=0, link=0, level=0):
 
 # The registry's arrays, and where a number stands in them, links, queues and slots counted from 0.
 TABLE, SLOTS, POOL, SUMS = range(4)
-LINK_NUMBERS, QUEUE_NUMBERS, SLOT_COUNT = 4, 2, 256
+LINK_NUMBERS, QUEUE_NUMBERS, SLOT_COUNT = 5, 2, 256
 COUNT = 64 * LINK_NUMBERS + 512 * QUEUE_NUMBERS
 
 
@@ -139,7 +162,7 @@ def put(array, index, n):
 
 
 def link(i, k):
-    """Link i: from node (k = 0), to node, speed, number of levels (k = 3)."""
+    """Link i: from node (k = 0), to node, speed, number of levels, fixed delay (k = 4)."""
     return LINK_NUMBERS * i + k
 
 
@@ -200,9 +223,9 @@ def hop(k, burst):
         (SUMS, 24 * k - 24 + i, n, 0) for i, n in enumerate([1, burst, 1542])]
 
 
-def three(buffer):
-    """Three links one after the other, the last with this buffer."""
-    return "".join(row(l, l, l + 1, 100, 1, 371, b) for l, b in [(1, 2000), (2, 2000), (3, buffer)])
+def three(buffer, fixed=0):
+    """Three links one after the other, the last with this buffer; their fixed delays sum to `fixed`, most of it the last one's."""
+    return "".join(row(l, l, l + 1, 100, 1, 371, b, d) for l, b, d in [(1, 2000, None), (2, 2000, fixed // 3), (3, buffer, fixed - fixed // 3)])
 
 
 through = reg(deadline=1113, hops=3, path=[(1, 1), (2, 1), (3, 1)])
@@ -252,6 +275,12 @@ registries = [
     ]),
     (three(1651), [(through, said(0, 1))]),                      # 1,635 after two thresholds of 371, and 16 (15.42)
     (three(1650), [(through, said(23, 0, 3, 1))]),
+    (three(1651, 12000), [                                       # 1,113 of thresholds and 12,000 of cables; the bursts are as before
+        (reg(deadline=13112, hops=3, path=[(1, 1), (2, 1), (3, 1)]), said(20)),
+        (reg(deadline=13113, hops=3, path=[(1, 1), (2, 1), (3, 1)]), said(0, 1)),
+        *damaged((TABLE, link(2, 4), 8001, 8000)),               # one µs more of cable at the last hop
+        put(TABLE, link(2, 4), 7999), (reg(), said(12)),         # one less: nothing wrong
+    ]),
     (one[:-1], [(reg(), said(14, 0, 1, 1))]),                    # a refused table: no queues
     (chains(5), [(on(k, k % 5, 12), said(0, k)) for k in range(1, 86)] + [       # 1,020 hop entries
         (on(100, 0, 5), said(31)),
@@ -304,6 +333,7 @@ registries = [
         + [(gone(7), said(0, 1)), (gone(7), said(13))]),
     (chain(1, 100000), [(along(k, 1), said(0, k)) for k in range(1, 257)] + [(along(257, 1), said(30))]),
     (chain(13, 11000), [(reg(rate=1, deadline=143000, hops=11, path=[(l, 1) for l in range(1, 12)]), said(0, 1))]
+        + [put(TABLE, link(0, 4), 10000), (reg(), said(12))] + damaged((TABLE, link(0, 4), 10001, 0))    # fixed delay out of range
         + [put(*change[:3]) for change in hop(12, 1558)] + [(reg(), said(12))]   # a twelfth hop: nothing wrong
         + damaged(*hop(13, 1559))),                              # a thirteenth, all else right
     (exact, both
