@@ -1,36 +1,45 @@
 //! Inputs of the comparison runs, by seed: whole batches with every code in reach; sources that keep to their bucket.
 
+pub mod faults;
+mod full;
 pub mod orders;
 pub mod rng;
 pub mod sources;
 pub mod tables;
 
-use orders::{flow, one_byte, order_lines, walk, Demand, Mix, LIKE_THE_SUMS, SMALL, WIDE};
-use plain::orders::{write_registration, Flow, Hop};
+use full::{full_hops, full_slots};
+use orders::{flow, one_byte, order_lines, Demand, Mix, LIKE_THE_SUMS, SMALL, WIDE};
+use plain::orders::{write_registration, Flow};
 use plain::programs::ANSWER_BYTES;
 use plain::registry::Registry;
-use plain::table::Queue;
+use plain::table::{write_queue, Queue, LENGTHS, MOST_TABLE_BYTES};
 use rng::Rng;
-use tables::{full_ring, loose, random_limits, table_text, Shape};
+use tables::{drawn_text, fixed_delays, full_ring, loose, random_limits, table_text, Shape};
 
 /// A batch's three areas; of the answer area only the length counts.
 pub struct Input {
     pub table: Vec<u8>,
     pub orders: Vec<u8>,
     pub area: usize,
-    /// How the texts were made, and what was done to them.
-    pub kinds: [&'static str; 2],
+    /// How the texts were made, how long the table's lines are, and what was done to them.
+    pub kinds: [&'static str; 3],
 }
 
 /// The kinds that every run must have met.
-pub const KINDS: [&str; 9] = [
+pub const KINDS: [&str; 15] = [
     "full slots",
     "full hops",
     "at the limits",
     "tight",
     "like the sums",
     "mixed",
+    "short lines",
+    "long lines",
+    "both lengths",
     "as made",
+    "odd length",
+    "delay above its range",
+    "delays differ",
     "one byte",
     "cut",
 ];
@@ -57,18 +66,38 @@ pub fn input(rng: &mut Rng, long: bool) -> Input {
             ("mixed", (queues, lines))
         }
     };
-    if rng.once_in(6) {
-        tables::line_faults(rng, &mut queues);
-    }
-    let mut table = table_text(&queues);
     let mut orders = lines.concat();
-    let done = damage(rng, &mut table, &mut orders);
+    let spoilt = spoil(rng, &mut queues);
+    let mut table = drawn_text(rng, &queues);
+    let lengths = line_lengths(&table);
+    let done = spoilt.unwrap_or_else(|| damage(rng, &mut table, &mut orders));
     let area = area(rng, &orders);
     Input {
         table,
         orders,
         area,
-        kinds: [made, done],
+        kinds: [made, lengths, done],
+    }
+}
+
+/// Now and then some faults in the table's numbers, or one of its fixed delays alone, which is told.
+fn spoil(rng: &mut Rng, queues: &mut Vec<Queue>) -> Option<&'static str> {
+    match rng.between(0, 23) {
+        0..=3 => faults::line_faults(rng, queues),
+        4 => return Some(faults::delay_fault(rng, queues)),
+        _ => {}
+    }
+    None
+}
+
+fn line_lengths(table: &[u8]) -> &'static str {
+    let lines = plain::columns::lines(table);
+    let of = |length| lines.iter().any(|line| line.bytes.len() == length);
+    let longest = LENGTHS[LENGTHS.len() - 1];
+    match (of(LENGTHS[0]), of(longest)) {
+        (true, true) => "both lengths",
+        (false, true) => "long lines",
+        _ => "short lines",
     }
 }
 
@@ -81,6 +110,7 @@ fn network(rng: &mut Rng) -> Vec<Queue> {
     if rng.once_in(2) {
         random_limits(rng, &mut queues);
     }
+    fixed_delays(rng, &mut queues);
     queues
 }
 
@@ -91,6 +121,7 @@ fn sums_network(rng: &mut Rng) -> Vec<Queue> {
         queue.threshold = rng.pick(&[246, 247, 370, 371, 374, 495, 1_000, 100_000]);
         queue.buffer = rng.pick(&[1_557, 1_558, 1_573, 1_574, 2_000, 3_200, 100_000]);
     }
+    fixed_delays(rng, &mut queues);
     queues
 }
 
@@ -103,87 +134,11 @@ fn mixed_lines(rng: &mut Rng, queues: &[Queue], demand: Demand, most: u64) -> Ve
     order_lines(rng, queues, demand, mix, count)
 }
 
-/// A registration over these hops with the greatest deadline.
-fn unhurried(
-    rng: &mut Rng,
-    queues: &[Queue],
-    demand: Demand,
-    number: u64,
-    hops: Vec<Hop>,
-) -> Vec<u8> {
-    write_registration(&Flow {
-        number,
-        hops,
-        deadline: 10_000_000,
-        ..flow(rng, queues, demand)
-    })
-}
-
-/// More flows than there are slots, and releases once they are full. Four hops each fill the hop
-/// pool as well.
-fn full_slots(rng: &mut Rng) -> (Vec<Queue>, Vec<Vec<u8>>) {
-    let queues = full_ring(10_000, tables::MOST_THRESHOLD, tables::MOST_BUFFER);
-    let hops = if rng.once_in(2) { 4 } else { rng.between(1, 3) };
-    let mut lines = Vec::new();
-    for number in 1..=rng.between(256, 300) {
-        let hops = walk(rng, &queues, hops as usize);
-        lines.push(unhurried(rng, &queues, SMALL, number, hops));
-    }
-    let reused = Demand {
-        numbers: 320,
-        ..rng.pick(&[SMALL, WIDE])
-    };
-    let mix = Mix {
-        releases: 4,
-        odd: 2,
-    };
-    lines.extend(order_lines(rng, &queues, reused, mix, 60));
-    (queues, lines)
-}
-
-/// Long paths until the hop pool is full, then releases and paths of every length.
-fn full_hops(rng: &mut Rng) -> (Vec<Queue>, Vec<Vec<u8>>) {
-    let links = rng.between(12, 16);
-    let queues = loose(rng, Shape::Chain, links, 2, &[10_000]);
-    let demand = Demand {
-        rates: &[1],
-        bursts: &[84, 90],
-        most_hops: 12,
-        numbers: 65_535,
-    };
-    let mut lines = Vec::new();
-    for number in 1..=rng.between(84, 88) {
-        let start = rng.between(1, links - 11);
-        let hops = chain_path(rng, &queues, start, 12);
-        lines.push(unhurried(rng, &queues, demand, number, hops));
-    }
-    let reused = Demand {
-        numbers: 100,
-        ..demand
-    };
-    let mix = Mix {
-        releases: 3,
-        odd: 1,
-    };
-    lines.extend(order_lines(rng, &queues, reused, mix, 40));
-    (queues, lines)
-}
-
-/// The path over so many links of a chain, at random levels.
-fn chain_path(rng: &mut Rng, queues: &[Queue], start: u64, count: u64) -> Vec<Hop> {
-    let mut hops = Vec::new();
-    for link in start..start + count {
-        let levels: Vec<&Queue> = queues.iter().filter(|queue| queue.link == link).collect();
-        let level = levels[rng.index(levels.len())].level;
-        hops.push(Hop { link, level });
-    }
-    hops
-}
-
 /// Limits that are the bounds of a set of flows or one below, and the same flows again.
 fn tight(rng: &mut Rng) -> (Vec<Queue>, Vec<Vec<u8>>) {
     let links = rng.between(1, 6);
     let mut queues = loose(rng, Shape::Mesh, links, 4, &[10, 100, 1_000]);
+    fixed_delays(rng, &mut queues);
     let mut registry = Registry::over(queues.clone());
     let count = rng.between(1, 25);
     for _ in 0..count {
@@ -201,14 +156,7 @@ fn tight(rng: &mut Rng) -> (Vec<Queue>, Vec<Vec<u8>>) {
     tables::tighten(&mut queues, &flows.iter().collect::<Vec<_>>());
     tables::tighten_deadlines(&queues, &mut flows);
     if rng.once_in(2) {
-        let index = rng.index(queues.len());
-        let queue = &mut queues[index];
-        let limit = if rng.once_in(2) {
-            &mut queue.threshold
-        } else {
-            &mut queue.buffer
-        };
-        *limit = (*limit - 1).max(1);
+        one_short(rng, &mut queues);
     }
     if let Some(last) = flows.last_mut() {
         last.deadline = (last.deadline - rng.between(0, 1)).max(1);
@@ -220,9 +168,24 @@ fn tight(rng: &mut Rng) -> (Vec<Queue>, Vec<Vec<u8>>) {
     (queues, lines)
 }
 
+/// One limit lower by one, or one link's fixed delay higher by one.
+fn one_short(rng: &mut Rng, queues: &mut [Queue]) {
+    let at = rng.index(queues.len());
+    let Queue { link, .. } = queues[at];
+    match rng.between(0, 2) {
+        0 => queues[at].threshold = (queues[at].threshold - 1).max(1),
+        1 => queues[at].buffer = (queues[at].buffer - 1).max(1),
+        _ => {
+            for queue in queues.iter_mut().filter(|queue| queue.link == link) {
+                queue.fixed_delay = (queue.fixed_delay + 1).min(tables::MOST_FIXED_DELAY);
+            }
+        }
+    }
+}
+
 /// Texts of just the longest length or one more, tables past 64 links or 8 levels.
 fn at_the_limits(rng: &mut Rng) -> Input {
-    let mut table = table_text(&full_ring(100, 1_000, 10_000));
+    let mut table = drawn_text(rng, &full_ring(100, 1_000, 10_000));
     let mut orders = Vec::new();
     match rng.between(0, 6) {
         0 => orders = vec![rng.pick(b"x1 "); 60_000 + rng.index(2)],
@@ -231,17 +194,21 @@ fn at_the_limits(rng: &mut Rng) -> Input {
             orders = vec![b'\n'; 1_999];
             orders.extend_from_slice(rng.pick(&[&b" 1"[..], b" 2     1\n", b"\n\n", b"\n "]));
         }
-        3 => table.extend_from_slice(rng.pick(&[&b""[..], b" ", b"\n", b"  65"])),
-        4 => table = vec![b' '; 18_944 + rng.index(2)],
-        5 => table = table_text(&tables::too_many(rng)),
+        3 => {
+            let past = write_queue(&faults::past_the_last());
+            table.extend_from_slice(rng.pick(&[&b""[..], b" ", b"\n", b"  65", &past]));
+        }
+        4 => table = vec![b' '; MOST_TABLE_BYTES + rng.index(2)],
+        5 => table = table_text(&faults::too_many(rng)),
         _ => table.clear(),
     }
+    let line_lengths = line_lengths(&table);
     let area = area(rng, &orders);
     Input {
         table,
         orders,
         area,
-        kinds: ["at the limits", "as made"],
+        kinds: ["at the limits", line_lengths, "as made"],
     }
 }
 
@@ -257,6 +224,10 @@ fn damage(rng: &mut Rng, table: &mut Vec<u8>, orders: &mut Vec<u8>) -> &'static 
         4 => {
             orders.truncate(rng.index(orders.len() + 1));
             return "cut";
+        }
+        5 => {
+            faults::odd_length(rng, table);
+            return "odd length";
         }
         _ => return "as made",
     }

@@ -1,6 +1,7 @@
 //! Order lines over a table: flows along real paths, single faults of every kind, releases.
 
 use crate::rng::Rng;
+use crate::tables::least_deadline;
 use plain::columns::put;
 use plain::orders::{write_registration, write_release, Flow, Hop};
 use plain::table::Queue;
@@ -80,12 +81,17 @@ pub fn flow(rng: &mut Rng, queues: &[Queue], demand: Demand) -> Flow {
         } else {
             burst.min(1_542)
         },
-        deadline: if rng.once_in(15) {
-            rng.between(1, 300_000)
-        } else {
-            10_000_000
-        },
+        deadline: deadline(rng, least_deadline(queues, &hops)),
         hops,
+    }
+}
+
+/// Mostly the greatest; else any, the least that passes, or one below it.
+fn deadline(rng: &mut Rng, least: u64) -> u64 {
+    match rng.between(0, 14) {
+        0 => rng.between(1, 300_000),
+        1 => least.saturating_sub(rng.between(0, 1)).max(1),
+        _ => 10_000_000,
     }
 }
 

@@ -1,15 +1,32 @@
-//! Queue tables: networks that have paths, limits from loose to tight, and faulty texts.
+//! Queue tables: networks that have paths, limits from loose to tight, fixed delays.
 
 use crate::rng::Rng;
 use plain::formula::{backlog, delay, Aggregate};
-use plain::orders::Flow;
-use plain::registry::{aggregate, path_thresholds};
-use plain::table::{write_queue, Queue};
+use plain::orders::{Flow, Hop};
+use plain::registry::{aggregate, path_fixed_delays, path_thresholds};
+use plain::table::{write_queue, write_queue_in, Queue, LENGTHS};
 
-pub use plain::table::{MOST_BUFFER, MOST_THRESHOLD};
+pub use plain::table::{MOST_BUFFER, MOST_FIXED_DELAY, MOST_THRESHOLD};
 
 pub fn table_text(queues: &[Queue]) -> Vec<u8> {
     queues.iter().flat_map(write_queue).collect()
+}
+
+/// The same table with its lines as short as their numbers allow, as long as a line may be, or either.
+pub fn drawn_text(rng: &mut Rng, queues: &[Queue]) -> Vec<u8> {
+    let form = rng.between(0, 2);
+    let mut text = Vec::new();
+    for queue in queues {
+        let least = write_queue(queue).len() - 1;
+        let lengths: Vec<usize> = LENGTHS.into_iter().filter(|&n| n >= least).collect();
+        let length = match form {
+            0 => least,
+            1 => lengths[lengths.len() - 1],
+            _ => rng.pick(&lengths),
+        };
+        text.extend(write_queue_in(queue, length));
+    }
+    text
 }
 
 /// How the nodes of a network hang together.
@@ -52,6 +69,7 @@ pub fn loose(rng: &mut Rng, shape: Shape, links: u64, levels: u64, speeds: &[u64
                 level,
                 threshold: MOST_THRESHOLD,
                 buffer: MOST_BUFFER,
+                fixed_delay: 0,
             });
         }
     }
@@ -72,6 +90,7 @@ pub fn full_ring(speed: u64, threshold: u64, buffer: u64) -> Vec<Queue> {
                 level,
                 threshold,
                 buffer,
+                fixed_delay: 0,
             });
         }
     }
@@ -102,6 +121,22 @@ pub fn random_limits(rng: &mut Rng, queues: &mut [Queue]) {
         } else {
             rng.pick(&buffers)
         };
+    }
+}
+
+/// Gives half of the links a fixed delay.
+pub fn fixed_delays(rng: &mut Rng, queues: &mut [Queue]) {
+    for link in queues.chunk_by_mut(|one, other| one.link == other.link) {
+        let fixed_delay = match rng.between(0, 7) {
+            0 => 1,
+            1 => MOST_FIXED_DELAY,
+            2 => rng.between(1, MOST_FIXED_DELAY),
+            3 => rng.between(1, 20),
+            _ => 0,
+        };
+        for queue in link {
+            queue.fixed_delay = fixed_delay;
+        }
     }
 }
 
@@ -142,60 +177,14 @@ pub fn tighten(queues: &mut [Queue], flows: &[&Flow]) {
     }
 }
 
-/// Sets each flow's deadline to the sum of its thresholds, which is the least that passes.
+/// The least deadline that these hops pass.
+pub fn least_deadline(queues: &[Queue], hops: &[Hop]) -> u64 {
+    (path_thresholds(queues, hops) + path_fixed_delays(queues, hops)) as u64
+}
+
+/// Sets each flow's deadline to the least that passes.
 pub fn tighten_deadlines(queues: &[Queue], flows: &mut [Flow]) {
     for flow in flows {
-        flow.deadline = path_thresholds(queues, &flow.hops) as u64;
+        flow.deadline = least_deadline(queues, &flow.hops);
     }
-}
-
-/// One line taken out, or some fields of one line set to values at or past a limit or out of turn.
-pub fn line_faults(rng: &mut Rng, queues: &mut Vec<Queue>) {
-    if queues.is_empty() {
-        return;
-    }
-    let index = rng.index(queues.len());
-    if rng.once_in(10) {
-        queues.remove(index);
-        return;
-    }
-    for _ in 0..rng.between(1, 3) {
-        one_fault(rng, &mut queues[index]);
-    }
-}
-
-fn one_fault(rng: &mut Rng, queue: &mut Queue) {
-    match rng.between(0, 9) {
-        0 => queue.from = rng.pick(&[0, 9_999]),
-        1 => queue.to = rng.pick(&[0, 9_999]),
-        2 => queue.speed = rng.pick(&[0, 10_000, 10_001, 999_999]),
-        3 => queue.threshold = rng.pick(&[0, 1, 100_000, 100_001, 9_999_999]),
-        4 => queue.buffer = rng.pick(&[0, 1, 16_777_215, 16_777_216, 999_999_999]),
-        5 => queue.link = rng.pick(&[0, 1, 63, 64, 65, 9_999]),
-        6 => queue.level = rng.pick(&[0, 1, 8, 9, 99]),
-        7 => queue.to = queue.from,
-        8 => queue.speed = queue.speed % 10_000 + 1,
-        _ => std::mem::swap(&mut queue.from, &mut queue.to),
-    }
-}
-
-/// More lines than a table may have: a 65th link or a ninth level.
-pub fn too_many(rng: &mut Rng) -> Vec<Queue> {
-    let mut queues = Vec::new();
-    let (links, levels) = rng.pick(&[(65, 1), (64, 1), (1, 9), (1, 8), (2, 9)]);
-    for link in 1..=links {
-        for level in 1..=levels {
-            let (threshold, buffer) = (MOST_THRESHOLD, MOST_BUFFER);
-            queues.push(Queue {
-                link,
-                from: 1,
-                to: 2,
-                speed: 100,
-                level,
-                threshold,
-                buffer,
-            });
-        }
-    }
-    queues
 }
