@@ -92,8 +92,13 @@ fn drawings(hall: &Hall, seen: &[Seen], verdict: &Verdict, recorder: &Recorder) 
     let mut html = format!(
         "<section id=\"stretch\" data-from=\"{from}\" data-to=\"{to}\">\n<h2>Instants {} to {}</h2>\n\
          <p>A lane for each level: a frame waits in the light shade of its flow and is sent in the dark one. The grey bar behind it is its threshold, \
-         the black line its end; the frame with a black edge comes closest. Below, the bytes in the queue; the dashed line is the buffer.</p>\n",
-        commas(from), commas(to)
+         the black line its end; the frame with a black edge comes closest. {}Below, the bytes in the queue; the dashed line is the buffer.</p>\n",
+        commas(from),
+        commas(to),
+        match hall.has_cables() {
+            true => "The dotted line after a frame is its time on the cable, in no queue. ",
+            false => "",
+        }
     );
     html += &legend(hall, recorder);
     html += "</section>\n";
@@ -105,11 +110,12 @@ fn drawings(hall: &Hall, seen: &[Seen], verdict: &Verdict, recorder: &Recorder) 
             continue;
         }
         html += &format!(
-            "<section>\n<h2>Link {}, node {} to {}, {} Mbit/s</h2>\n",
+            "<section>\n<h2>Link {}, node {} to {}, {} Mbit/s{}</h2>\n",
             first.link,
             first.from,
             first.to,
-            commas(first.speed)
+            commas(first.speed),
+            map::cable(first).map_or(String::new(), |words| format!(", {words}"))
         );
         html += &lanes::link(hall, seen, recorder, verdict.closest.as_ref(), &queues);
         html += "</section>\n";
