@@ -37,7 +37,7 @@ fn cases(folder: &Path) -> io::Result<Vec<PathBuf>> {
 
 fn is_replay(case: &Path) -> bool {
     let name = case.file_name().unwrap_or_default();
-    name.to_string_lossy().starts_with("replay")
+    name.to_string_lossy().contains("replay")
 }
 
 fn differing_line(one: &[u8], other: &[u8]) -> usize {

@@ -55,6 +55,7 @@ fn queue(link: u64, level: u64, threshold: u64, buffer: u64) -> Queue {
         level,
         threshold,
         buffer,
+        fixed_delay: 0,
     }
 }
 

@@ -124,8 +124,11 @@ pub fn random_limits(rng: &mut Rng, queues: &mut [Queue]) {
     }
 }
 
-/// Gives half of the links a fixed delay.
+/// Gives half of the links a fixed delay, or now and then none of them.
 pub fn fixed_delays(rng: &mut Rng, queues: &mut [Queue]) {
+    if rng.once_in(4) {
+        return;
+    }
     for link in queues.chunk_by_mut(|one, other| one.link == other.link) {
         let fixed_delay = match rng.between(0, 7) {
             0 => 1,

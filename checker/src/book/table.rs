@@ -5,8 +5,10 @@ use super::orders::Hop;
 use super::{LEVELS, LINKS, QUEUES};
 use crate::answer::Answer;
 
-const MOST_TABLE_BYTES: usize = 18_944;
-const TABLE_LINE: usize = 36;
+/// The columns of a line; a short one means a fixed delay of 0.
+const SHORT_LINE: usize = 36;
+const LONG_LINE: usize = 43;
+const MOST_TABLE_BYTES: usize = QUEUES * (LONG_LINE + 1);
 
 #[derive(Clone, Copy, PartialEq)]
 pub struct Link {
@@ -14,6 +16,8 @@ pub struct Link {
     pub to: u32,
     pub speed: u32,
     pub levels: u32,
+    /// µs.
+    pub fixed_delay: u32,
 }
 
 #[derive(Clone, Copy)]
@@ -38,9 +42,11 @@ struct Row {
 }
 
 fn read_row(line: &[u8]) -> Option<Row> {
-    if line.len() != TABLE_LINE {
-        return None;
-    }
+    let fixed_delay = match line.len() {
+        SHORT_LINE => 0,
+        LONG_LINE => field::<37, 43>(line)?,
+        _ => return None,
+    };
     Some(Row {
         number: field::<1, 4>(line)?,
         link: Link {
@@ -48,6 +54,7 @@ fn read_row(line: &[u8]) -> Option<Row> {
             to: field::<9, 12>(line)?,
             speed: field::<13, 18>(line)?,
             levels: field::<19, 20>(line)?,
+            fixed_delay,
         },
         queue: Queue {
             threshold: field::<21, 27>(line)?,
@@ -62,6 +69,7 @@ impl Link {
         (1..=9_999).contains(&self.from)
             && (1..=9_999).contains(&self.to)
             && (1..=10_000).contains(&self.speed)
+            && self.fixed_delay <= 10_000
     }
 }
 
@@ -80,6 +88,7 @@ impl Table {
             to: 0,
             speed: 0,
             levels: 0,
+            fixed_delay: 0,
         }; LINKS],
         queues: [Queue {
             threshold: 0,
@@ -121,7 +130,10 @@ impl Table {
             return Err(3);
         }
         let same = |newest: Link| {
-            (newest.from, newest.to, newest.speed) == (link.from, link.to, link.speed)
+            Link {
+                levels: link.levels,
+                ..newest
+            } == link
         };
         if link.from == link.to || !(begins || newest.is_some_and(same)) {
             return Err(4);
@@ -177,10 +189,11 @@ impl Table {
                 return against(15, entry);
             }
         }
-        let thresholds = path
-            .iter()
-            .map(|&entry| u64::from(self.queues[entry as usize].threshold));
-        if u64::from(deadline) < thresholds.sum() {
+        let hop = |&entry: &u32| {
+            let fixed_delay = self.links[link_of(entry)].fixed_delay;
+            u64::from(self.queues[entry as usize].threshold) + u64::from(fixed_delay)
+        };
+        if u64::from(deadline) < path.iter().map(hop).sum() {
             return Err(Answer::plain(20));
         }
         Ok(())

@@ -7,7 +7,10 @@ use crate::versions::versions;
 use direct::Counts;
 use halls::rng::Rng;
 use halls::{input, Input, KINDS};
+use plain::causes::{DEADLINE, DONE};
 use plain::columns::lines;
+use plain::orders::{read_order, Order};
+use plain::registry::{path_thresholds, Registry};
 use std::collections::BTreeMap;
 use std::fmt::Display;
 
@@ -27,6 +30,8 @@ pub struct Report {
     pub kinds: BTreeMap<&'static str, u64>,
     /// Releases that were done.
     pub released: u64,
+    /// Registrations answered 20 whose thresholds alone meet the deadline.
+    pub by_fixed_delay: u64,
 }
 
 impl Report {
@@ -48,6 +53,9 @@ impl Report {
         if self.released == 0 {
             missing.push("releases");
         }
+        if self.by_fixed_delay == 0 {
+            missing.push("20 by a fixed delay");
+        }
         missing
     }
 
@@ -60,6 +68,7 @@ impl Report {
         );
         print_counts("inputs", &self.kinds);
         println!("releases done: {}", self.released);
+        println!("20 by a fixed delay: {}", self.by_fixed_delay);
         print_counts("refused batches", &self.refused);
         print_counts("answer lines", &self.answers);
         print_counts("direct calls", &self.calls);
@@ -83,6 +92,7 @@ pub fn run(seed: u64, count: u64, long: bool) -> Result<Report, String> {
         batches: 0,
         kinds: BTreeMap::new(),
         released: 0,
+        by_fixed_delay: 0,
     };
     for index in 0..count {
         let mut rng = Rng::new(seed, index);
@@ -126,12 +136,25 @@ fn one_batch(given: &Input, report: &mut Report) -> Result<(), String> {
         *report.refused.entry(code).or_default() += 1;
         return Ok(());
     }
-    for (answer, order) in expected.chunks_exact(20).zip(lines(&given.orders)) {
+    count_answers(given, &expected, report)
+}
+
+/// Counts the answers of a batch that was done.
+fn count_answers(given: &Input, answers: &[u8], report: &mut Report) -> Result<(), String> {
+    let (registry, _) = Registry::open(&given.table);
+    for (answer, line) in answers.chunks_exact(20).zip(lines(&given.orders)) {
         let Some(found) = plain::columns::field(answer, 7, 9) else {
             return Err("plain: an answer without a code".to_string());
         };
         *report.answers.entry(found).or_default() += 1;
-        report.released += u64::from(found == 0 && order.bytes.starts_with(b" 2"));
+        match read_order(&line) {
+            Ok(Order::Release(_)) => report.released += u64::from(found == DONE),
+            Ok(Order::Register(flow)) if found == DEADLINE => {
+                let thresholds = path_thresholds(&registry.queues, &flow.hops);
+                report.by_fixed_delay += u64::from(thresholds <= u128::from(flow.deadline));
+            }
+            _ => {}
+        }
     }
     Ok(())
 }

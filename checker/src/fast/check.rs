@@ -59,7 +59,7 @@ impl Registry {
         for link in 0..self.links as usize {
             let (from, to, speed) = (self.from[link], self.to[link], self.speed[link]);
             let levels = self.levels[link];
-            right &= link_in_range(from, to, speed) & (from != to);
+            right &= link_in_range(from, to, speed, self.fixed_delay[link]) & (from != to);
             right &= levels.wrapping_sub(1) < LEVELS as u32;
             for level in 0..LEVELS {
                 let (threshold, buffer) = (self.threshold[link][level], self.buffer[link][level]);
@@ -81,7 +81,7 @@ impl Registry {
             return false;
         }
         let mut met = 0u64;
-        let mut earlier = 0;
+        let (mut earlier, mut fixed) = (0, 0);
         let mut ended = None;
         for &(link, level) in &flow.path[..flow.count as usize] {
             let (link, level) = (link as usize, level as usize);
@@ -98,8 +98,9 @@ impl Registry {
             sums.frame[link][level] = sums.frame[link][level].max(flow.frame);
             sums.members[link][level][slot / 64] |= 1 << (slot % 64);
             earlier += self.threshold[link][level];
+            fixed += self.fixed_delay[link];
         }
-        earlier <= flow.deadline
+        earlier + fixed <= flow.deadline
     }
 
     /// The stored figures are those of the flows.

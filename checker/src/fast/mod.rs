@@ -57,6 +57,7 @@ pub struct Registry {
     pub from: [u32; LINKS],
     pub to: [u32; LINKS],
     pub speed: [u32; LINKS],
+    pub fixed_delay: [u32; LINKS],
     pub threshold: Column,
     pub buffer: Column,
     /// The figures: rate sum, burst sum, largest frame.
@@ -87,6 +88,7 @@ impl Calls for Registry {
         from: [0; LINKS],
         to: [0; LINKS],
         speed: [0; LINKS],
+        fixed_delay: [0; LINKS],
         threshold: [[0; LEVELS]; LINKS],
         buffer: [[0; LEVELS]; LINKS],
         rate: [[0; LEVELS]; LINKS],
@@ -162,13 +164,14 @@ impl Registry {
             return refused;
         }
         let path = &entry.path[..flow.count];
-        let mut earlier = 0;
+        let (mut earlier, mut fixed) = (0, 0);
         let mut bursts = [0u64; HOPS];
         for (hop, &(link, level)) in path.iter().enumerate() {
             bursts[hop] = burst_at_hop(flow.burst, flow.rate, earlier);
             earlier += self.threshold[link as usize][level as usize];
+            fixed += self.fixed_delay[link as usize];
         }
-        if earlier > flow.deadline {
+        if earlier + fixed > flow.deadline {
             return Answer::plain(20);
         }
         let Some(slot) = self.lowest_free() else {

@@ -53,79 +53,117 @@ pub fn line_ends(text: &[u8]) -> usize {
     found
 }
 
-const TABLE_LINE: usize = 37;
-const MOST_TABLE_BYTES: usize = 18_944;
+/// Where the LF of a line stands that has no fixed delay, and of one that has.
+const SHORT_END: usize = 36;
+const LONG_END: usize = 43;
+const MOST_TABLE_BYTES: usize = LINKS * LEVELS * (LONG_END + 1);
 
 /// Reads the table into a registry without queues; code and line of the first fault, or 0 and 0.
 pub fn table(registry: &mut Registry, text: &[u8]) -> (u32, u32) {
     if text.len() > MOST_TABLE_BYTES {
         return (5, 0);
     }
-    for (index, line) in text.chunks(TABLE_LINE).enumerate() {
-        let code = table_line(registry, line);
+    let (mut at, mut number) = (0, 0);
+    while at < text.len() {
+        number += 1;
+        let (code, length) = match Row::first(&text[at..]) {
+            Some((row, length)) => (row.add(registry), length),
+            None => (1, 0),
+        };
         if code != 0 {
             registry.links = 0;
-            return (code, index as u32 + 1);
+            return (code, number);
         }
+        at += length;
     }
     (0, 0)
 }
 
-fn table_line(registry: &mut Registry, line: &[u8]) -> u32 {
-    if line.len() != TABLE_LINE || line[TABLE_LINE - 1] != b'\n' {
-        return 1;
+/// The numbers of a table line.
+struct Row {
+    link: u32,
+    from: u32,
+    to: u32,
+    speed: u32,
+    level: u32,
+    threshold: u32,
+    buffer: u32,
+    fixed_delay: u32,
+}
+
+impl Row {
+    /// The first line of a text and its length with LF; none where it is malformed.
+    fn first(text: &[u8]) -> Option<(Row, usize)> {
+        let ends = |at: usize| text.get(at) == Some(&b'\n');
+        let (fixed_delay, end) = if ends(SHORT_END) {
+            (0, SHORT_END)
+        } else if ends(LONG_END) {
+            (field::<7>(text, 36), LONG_END)
+        } else {
+            return None;
+        };
+        let row = Row {
+            link: field::<4>(text, 0),
+            from: field::<4>(text, 4),
+            to: field::<4>(text, 8),
+            speed: field::<6>(text, 12),
+            level: field::<2>(text, 18),
+            threshold: field::<7>(text, 20),
+            buffer: field::<9>(text, 27),
+            fixed_delay,
+        };
+        // Only MALFORMED has the highest bit.
+        let of_link = row.link | row.from | row.to | row.speed | row.fixed_delay;
+        let together = of_link | row.level | row.threshold | row.buffer;
+        (together >> 31 == 0).then_some((row, end + 1))
     }
-    let link = field::<4>(line, 0);
-    let from = field::<4>(line, 4);
-    let to = field::<4>(line, 8);
-    let speed = field::<6>(line, 12);
-    let level = field::<2>(line, 18);
-    let threshold = field::<7>(line, 20);
-    let buffer = field::<9>(line, 27);
-    // Only MALFORMED has the highest bit.
-    if (link | from | to | speed | level | threshold | buffer) >> 31 != 0 {
-        return 1;
-    }
-    if !link_in_range(from, to, speed) || !limits_in_range(threshold, buffer) {
-        return 2;
-    }
-    let links = registry.links as usize;
-    let same = links > 0
-        && link == links as u32
-        && level == registry.levels[links - 1] + 1
-        && level <= LEVELS as u32;
-    let next = link == links as u32 + 1 && level == 1 && link <= LINKS as u32;
-    if !same && !next {
-        return 3;
-    }
-    if from == to {
-        return 4;
-    }
-    let index = link as usize - 1;
-    if next {
+
+    /// Adds the line to the table, or says which of 2 to 4 is against it.
+    fn add(self, registry: &mut Registry) -> u32 {
+        let (link, level) = (self.link, self.level);
+        if !link_in_range(self.from, self.to, self.speed, self.fixed_delay)
+            || !limits_in_range(self.threshold, self.buffer)
+        {
+            return 2;
+        }
+        let links = registry.links as usize;
+        let same = links > 0
+            && link == links as u32
+            && level == registry.levels[links - 1] + 1
+            && level <= LEVELS as u32;
+        let next = link == links as u32 + 1 && level == 1 && link <= LINKS as u32;
+        if !same && !next {
+            return 3;
+        }
+        let at = link as usize - 1;
+        if next {
+            registry.from[at] = self.from;
+            registry.to[at] = self.to;
+            registry.speed[at] = self.speed;
+            registry.fixed_delay[at] = self.fixed_delay;
+        }
+        let differs = (registry.from[at] ^ self.from)
+            | (registry.to[at] ^ self.to)
+            | (registry.speed[at] ^ self.speed)
+            | (registry.fixed_delay[at] ^ self.fixed_delay);
+        if self.from == self.to || differs != 0 {
+            return 4;
+        }
         registry.links = link;
-        registry.from[index] = from;
-        registry.to[index] = to;
-        registry.speed[index] = speed;
+        registry.levels[at] = level;
+        registry.threshold[at][level as usize - 1] = self.threshold;
+        registry.buffer[at][level as usize - 1] = self.buffer;
+        0
     }
-    if (
-        registry.from[index],
-        registry.to[index],
-        registry.speed[index],
-    ) != (from, to, speed)
-    {
-        return 4;
-    }
-    registry.levels[index] = level;
-    registry.threshold[index][level as usize - 1] = threshold;
-    registry.buffer[index][level as usize - 1] = buffer;
-    0
 }
 
 /// Code 2's ranges of a link.
 #[inline(always)]
-pub fn link_in_range(from: u32, to: u32, speed: u32) -> bool {
-    (from.wrapping_sub(1) < 9_999) & (to.wrapping_sub(1) < 9_999) & (speed.wrapping_sub(1) < 10_000)
+pub fn link_in_range(from: u32, to: u32, speed: u32, fixed_delay: u32) -> bool {
+    (from.wrapping_sub(1) < 9_999)
+        & (to.wrapping_sub(1) < 9_999)
+        & (speed.wrapping_sub(1) < 10_000)
+        & (fixed_delay <= 10_000)
 }
 
 /// Code 2's ranges of a level.

@@ -56,6 +56,7 @@ fn queues(registry: &Registry) -> (Vec<Queue>, Vec<Aggregate>) {
                 level: level as u64 + 1,
                 threshold: u64::from(queue.threshold),
                 buffer: u64::from(queue.buffer),
+                fixed_delay: u64::from(link.fixed_delay),
             });
             stored.push(Aggregate {
                 rate: u128::from(sums.rate),
@@ -126,7 +127,7 @@ fn damage_link(rng: &mut Rng, registry: &mut Registry) {
     let link = &mut registry.table.links[index];
     let at = LEVELS * index + rng.index(link.levels as usize);
     let sums = &mut registry.sums[at];
-    let value = match rng.between(0, 8) {
+    let value = match rng.between(0, 9) {
         0 => &mut link.from,
         1 => &mut link.to,
         2 => &mut link.speed,
@@ -136,10 +137,11 @@ fn damage_link(rng: &mut Rng, registry: &mut Registry) {
         }
         4 => &mut registry.table.queues[at].threshold,
         5 => &mut registry.table.queues[at].buffer,
+        6 => &mut link.fixed_delay,
         figure => {
             let value = match figure {
-                6 => &mut sums.rate,
-                7 => &mut sums.burst,
+                7 => &mut sums.rate,
+                8 => &mut sums.burst,
                 _ => &mut sums.frame,
             };
             *value = u64::from(near(rng, *value as u32));

@@ -38,6 +38,7 @@ fn view(registry: &fast::Registry) -> View {
                 level: level as u64 + 1,
                 threshold: u64::from(registry.threshold[link][level]),
                 buffer: u64::from(registry.buffer[link][level]),
+                fixed_delay: u64::from(registry.fixed_delay[link]),
             });
             stored.push(Aggregate {
                 rate: u128::from(registry.rate[link][level]),
@@ -107,7 +108,7 @@ fn damage(rng: &mut Rng, registry: &mut fast::Registry) {
     }
     let link = rng.index(registry.links as usize);
     let level = rng.index(registry.levels[link] as usize);
-    let value = match rng.between(0, 8) {
+    let value = match rng.between(0, 9) {
         0 => &mut registry.from[link],
         1 => &mut registry.to[link],
         2 => &mut registry.speed[link],
@@ -119,6 +120,7 @@ fn damage(rng: &mut Rng, registry: &mut fast::Registry) {
         5 => &mut registry.buffer[link][level],
         6 => &mut registry.rate[link][level],
         7 => &mut registry.burst[link][level],
+        8 => &mut registry.fixed_delay[link],
         _ => &mut registry.frame[link][level],
     };
     *value = near(rng, *value);
