@@ -154,6 +154,7 @@ fn worked_hall() -> Hall {
         level,
         threshold,
         buffer,
+        fixed_delay: 0,
     };
     let flow = |level, burst| Flow {
         number: level,
@@ -217,6 +218,7 @@ fn limits_are_met_exactly() {
             level: 1,
             threshold,
             buffer,
+            fixed_delay: 0,
         };
         let flow = Flow {
             number: 7,
