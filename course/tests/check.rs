@@ -219,7 +219,10 @@ fn fixed_delays() {
         assert_eq!(with_delays("    250", more), [place], "{more}");
     };
     let lacking = "in the line before, of the same link; a line without these columns means 0";
-    of_second("", &format!("37: fixed delay: 0 differs from 250 {lacking}"));
+    of_second(
+        "",
+        &format!("37: fixed delay: 0 differs from 250 {lacking}"),
+    );
     of_second(
         "    240",
         "37: fixed delay: 240 differs from 250 in the line before, of the same link",

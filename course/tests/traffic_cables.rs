@@ -2,15 +2,18 @@
 
 mod common;
 
+use checker::simulate;
 use common::{course as call, Temporary};
 use course::status::Status;
 use course::traffic::hall::Hall;
 use course::traffic::network::Network;
 use course::traffic::run::{run, Arrivals, Stay, Watch};
 use course::traffic::sends;
+use halls::rng::Rng;
 use halls::tables::table_text;
 use plain::orders::{write_registration, Flow, Hop};
 use plain::table::Queue;
+use std::collections::BTreeMap;
 
 /// All stays and what the queues held, in their order.
 #[derive(Default)]
@@ -156,4 +159,39 @@ fn the_search_counts_the_cables() {
     assert!(found.printed.ends_with(verdict), "{}", found.printed);
     let sends = "\n0 1 100\n4883 2 1542\n";
     assert!(found.printed.contains(sends), "{}", found.printed);
+}
+
+/// Tight halls, every source greedy: each frame comes to its next queue the cable's time after it left, and reaches its
+/// destination within the thresholds and fixed delays of its path, which is its deadline.
+#[test]
+fn every_frame_arrives_within_its_deadline() {
+    let (mut frames, mut cables) = (0, 0);
+    for index in 0..100 {
+        let mut rng = Rng::new(201, index);
+        let Some(drawn) = simulate::Hall::random(&mut rng).unwrap() else {
+            continue;
+        };
+        let hall = Hall::new(drawn.queues, drawn.flows);
+        let greedy = |flow: &Flow| format!("greedy {} from 0 to 2000\n", flow.number);
+        let text: String = hall.flows.iter().map(greedy).collect();
+        let mut paths: BTreeMap<(usize, u64), Vec<Stay>> = BTreeMap::new();
+        for stay in recorded(&hall, &text).stays {
+            let frame = (stay.frame.flow, stay.frame.number);
+            paths.entry(frame).or_default().push(stay);
+        }
+        for ((flow, _), stays) in &paths {
+            for pair in stays.windows(2) {
+                assert_eq!(pair[1].frame.came, hall.reached(&pair[0]));
+                cables += u64::from(hall.reached(&pair[0]) > pair[0].gone);
+            }
+            let (first, last) = (stays[0], stays[stays.len() - 1]);
+            let flow = &hall.flows[*flow];
+            assert_eq!(stays.len(), flow.hops.len());
+            let taken = hall.reached(&last) - first.frame.came;
+            assert!(taken <= flow.deadline, "hall {index}: {taken}");
+            frames += 1;
+        }
+    }
+    assert!(frames > 5_000, "{frames} frames");
+    assert!(cables > 1_000, "{cables} on cables");
 }
