@@ -1,5 +1,6 @@
 //! Document 01's run, bit by bit: instants are whole µs, a link sends C bits between two of them,
 //! strict priority, first in first out, never idle while a frame waits, never breaking off a frame.
+//! A frame that has left a queue is on the link's cable for the link's fixed delay, and in no queue.
 
 use halls::rng::Rng;
 use halls::sources::Send;
@@ -11,8 +12,21 @@ struct Frame {
     flow: usize,
     hop: usize,
     bytes: u64,
-    /// The instant it reached the queue.
+    sent: u64,
+    /// The instant it reached the queue; on a cable, the one at which it reaches the next.
     reached: u64,
+}
+
+impl Frame {
+    fn new(send: &Send) -> Frame {
+        Frame {
+            flow: send.flow,
+            hop: 0,
+            bytes: send.bytes,
+            sent: send.instant,
+            reached: send.instant,
+        }
+    }
 }
 
 /// A link's sender; its queues have the indices from `first` on, level 1 first.
@@ -22,6 +36,9 @@ struct Port {
     levels: usize,
     /// The queue of the frame under way and its bits still to send.
     under_way: Option<(usize, u64)>,
+    fixed_delay: u64,
+    /// The frames on the cable to a next queue, in the order in which they left.
+    cable: VecDeque<Frame>,
 }
 
 /// The most that was seen of a queue.
@@ -52,6 +69,8 @@ pub trait Observer {
     fn holds(&mut self, _instant: u64, _queue: usize, _frames: usize, _bytes: u64) {}
     /// A frame of a flow that reached the queue at one instant has left it at another.
     fn left(&mut self, _queue: usize, _flow: usize, _reached: u64, _gone: u64) {}
+    /// A frame of a flow that was sent at one instant reaches its destination at another.
+    fn arrives(&mut self, _flow: usize, _sent: u64, _reached: u64) {}
 }
 
 /// Nobody.
@@ -68,7 +87,7 @@ pub struct Network<'a> {
 }
 
 impl<'a> Network<'a> {
-    /// Empty queues. The flows' hops are queues of the table.
+    /// Empty queues and cables. The flows' hops are queues of the table.
     pub fn new(queues: &'a [Queue], flows: &[Flow]) -> Network<'a> {
         let mut ports: Vec<Port> = Vec::new();
         for (index, queue) in queues.iter().enumerate() {
@@ -78,6 +97,8 @@ impl<'a> Network<'a> {
                     first: index,
                     levels: 0,
                     under_way: None,
+                    fixed_delay: queue.fixed_delay,
+                    cable: VecDeque::new(),
                 });
             }
             if let Some(port) = ports.last_mut() {
@@ -108,7 +129,7 @@ impl<'a> Network<'a> {
         }
     }
 
-    /// Runs until every frame has left; `sends` is sorted by instant.
+    /// Runs until every frame has left its last queue; `sends` is sorted by instant.
     pub fn run(
         self,
         sends: &[Send],
@@ -126,44 +147,56 @@ impl<'a> Network<'a> {
         rng: &mut Rng,
         observer: &mut impl Observer,
     ) -> Result<Vec<Seen>, Fault> {
-        let mut next = 0;
+        let mut unsent = sends;
         let mut instant = sends.first().map_or(0, |send| send.instant);
-        let mut arriving: Vec<Frame> = Vec::new();
         loop {
+            let mut arriving = self.off_cables(instant);
             let transit = arriving.len();
-            while next < sends.len() && sends[next].instant == instant {
-                let Send { flow, bytes, .. } = sends[next];
-                arriving.push(Frame {
-                    flow,
-                    hop: 0,
-                    bytes,
-                    reached: instant,
-                });
-                next += 1;
-            }
+            let due = unsent.iter().take_while(|send| send.instant == instant);
+            arriving.extend(due.map(Frame::new));
+            unsent = &unsent[arriving.len() - transit..];
             match arrivals {
                 Arrivals::SourcesLast => {}
                 Arrivals::SourcesFirst => arriving.rotate_left(transit),
                 Arrivals::Shuffled => rng.shuffle(&mut arriving),
             }
-            for frame in arriving.drain(..) {
+            for frame in arriving {
                 let queue = self.routes[frame.flow][frame.hop];
                 self.backlog[queue] += frame.bytes;
                 self.waiting[queue].push_back(frame);
             }
             let busy = self.look(instant, observer)?;
             if !busy {
-                match sends.get(next) {
+                match self.next_arrival(unsent) {
                     None => return Ok(self.seen),
-                    Some(send) => instant = send.instant,
+                    Some(later) => instant = later,
                 }
                 continue;
             }
             for port in 0..self.ports.len() {
-                self.send_until(port, instant + 1, &mut arriving, observer);
+                self.send_until(port, instant + 1, observer);
             }
             instant += 1;
         }
+    }
+
+    /// The frames that reach their next queue at an instant, link by link.
+    fn off_cables(&mut self, instant: u64) -> Vec<Frame> {
+        let mut arriving = Vec::new();
+        for port in &mut self.ports {
+            let due = |frame: &Frame| frame.reached == instant;
+            while port.cable.front().is_some_and(due) {
+                arriving.extend(port.cable.pop_front());
+            }
+        }
+        arriving
+    }
+
+    /// The next instant at which a frame reaches a queue, from a cable or a source.
+    fn next_arrival(&self, unsent: &[Send]) -> Option<u64> {
+        let cables = self.ports.iter().filter_map(|port| port.cable.front());
+        let sent = unsent.first().map(|send| send.instant);
+        cables.map(|frame| frame.reached).chain(sent).min()
     }
 
     /// Compares each queue with its limits at an instant; true if a frame waits anywhere.
@@ -187,14 +220,8 @@ impl<'a> Network<'a> {
         Ok(busy)
     }
 
-    /// One link from the instant before `end` to `end`; frames that wholly left go on at `end`.
-    fn send_until(
-        &mut self,
-        port: usize,
-        end: u64,
-        arriving: &mut Vec<Frame>,
-        observer: &mut impl Observer,
-    ) {
+    /// One link from the instant before `end` to `end`; frames that wholly left are on its cable from `end` on.
+    fn send_until(&mut self, port: usize, end: u64, observer: &mut impl Observer) {
         let port = &mut self.ports[port];
         let mut left = port.speed;
         while left > 0 {
@@ -221,12 +248,15 @@ impl<'a> Network<'a> {
             self.backlog[queue] -= frame.bytes;
             observer.left(queue, frame.flow, frame.reached, end);
             self.seen[queue].stay = self.seen[queue].stay.max(end - frame.reached);
+            let reached = end + port.fixed_delay;
             if frame.hop + 1 < self.routes[frame.flow].len() {
-                arriving.push(Frame {
+                port.cable.push_back(Frame {
                     hop: frame.hop + 1,
-                    reached: end,
+                    reached,
                     ..frame
                 });
+            } else {
+                observer.arrives(frame.flow, frame.sent, reached);
             }
         }
     }

@@ -1,7 +1,7 @@
 //! The short seeded runs, and the simulator on runs small enough to follow by hand.
 
 use checker::rounds::Bars;
-use checker::sim::{Arrivals, Fault, Network, Seen};
+use checker::sim::{Arrivals, Fault, Network, Observer, Seen};
 use checker::{compare, simulate, vectors};
 use halls::rng::Rng;
 use halls::sources::{conforms, sends, Pace, Pattern, Send, Sizes};
@@ -44,6 +44,7 @@ fn bars_are_judged() {
 fn no_frame_is_late() {
     let report = simulate::run(1, 40).unwrap();
     assert!(report.halls > 10);
+    assert!(report.journey.limit > 0, "no way with a fixed delay");
 }
 
 fn queue(link: u64, level: u64, threshold: u64, buffer: u64) -> Queue {
@@ -74,16 +75,34 @@ fn flow(number: u64, hops: &[(u64, u64)]) -> Flow {
     }
 }
 
+fn send(&(instant, flow, bytes): &(u64, usize, u64)) -> Send {
+    Send {
+        instant,
+        flow,
+        bytes,
+    }
+}
+
 fn run(queues: &[Queue], flows: &[Flow], list: &[(u64, usize, u64)]) -> Result<Vec<Seen>, Fault> {
-    let list: Vec<Send> = list
-        .iter()
-        .map(|&(instant, flow, bytes)| Send {
-            instant,
-            flow,
-            bytes,
-        })
-        .collect();
+    let list: Vec<Send> = list.iter().map(send).collect();
     Network::new(queues, flows).run(&list, Arrivals::SourcesLast, &mut Rng::new(1, 1))
+}
+
+/// The instants at which each queue holds frames, and each frame's way.
+#[derive(Default)]
+struct Watched {
+    held: [Vec<u64>; 2],
+    ways: Vec<(u64, u64)>,
+}
+
+impl Observer for Watched {
+    fn holds(&mut self, instant: u64, queue: usize, _frames: usize, _bytes: u64) {
+        self.held[queue].push(instant);
+    }
+
+    fn arrives(&mut self, _flow: usize, sent: u64, reached: u64) {
+        self.ways.push((sent, reached));
+    }
 }
 
 /// 1,542 bytes take 123.36 µs at 100 Mbit/s: the frame has left 124 µs later, the next one, which
@@ -137,6 +156,29 @@ fn frames_go_on_at_the_instant_they_left() {
     let queues = [queue(1, 1, 10_000, 10_000), queue(2, 1, 10_000, 10_000)];
     let seen = run(&queues, &[flow(1, &[(1, 1), (2, 1)])], &[(3, 0, 1_250)]).unwrap();
     assert_eq!((seen[0].stay, seen[1].stay), (100, 100));
+}
+
+/// 1,250 bytes take 100 µs; on the first cable they are 7 µs, on the second, the last, 5, and in no queue meanwhile.
+#[test]
+fn frames_are_on_a_cable_for_its_fixed_delay() {
+    let mut queues = [queue(1, 1, 101, 1_250), queue(2, 1, 101, 1_250)];
+    queues[0].fixed_delay = 7;
+    queues[1].fixed_delay = 5;
+    let flows = [flow(1, &[(1, 1), (2, 1)])];
+    let list = [(3, 0, 1_250), (500, 0, 1_250)].map(|frame| send(&frame));
+    let mut watched = Watched::default();
+    let seen = Network::new(&queues, &flows)
+        .run_before(
+            &list,
+            Arrivals::SourcesLast,
+            &mut Rng::new(1, 1),
+            &mut watched,
+        )
+        .unwrap();
+    assert_eq!((seen[0].stay, seen[1].stay), (100, 100));
+    let held = [(3..103).chain(500..600), (110..210).chain(607..707)];
+    assert_eq!(watched.held, held.map(Vec::from_iter));
+    assert_eq!(watched.ways, [(3, 215), (500, 712)]);
 }
 
 #[test]
