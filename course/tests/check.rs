@@ -2,32 +2,12 @@
 
 mod common;
 
-use common::{course, root, Temporary};
+use common::{course, root, said, Temporary};
 use course::status::Status;
 use std::fs;
 
 const TABLE: &str = "   1   1   2   100 1    250     4000\n   1   1   2   100 2   1000    16000\n";
 const ORDERS: &str = " 1   101      800     200  200    1000  1   1 1\n 2   101\n";
-
-/// What `check` says of these two texts, without the count in its last line.
-fn said(table: &[u8], orders: &[u8]) -> Vec<String> {
-    let folder = Temporary::with(table, orders);
-    let outcome = course(&["check", &folder.word()]);
-    let mut lines: Vec<String> = outcome.printed.lines().map(str::to_string).collect();
-    let last = lines.pop().unwrap();
-    if last.starts_with("no typing mistake") {
-        assert_eq!((outcome.status, lines.len()), (Status::Fine, 0));
-    } else {
-        assert_eq!(outcome.status, Status::Wrong);
-        let word = if lines.len() == 1 {
-            "mistake"
-        } else {
-            "mistakes"
-        };
-        assert_eq!(last, format!("{} {word}", lines.len()));
-    }
-    lines
-}
 
 fn in_orders(from: &str, to: &str, expected: &str) {
     assert!(ORDERS.contains(from), "{from}");
@@ -195,89 +175,6 @@ fn table_lines() {
             "table.txt:1:9: to node: the link ends where it starts, at node 2",
             "table.txt:2:9: to node: the link ends where it starts, at node 2",
         ]
-    );
-}
-
-/// What `check` says of the two lines with these bytes after their buffers.
-fn with_delays(first: &str, second: &str) -> Vec<String> {
-    let ends = [("4000", first), ("16000", second)];
-    let changed = ends.iter().fold(TABLE.to_string(), |text, (buffer, more)| {
-        text.replacen(&format!("{buffer}\n"), &format!("{buffer}{more}\n"), 1)
-    });
-    said(changed.as_bytes(), b"")
-}
-
-/// A fixed delay is right, missing in one line of a link, misplaced, or no number.
-#[test]
-fn fixed_delays() {
-    for right in ["", "      0", "    250", "  10000"] {
-        assert!(with_delays(right, right).is_empty(), "{right}");
-    }
-    assert!(with_delays("", "      0").is_empty());
-    let of_second = |more: &str, words: &str| {
-        let place = format!("table.txt:2:{words}");
-        assert_eq!(with_delays("    250", more), [place], "{more}");
-    };
-    let lacking = "in the line before, of the same link; a line without these columns means 0";
-    of_second(
-        "",
-        &format!("37: fixed delay: 0 differs from 250 {lacking}"),
-    );
-    of_second(
-        "    240",
-        "37: fixed delay: 240 differs from 250 in the line before, of the same link",
-    );
-    of_second("    2,0", "42: fixed delay: a comma");
-    of_second("   0250", "40: fixed delay: a leading zero");
-    of_second("250    ", "40: fixed delay: a blank right of a digit");
-    of_second("       ", "37: fixed delay: no number");
-    of_second(
-        "   250",
-        "37: fixed delay: 1 column too few before its number",
-    );
-    of_second(
-        " 250",
-        "37: fixed delay: 3 columns too few before its number",
-    );
-    of_second(
-        "      250",
-        "37: fixed delay: 2 columns too many before its number",
-    );
-    assert_eq!(
-        with_delays("  10001", "  10001"),
-        [1, 2].map(|line| format!(
-            "table.txt:{line}:37: fixed delay: 10,001 is out of range, 0 to 10,000"
-        ))
-    );
-}
-
-/// Lines of other lengths: what stands behind the buffer or the fixed delay.
-#[test]
-fn lengths_of_table_lines() {
-    let of_first = |more: &str, words: &str| {
-        let place = format!("table.txt:1:{words}");
-        assert_eq!(with_delays(more, ""), [place], "{more}");
-    };
-    of_first(" ", "38: the line has 37 columns, 36 or 43 are right");
-    of_first("   x", "41: the line has 40 columns, 36 or 43 are right");
-    of_first(
-        "      0 ",
-        "44: 1 column too many: the line has 44, 43 are right",
-    );
-    in_table(
-        "     4000",
-        "      4000",
-        &["table.txt:1:28: buffer: 1 column too many before its number"],
-    );
-    in_table(
-        "   1000",
-        "    1000",
-        &["table.txt:2:21: threshold: 1 column too many before its number"],
-    );
-    in_table(
-        "     4000",
-        "    4000",
-        &["table.txt:1:28: buffer: 1 column too few before its number"],
     );
 }
 

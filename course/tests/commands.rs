@@ -275,56 +275,6 @@ fn unreadable_rows() {
     }
 }
 
-/// Two links, the second with a cable of 120 µs, and a flow over both.
-fn fibre(deadline: u64) -> Temporary {
-    let table = b"   1   1   2   100 1    250     4000
-   2   2   3   100 1    100     4000    120
-   2   2   3   100 2    500     4000    120
-";
-    let orders = format!(" 1     7      800     200  200{deadline:>8}  2   1 1   2 1\n");
-    Temporary::with(table, orders.as_bytes())
-}
-
-/// The deadline holds the cable of the last hop too, to the µs.
-#[test]
-fn a_cable_counts_against_the_deadline() {
-    let met = course(&["explain", &fibre(470).word()]).printed;
-    for line in [
-        "line 1: 0 place 1 (done)",
-        "    thresholds 250 + 100 = 350",
-        "    fixed delays 0 + 120 = 120",
-        "    together 350 + 120 = 470 of 470 µs",
-        // The burst grows with thresholds alone.
-        "      link 2 level 1: 200 + ceil(800 × 250 / 8000) = 225",
-        "    link 1: from node 1, to node 2, speed 100 Mbit/s",
-        "    link 2: from node 2, to node 3, speed 100 Mbit/s, fixed delay 120 µs",
-    ] {
-        assert!(met.lines().any(|known| known == line), "{line}: {met}");
-    }
-    let missed = course(&["explain", &fibre(469).word()]).printed;
-    for line in [
-        "line 1: 20 (thresholds and fixed delays above the deadline)",
-        "    The thresholds along the path sum to 350 µs and the fixed delays to 120 µs, together 470 µs, above the deadline of 469 µs.",
-        "    together 350 + 120 = 470 of 469 µs: above",
-    ] {
-        assert!(missed.lines().any(|known| known == line), "{line}: {missed}");
-    }
-}
-
-/// The bounds, 32 and 34 µs, and the thresholds with the cable.
-#[test]
-fn bounds_have_the_cables() {
-    let printed = course(&["bounds", &fibre(1_000).word()]).printed;
-    let title = "\nlink 2: from node 2, to node 3, speed 100 Mbit/s, fixed delay 120 µs; rates";
-    assert!(printed.contains(title), "{printed}");
-    let flows = "
-flows, end to end in µs
-  place  flow  hops  cables  bounds + cables  thresholds + cables  deadline     %
-      1     7     2     120              186                  470     1,000  18.6
-";
-    assert!(printed.ends_with(flows), "{printed}");
-}
-
 /// The same seed makes the same hall, its solution is right, and nothing is overwritten.
 #[test]
 fn made_halls() {

@@ -103,10 +103,10 @@ fn spread(boxes: &mut [(Spot, f64)]) {
     }
 }
 
-/// `cable 120 µs`; nothing where it takes no time.
+/// What a link's cable takes, `120 µs`; nothing where it takes no time.
 pub fn cable(link: &Queue) -> Option<String> {
     let delay = link.fixed_delay;
-    (delay > 0).then(|| format!("cable {} µs", commas(delay)))
+    (delay > 0).then(|| format!("{} µs", commas(delay)))
 }
 
 /// The height of a link's box: a row for each level, and one for its cable.
@@ -221,9 +221,10 @@ fn draw_box(
         let y = top + 13.0 + row as f64 * ROW;
         draw_share(drawing, hall, queue, seen[queue].stay(), (x, y));
     }
-    if let Some(words) = cable(&hall.queues[queues[0]]) {
+    if let Some(delay) = cable(&hall.queues[queues[0]]) {
         let look = "class=\"tiny\" text-anchor=\"middle\"";
-        drawing.text((spot.x, top + high - 3.0), look, &words);
+        // No room for a word before the longest.
+        drawing.text((spot.x, top + high - 3.0), look, &format!("+ {delay}"));
     }
 }
 

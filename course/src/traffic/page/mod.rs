@@ -41,7 +41,13 @@ pub fn page(
         title = escape(words.title),
         style = include_str!("style.css"),
     );
-    html += "<section>\n<h2>The hall</h2>\n<p>At each link, level by level, the longest stay in per cent of the threshold.</p>\n";
+    html += &format!(
+        "<section>\n<h2>The hall</h2>\n<p>At each link, level by level, the longest stay in per cent of the threshold{}.</p>\n",
+        match hall.has_cables() {
+            true => "; below, after a +, what its cable takes",
+            false => "",
+        }
+    );
     html += &map::map(hall, seen);
     html += "</section>\n<section>\n<h2>Every queue that carries a flow</h2>\n";
     html += &table(hall, seen, verdict);
@@ -115,7 +121,7 @@ fn drawings(hall: &Hall, seen: &[Seen], verdict: &Verdict, recorder: &Recorder) 
             first.from,
             first.to,
             commas(first.speed),
-            map::cable(first).map_or(String::new(), |words| format!(", {words}"))
+            map::cable(first).map_or(String::new(), |delay| format!(", cable {delay}"))
         );
         html += &lanes::link(hall, seen, recorder, verdict.closest.as_ref(), &queues);
         html += "</section>\n";
