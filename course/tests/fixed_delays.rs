@@ -59,6 +59,20 @@ fn fixed_delays() {
     );
 }
 
+/// The columns forgotten in one line of three are one mistake, whichever line it is.
+#[test]
+fn a_line_that_lacks_its_fixed_delay_is_one_mistake() {
+    let line =
+        |level: usize, more: &str| format!("   1   1   2   100{level:>2}    250     4000{more}\n");
+    for (lacking, told) in [(1, 2), (2, 2), (3, 3)] {
+        let more = |level| if level == lacking { "" } else { "    120" };
+        let table: String = (1..=3).map(|level| line(level, more(level))).collect();
+        let said = said(table.as_bytes(), b"");
+        assert_eq!(said.len(), 1, "{said:?}");
+        assert!(said[0].starts_with(&format!("table.txt:{told}:37: fixed delay: ")));
+    }
+}
+
 /// Lines of other lengths: what stands behind the buffer or the fixed delay.
 #[test]
 fn lengths_of_table_lines() {
