@@ -1,4 +1,4 @@
-//! Document 01's queue table: what a table text says, or the code and line of its first fault.
+//! Document 01's queue table, with W-201's fixed delay: what a table text says, or the code and line of its first fault.
 
 use crate::causes;
 use crate::columns::{lines, Field, Line};
