@@ -95,6 +95,36 @@ fn cables_are_drawn() {
     assert!(!words.contains("cable") && !words.contains("dotted"));
 }
 
+/// The page of frames of 20 µs on one link with a threshold of 1,000 µs and this cable.
+fn on_one_link(fixed_delay: u64, sends: &str, stretch: &[&str]) -> String {
+    let table = format!("   1   1   2   100 1   1000    10000{fixed_delay:>7}\n");
+    let order = b" 1     7     1000     500  250   90000  1   1 1\n";
+    let folder = Temporary::with(table.as_bytes(), order);
+    let sends = folder.write("sends.txt", sends.as_bytes());
+    let call = |words: &[&str]| call(&[words, stretch].concat());
+    let made = drawn_by(&folder, &folder.word(), &sends, Status::Fine, call);
+    check(&made);
+    made.page
+}
+
+/// A short run is shown until its last frame comes from the cable; a frame's row is taken until then; what ended before the
+/// stretch isn't drawn at its edge.
+#[test]
+fn a_cable_has_room() {
+    let whole = on_one_link(1_015, "5 7 250\n", &[]);
+    assert!(whole.contains("data-from=\"5\" data-to=\"1040\""));
+    let two = "0 7 250\n2000 7 250\n";
+    let page = on_one_link(5_000, two, &["--from", "0", "--to", "8000"]);
+    let tags = well_formed(&page).unwrap();
+    let behind = |tag: &&Tag| tag.get("class") == Some("threshold");
+    let bars: Vec<&Tag> = tags.iter().filter(behind).collect();
+    assert_eq!(bars.len(), 2);
+    assert_ne!(bars[0].get("y"), bars[1].get("y"));
+    let later = on_one_link(5_000, two, &["--from", "3500", "--to", "4000"]);
+    assert_eq!(later.matches("class=\"cable\"").count(), 2);
+    assert_eq!(later.matches("class=\"limit\"").count(), 0);
+}
+
 /// The two frames of document 01's flows: each bar begins and ends at its instant, and the backlog
 /// is as high as its share of the buffer.
 #[test]
