@@ -50,6 +50,19 @@ fn turn((link, level): (u64, u64), before: Option<(u64, u64)>) -> String {
     format!("{} is out of turn: {expected}", queue((link, level)))
 }
 
+fn differs(value: u64, before: u64) -> String {
+    // A field that may be 0 is one that a line may lack.
+    let lacking = match value.min(before) {
+        0 => "; a line without these columns means 0",
+        _ => "",
+    };
+    format!(
+        "{} differs from {} in the line before, of the same link{lacking}",
+        commas(value),
+        commas(before)
+    )
+}
+
 pub fn words(what: &What) -> String {
     match what {
         What::Unended => "no LF at the end of the last line".to_string(),
@@ -81,15 +94,6 @@ pub fn words(what: &What) -> String {
         What::Turn { value, before } => turn(*value, *before),
         What::Past { value, most } => format!("{value} is past the last, {most}"),
         What::SameEnds { node } => format!("the link ends where it starts, at node {node}"),
-        What::Differs { value, before } => format!(
-            "{} differs from {} in the line before, of the same link{}",
-            commas(value),
-            commas(before),
-            // A field that may be 0 is one that a line may lack.
-            match value.min(before) {
-                0 => "; a line without these columns means 0",
-                _ => "",
-            }
-        ),
+        What::Differs { value, before } => differs(*value, *before),
     }
 }

@@ -2,6 +2,7 @@
 //! inside an interval, so a link's frames in it follow from what waits at its start: only the last
 //! bit of each frame counts, not every bit.
 
+use super::marks::Marks;
 use super::network::Network;
 use halls::rng::Rng;
 use std::cmp::Reverse;
@@ -82,35 +83,6 @@ struct Wire {
     leaving: Vec<(usize, u64, Frame)>,
     /// Frames that have left, in no queue until they come to their next one.
     on_cable: VecDeque<Frame>,
-}
-
-/// Indices met at an instant, each once.
-struct Marks {
-    list: Vec<usize>,
-    marked: Vec<bool>,
-}
-
-impl Marks {
-    fn new(count: usize) -> Marks {
-        Marks {
-            list: Vec::new(),
-            marked: vec![false; count],
-        }
-    }
-
-    fn add(&mut self, index: usize) {
-        if !self.marked[index] {
-            self.marked[index] = true;
-            self.list.push(index);
-        }
-    }
-
-    fn take(&mut self) -> Vec<usize> {
-        for &index in &self.list {
-            self.marked[index] = false;
-        }
-        std::mem::take(&mut self.list)
-    }
 }
 
 struct Run<'a> {
