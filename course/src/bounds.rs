@@ -7,7 +7,7 @@ use crate::session::{remark, Session};
 use crate::status::{Outcome, Status};
 use crate::titles::link_title;
 use plain::orders::Flow;
-use plain::registry::{path_thresholds, Registry, HOP_POOL, SLOTS};
+use plain::registry::{path_fixed_delays, path_thresholds, Registry, HOP_POOL, SLOTS};
 use plain::table::{Of, ENTRIES};
 use plain::work::{LevelWork, LinkWork};
 
@@ -19,7 +19,8 @@ pub const COMMAND: Command = Command {
 After the orders of orders.txt (with --after N after the first N of them): for each link its rate sum against its speed,
 for each queue rate sum, burst sum and largest frame, Res, Y, the delay bound against the threshold (µs), the backlog bound
 against the buffer (bytes), each with its per cent, rounded up. An empty queue has no bound. For each flow the sum of the
-delay bounds of its queues, the sum of their thresholds, which is what is promised, and its deadline (µs).
+delay bounds of its queues, the sum of their thresholds, which is what is promised, and its deadline (µs). Where a held
+flow's path has cables that take time, their fixed delays stand beside and are counted into both sums.
 
 Exit status: 0; 1 a refused batch or an unreadable file; 2 usage.",
     words: 1..=1,
@@ -140,28 +141,30 @@ fn level_row(level: &LevelWork) -> Vec<String> {
 }
 
 fn flow_report(registry: &Registry, links: &[LinkWork]) -> String {
-    let heads = [
-        "place",
-        "flow",
-        "hops",
-        "bounds",
-        "thresholds",
-        "deadline",
-        "%",
-    ];
-    let mut rows = vec![heads.map(str::to_string).to_vec()];
+    let cables = |flow: &Flow| path_fixed_delays(&registry.queues, &flow.hops);
+    let any = registry.held().into_iter().any(|flow| cables(flow) > 0);
+    let heads = match any {
+        false => "place|flow|hops|bounds|thresholds|deadline|%",
+        true => "place|flow|hops|cables|bounds + cables|thresholds + cables|deadline|%",
+    };
+    let mut rows = vec![heads.split('|').map(str::to_string).collect()];
     for (index, slot) in registry.slots.iter().enumerate() {
         let Some(flow) = slot else { continue };
-        let bound = end_to_end(links, flow);
-        rows.push(vec![
+        let bound = end_to_end(links, flow) + cables(flow);
+        let promised = path_thresholds(&registry.queues, &flow.hops) + cables(flow);
+        let mut row = vec![
             (index + 1).to_string(),
             flow.number.to_string(),
             flow.hops.len().to_string(),
+        ];
+        row.extend(any.then(|| commas(cables(flow))));
+        row.extend([
             commas(bound),
-            commas(path_thresholds(&registry.queues, &flow.hops)),
+            commas(promised),
             commas(flow.deadline),
             per_cent(bound, u128::from(flow.deadline)),
         ]);
+        rows.push(row);
     }
     if rows.len() == 1 {
         return "\nno flow is held\n".to_string();

@@ -18,11 +18,14 @@ pub fn queue_name(hop: Hop) -> String {
     format!("link {} level {}", commas(hop.link), hop.level)
 }
 
-/// A link with its own numbers: `link 3: from node 3, to node 4, speed 100 Mbit/s`.
+/// A link with its own numbers: `link 3: from node 3, to node 4, speed 100 Mbit/s`. One that is 0, as a cable's delay, isn't
+/// said.
 pub fn link_title(queue: &Queue) -> String {
     let own = ENTRIES.iter().filter(|entry| entry.of == Of::Link);
     let numbers: Vec<String> = own
-        .map(|entry| named(&entry.field, (entry.get)(queue)))
+        .map(|entry| (&entry.field, (entry.get)(queue)))
+        .filter(|(_, value)| *value > 0)
+        .map(|(field, value)| named(field, value))
         .collect();
     format!("link {}: {}", queue.link, numbers.join(", "))
 }

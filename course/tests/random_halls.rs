@@ -7,14 +7,14 @@ use common::hall_folder;
 use course::bounds::report;
 use course::check::{mistakes, Mistake};
 use course::hall::make;
-use course::session::Session;
+use course::session::{Session, Step};
 use halls::input;
 use halls::orders::one_byte;
 use halls::rng::Rng;
 use halls::tables::link_levels;
 use plain::causes;
 use plain::columns::lines;
-use plain::orders::{read_order, Flow};
+use plain::orders::{read_order, Flow, Hop, Order};
 use plain::programs::{begin, MOST_ORDER_BYTES, MOST_ORDER_LINES};
 use plain::registry::Registry;
 use plain::table::{read_table, Queue};
@@ -54,6 +54,11 @@ fn compare_bounds(session: &Session, name: &str) {
         .lines()
         .filter(|line| line.starts_with("  ") && !line.contains("level"));
     let mut rows = rows.map(numbers);
+    compare_queues(registry, &mut rows, name);
+    compare_flows(registry, &mut rows, name);
+}
+
+fn compare_queues(registry: &Registry, rows: &mut impl Iterator<Item = Vec<u128>>, name: &str) {
     for queue in &registry.queues {
         let row = rows.next().expect("a row for each queue");
         let known = figures(registry, queue);
@@ -72,6 +77,34 @@ fn compare_bounds(session: &Session, name: &str) {
             "{name}: link {} level {}",
             queue.link, queue.level
         );
+    }
+}
+
+/// End to end: the cables, where a held flow has any, are counted into bounds and thresholds.
+fn compare_flows(registry: &Registry, rows: &mut impl Iterator<Item = Vec<u128>>, name: &str) {
+    let queue_of = |hop: &Hop| {
+        let found = registry.queues.iter().find(|queue| queue.hop() == *hop);
+        found.expect("a queue of the table")
+    };
+    let sum = |flow: &Flow, number: &dyn Fn(&Queue) -> u128| -> u128 {
+        flow.hops.iter().map(|hop| number(queue_of(hop))).sum()
+    };
+    let cables = |flow: &Flow| sum(flow, &|queue| u128::from(queue.fixed_delay));
+    let held = registry.held();
+    let any = held.iter().any(|flow| cables(flow) > 0);
+    // The heads have no number.
+    assert_eq!(rows.next().unwrap_or_default(), []);
+    for (index, slot) in registry.slots.iter().enumerate() {
+        let Some(flow) = slot else { continue };
+        let bounds = sum(flow, &|queue| figures(registry, queue)[5]);
+        let thresholds = sum(flow, &|queue| u128::from(queue.threshold));
+        let mut expected = vec![index as u128 + 1, flow.number.into()];
+        expected.push(flow.hops.len() as u128);
+        expected.extend(any.then(|| cables(flow)));
+        expected.push(bounds + cables(flow));
+        expected.push(thresholds + cables(flow));
+        expected.push(flow.deadline.into());
+        assert_eq!(rows.next(), Some(expected), "{name}: flow {}", flow.number);
     }
 }
 
@@ -213,6 +246,7 @@ fn same_orders(orders: &[u8], found: &[Mistake], index: u64) -> &'static str {
 /// A made hall reaches the usual refusals and admits and releases, and a trainee finds no typing mistake beside those meant.
 #[test]
 fn made_halls_reach_the_usual_answers() {
+    let (mut with_fibre, mut by_cable) = (0, 0);
     for seed in 0..100 {
         let made = make(seed);
         let folder = hall_folder(&made.table, &made.orders);
@@ -233,5 +267,22 @@ fn made_halls_reach_the_usual_answers() {
                 .any(|step| step.work.is_some() && step.answer.code == 0),
             "{seed}"
         );
+        let queues = &session.registry.queues;
+        with_fibre += usize::from(queues.iter().any(|queue| queue.fixed_delay > 0));
+        by_cable += session
+            .steps
+            .iter()
+            .filter(|step| by_the_cable(step))
+            .count();
     }
+    assert!(with_fibre > 50 && with_fibre < 85, "{with_fibre}");
+    assert!(by_cable > 20, "{by_cable}");
+}
+
+/// Refused by 20, though the thresholds alone are within the deadline.
+fn by_the_cable(step: &Step) -> bool {
+    let (Ok(Order::Register(flow)), Some(work)) = (&step.order, &step.work) else {
+        return false;
+    };
+    step.answer.code == causes::DEADLINE && work.thresholds() <= u128::from(flow.deadline)
 }

@@ -91,7 +91,7 @@ fn the_halls_schedules() {
         "no frame late; closest link 3 level 1, 123 of 250 µs",
     );
     assert!(
-        greedy.printed.starts_with("247 frames of 5 flows;"),
+        greedy.printed.starts_with("248 frames of 5 flows;"),
         "{}",
         greedy.printed
     );

@@ -5,7 +5,7 @@ mod common;
 use checker::simulate;
 use common::pages::{check, drawn_by, made};
 use common::tags::{well_formed, Tag};
-use common::{course as call, Temporary};
+use common::{course as call, example, Temporary};
 use course::status::Status;
 use halls::rng::Rng;
 use halls::tables::{full_ring, loose, table_text, Shape};
@@ -55,6 +55,74 @@ fn a_long_run_shows_the_stretch_around_the_closest_frame() {
         let stretch = format!("data-from=\"{from}\" data-to=\"{to}\"");
         assert!(chosen.page.contains(&stretch));
     }
+}
+
+/// The labeller's camera sends a picture: its frame leaves link 5 at 137 and comes to link 7 at 257, in the stretch or past
+/// an end of it. The map and the lanes name what the cable takes; a hall without cables has none of it.
+#[test]
+fn cables_are_drawn() {
+    let folder = Temporary::new();
+    let sends = folder.write("sends.txt", b"0 203 1542\n");
+    for (from, to, drawn) in [
+        (0, 400, [137.0, 257.0]),
+        (200, 400, [200.0, 257.0]),
+        (0, 200, [137.0, 200.0]),
+    ] {
+        let ends = [from, to].map(|end: u64| end.to_string());
+        let stretch = ["--from", &ends[0], "--to", &ends[1]];
+        let call = |words: &[&str]| call(&[words, &stretch].concat());
+        let made = drawn_by(&folder, &example("hall"), &sends, Status::Fine, call);
+        check(&made);
+        let tags = well_formed(&made.page).unwrap();
+        let size = |tag: &Tag, name: &str| tag.get(name).unwrap().parse::<f64>().unwrap();
+        let classed = |class| tags.iter().find(|tag| tag.get("class") == Some(class));
+        let (lane, cable) = (classed("lane").unwrap(), classed("cable").unwrap());
+        let instants = ["x1", "x2"].map(|end| {
+            let share = (size(cable, end) - size(lane, "x")) / size(lane, "width");
+            (from as f64 + share * (to - from) as f64).round()
+        });
+        assert_eq!(instants, drawn);
+        // Links 5 and 6 in the map, link 5 above its lanes.
+        assert_eq!(made.page.matches(">+ 120 µs</text>").count(), 2);
+        assert!(made.page.contains("1,000 Mbit/s, cable 120 µs</h2>"));
+        assert!(made
+            .page
+            .contains(", stay 13 of 300 µs, on the cable to 257</title>"));
+        assert!(made.page.contains("The dotted line after a frame"));
+    }
+    let none = made("two-flows", "two-flows/sends.txt", &[], Status::Fine).page;
+    let words = none.split("</style>").nth(1).unwrap();
+    assert!(!words.contains("cable") && !words.contains("dotted"));
+}
+
+/// The page of frames of 20 µs on one link with a threshold of 1,000 µs and this cable.
+fn on_one_link(fixed_delay: u64, sends: &str, stretch: &[&str]) -> String {
+    let table = format!("   1   1   2   100 1   1000    10000{fixed_delay:>7}\n");
+    let order = b" 1     7     1000     500  250   90000  1   1 1\n";
+    let folder = Temporary::with(table.as_bytes(), order);
+    let sends = folder.write("sends.txt", sends.as_bytes());
+    let call = |words: &[&str]| call(&[words, stretch].concat());
+    let made = drawn_by(&folder, &folder.word(), &sends, Status::Fine, call);
+    check(&made);
+    made.page
+}
+
+/// A short run is shown until its last frame comes from the cable; a frame's row is taken until then; what ended before the
+/// stretch isn't drawn at its edge.
+#[test]
+fn a_cable_has_room() {
+    let whole = on_one_link(1_015, "5 7 250\n", &[]);
+    assert!(whole.contains("data-from=\"5\" data-to=\"1040\""));
+    let two = "0 7 250\n2000 7 250\n";
+    let page = on_one_link(5_000, two, &["--from", "0", "--to", "8000"]);
+    let tags = well_formed(&page).unwrap();
+    let behind = |tag: &&Tag| tag.get("class") == Some("threshold");
+    let bars: Vec<&Tag> = tags.iter().filter(behind).collect();
+    assert_eq!(bars.len(), 2);
+    assert_ne!(bars[0].get("y"), bars[1].get("y"));
+    let later = on_one_link(5_000, two, &["--from", "3500", "--to", "4000"]);
+    assert_eq!(later.matches("class=\"cable\"").count(), 2);
+    assert_eq!(later.matches("class=\"limit\"").count(), 0);
 }
 
 /// The two frames of document 01's flows: each bar begins and ends at its instant, and the backlog

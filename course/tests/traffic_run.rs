@@ -128,7 +128,7 @@ fn compare(hall: &simulate::Hall, list: &[sources::Send], order: u64, seed: u64)
 
 #[test]
 fn equals_the_checkers_run_at_every_instant() {
-    let (mut halls, mut stays) = (0, 0);
+    let (mut halls, mut with_cables, mut stays) = (0, 0, 0);
     for index in 0..150 {
         let mut rng = Rng::new(16, index);
         let Some(hall) = simulate::Hall::random(&mut rng).unwrap() else {
@@ -137,11 +137,13 @@ fn equals_the_checkers_run_at_every_instant() {
         let span = hall.flows.iter().map(|flow| flow.deadline).max().unwrap();
         let list = random_sends(&mut rng, &hall.flows, span.min(4_000));
         halls += 1;
+        with_cables += usize::from(hall.queues.iter().any(|queue| queue.fixed_delay > 0));
         for order in 0..3 {
             stays += compare(&hall, &list, order, index);
         }
     }
     assert!(halls > 50 && stays > 20_000, "{halls} halls, {stays} stays");
+    assert!(with_cables > 20, "{with_cables} of them with cables");
 }
 
 /// `WorkedRun`'s hall: two flows on one link of 448 Mbit/s.
@@ -154,6 +156,7 @@ fn worked_hall() -> Hall {
         level,
         threshold,
         buffer,
+        fixed_delay: 0,
     };
     let flow = |level, burst| Flow {
         number: level,
@@ -217,6 +220,7 @@ fn limits_are_met_exactly() {
             level: 1,
             threshold,
             buffer,
+            fixed_delay: 0,
         };
         let flow = Flow {
             number: 7,

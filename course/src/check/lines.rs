@@ -89,31 +89,38 @@ fn out_of_step(faults: &[Fault]) -> bool {
     count(&length) > 0 || count(&apart) > 1
 }
 
-/// Where a line would be right with some blanks more or fewer before one field: that, and the line so mended.
+/// Where a line would be right with some blanks more or fewer before one field: that, and the line so mended. The fewest
+/// blanks count, and of several fields the last one.
 fn shift(line: &[u8], faults: &[Fault], reader: &Reader) -> Option<(Mistake, Vec<u8>)> {
-    // Where all fields can be read, what is too much stands behind them.
-    let misread = |fault: &&Fault| fault.class() == Class::Columns && !fault.field.is_empty();
-    let first = faults
-        .iter()
-        .filter(misread)
-        .map(|fault| fault.column)
-        .min()?;
-    let before = reader.fields.iter().filter(|field| field.first <= first);
-    for field in before.rev() {
-        for count in 1..=field.last + 1 - field.first {
-            let few = with_blanks(line, field.first - 1, count);
-            let many = without_blanks(line, field.first - 1, count);
-            for (repaired, word) in [(few, "few"), (many, "many")] {
-                let Some(repaired) = repaired else { continue };
-                let left = first_class(&(reader.faults)(&whole(&repaired)));
-                if left != Some(Class::Columns) {
-                    let words = format!(
-                        "{} too {word} before its number",
-                        counted(count, "column", "columns")
-                    );
-                    return Some((named(field.first, field.name, words), repaired));
-                }
-            }
+    // Where all fields can be read, what is too much stands behind them; a digit may have been pushed there.
+    let pushed = line.last().is_some_and(u8::is_ascii_digit);
+    let misplaced = |fault: &&Fault| {
+        let of_field = pushed || !fault.field.is_empty();
+        of_field && fault.class() == Class::Columns
+    };
+    let columns = faults.iter().filter(misplaced).map(|fault| fault.column);
+    let first = columns.min()?;
+    let before = |field: &&Field| field.first <= first;
+    let fields: Vec<&Field> = reader.fields.iter().rev().filter(before).collect();
+    let width = |field: &Field| field.last + 1 - field.first;
+    let widest = fields.iter().map(|field| width(field)).max()?;
+    (1..=widest).find_map(|count| {
+        let mut wide = fields.iter().filter(|field| width(field) >= count);
+        wide.find_map(|field| moved(line, field, count, reader))
+    })
+}
+
+/// The same of one field and so many blanks.
+fn moved(line: &[u8], field: &Field, count: usize, reader: &Reader) -> Option<(Mistake, Vec<u8>)> {
+    let few = with_blanks(line, field.first - 1, count);
+    let many = without_blanks(line, field.first - 1, count);
+    for (repaired, word) in [(few, "few"), (many, "many")] {
+        let Some(repaired) = repaired else { continue };
+        let left = first_class(&(reader.faults)(&whole(&repaired)));
+        if left != Some(Class::Columns) {
+            let columns = counted(count, "column", "columns");
+            let words = format!("{columns} too {word} before its number");
+            return Some((named(field.first, field.name, words), repaired));
         }
     }
     None
@@ -124,10 +131,12 @@ fn with_blanks(line: &[u8], at: usize, count: usize) -> Option<Vec<u8>> {
     Some([before, &vec![b' '; count], after].concat())
 }
 
+/// Nothing where no number follows.
 fn without_blanks(line: &[u8], at: usize, count: usize) -> Option<Vec<u8>> {
-    let taken = line.get(at..at + count)?;
+    let (before, rest) = line.split_at_checked(at)?;
+    let (taken, after) = rest.split_at_checked(count)?;
     let blank = taken.iter().all(|&byte| byte == b' ');
-    blank.then(|| [&line[..at], &line[at + count..]].concat())
+    (blank && !after.is_empty()).then(|| [before, after].concat())
 }
 
 /// Of a line of a wrong length: bytes that are no digit, else the first field that is wrong, and the length. The fields

@@ -4,7 +4,7 @@ use super::lines::{mistakes, Reader};
 use super::Mistake;
 use crate::numbers::commas;
 use plain::columns::{lines, Field, Line};
-use plain::faults::{Class, Fault};
+use plain::faults::{Class, Fault, What};
 use plain::orders;
 use plain::programs::{MOST_ORDER_BYTES, MOST_ORDER_LINES};
 use plain::table::{self, Queue, ENTRIES, MOST_TABLE_BYTES};
@@ -15,13 +15,14 @@ pub fn table(text: &[u8]) -> Vec<Mistake> {
         return vec![size("bytes", text.len(), MOST_TABLE_BYTES)];
     }
     let fields: Vec<Field> = ENTRIES.iter().map(|entry| entry.field).collect();
-    let mut before: Option<Queue> = None;
+    let (mut earlier, mut before): (Option<Queue>, Option<Queue>) = (None, None);
     let mut known = true;
     let found = by_line(text, |line| {
         let all = |line: &Line| {
             let (_, mut faults) = table::examine(line, before.as_ref());
             // What comes after a line that couldn't be read can't be out of turn.
             faults.retain(|fault| known || fault.class() <= Class::Range);
+            faults.retain(|fault| !agrees(fault, before.as_ref(), earlier.as_ref()));
             faults
         };
         let reader = Reader {
@@ -32,10 +33,21 @@ pub fn table(text: &[u8]) -> Vec<Mistake> {
         let trimmed = trim(line);
         let (queue, _) = table::examine(&trimmed, before.as_ref());
         known = queue.is_some();
-        before = queue;
+        earlier = std::mem::replace(&mut before, queue);
         found
     });
     found
+}
+
+/// Whether a line differs from the one before only as that one does from the one before it: the slip is the middle one's.
+fn agrees(fault: &Fault, before: Option<&Queue>, earlier: Option<&Queue>) -> bool {
+    let (What::Differs { value, .. }, Some(before), Some(earlier)) = (&fault.what, before, earlier)
+    else {
+        return false;
+    };
+    let named = ENTRIES.iter().find(|entry| entry.field.name == fault.field);
+    let known = named.map(|entry| (entry.get)(earlier));
+    earlier.link == before.link && known == Some(*value)
 }
 
 /// A line without a byte order mark and CR, so that the next line can be judged after it.

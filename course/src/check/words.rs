@@ -4,7 +4,7 @@ use crate::numbers::{commas, counted};
 use crate::titles::queue_name;
 use plain::faults::What;
 use plain::orders::Hop;
-use plain::table::{MOST_LEVELS, MOST_LINKS};
+use plain::table::{LENGTHS, MOST_LEVELS, MOST_LINKS};
 
 /// `1 to 65,535`; several ranges joined by `or`.
 fn ranges(ranges: &[(u64, u64)]) -> String {
@@ -50,6 +50,19 @@ fn turn((link, level): (u64, u64), before: Option<(u64, u64)>) -> String {
     format!("{} is out of turn: {expected}", queue((link, level)))
 }
 
+fn differs(value: u64, before: u64) -> String {
+    // A field that may be 0 is one that a line may lack.
+    let lacking = match value.min(before) {
+        0 => "; a line without these columns means 0",
+        _ => "",
+    };
+    format!(
+        "{} differs from {} in the line before, of the same link{lacking}",
+        commas(value),
+        commas(before)
+    )
+}
+
 pub fn words(what: &What) -> String {
     match what {
         What::Unended => "no LF at the end of the last line".to_string(),
@@ -64,7 +77,10 @@ pub fn words(what: &What) -> String {
             counted(columns - most, "column", "columns"),
             commas(columns)
         ),
-        What::Length { columns } => format!("no line has {columns} columns"),
+        What::Length { columns } => {
+            let right = LENGTHS.map(|length| length.to_string()).join(" or ");
+            format!("the line has {columns} columns, {right} are right")
+        }
         What::Blank => "no number".to_string(),
         What::Byte(found) => byte(*found),
         What::Gap => "a blank right of a digit".to_string(),
@@ -78,10 +94,6 @@ pub fn words(what: &What) -> String {
         What::Turn { value, before } => turn(*value, *before),
         What::Past { value, most } => format!("{value} is past the last, {most}"),
         What::SameEnds { node } => format!("the link ends where it starts, at node {node}"),
-        What::Differs { value, before } => format!(
-            "{} differs from {} in the line before, of the same link",
-            commas(value),
-            commas(before)
-        ),
+        What::Differs { value, before } => differs(*value, *before),
     }
 }

@@ -62,11 +62,7 @@ fn registered(step: &Step, flow: &Flow, work: &Work, before: &Registry) -> Strin
         causes::NO_QUEUE => no_queue(at, before),
         causes::LOOP => format!("Link {} stands on the path twice.", at.link),
         causes::APART => apart(flow, at, before),
-        causes::DEADLINE => format!(
-            "The thresholds along the path sum to {} µs, above the deadline of {} µs.",
-            commas(work.thresholds()),
-            commas(flow.deadline)
-        ),
+        causes::DEADLINE => deadline(flow, work),
         causes::NO_SLOT => format!("All {SLOTS} places are held."),
         causes::NO_HOPS => format!(
             "Held paths have {} hop entries; with this path's {} that is above {}.",
@@ -76,6 +72,22 @@ fn registered(step: &Step, flow: &Flow, work: &Work, before: &Registry) -> Strin
         ),
         _ => link_refusal(answer.code, at, work),
     }
+}
+
+fn deadline(flow: &Flow, work: &Work) -> String {
+    let thresholds = commas(work.thresholds());
+    let sum = match work.fixed_delays() {
+        0 => format!("{thresholds} µs"),
+        cables => format!(
+            "{thresholds} µs and the fixed delays to {} µs, together {} µs",
+            commas(cables),
+            commas(work.end_to_end())
+        ),
+    };
+    format!(
+        "The thresholds along the path sum to {sum}, above the deadline of {} µs.",
+        commas(flow.deadline)
+    )
 }
 
 fn held(flow: &Flow, before: &Registry) -> String {

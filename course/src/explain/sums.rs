@@ -39,18 +39,7 @@ pub fn sums(flow: &Flow, work: &Work, before: &Registry) -> Vec<String> {
     if work.hops.is_empty() {
         return lines;
     }
-    let thresholds: Vec<u128> = work
-        .hops
-        .iter()
-        .map(|hop| u128::from(hop.threshold))
-        .collect();
-    let above = work.thresholds() > u128::from(flow.deadline);
-    lines.push(format!(
-        "thresholds {} of {} µs{}",
-        summed(&thresholds),
-        commas(flow.deadline),
-        if above { ": above" } else { "" }
-    ));
+    lines.extend(deadline_sums(flow, work));
     if work.links.is_empty() {
         return lines;
     }
@@ -64,6 +53,30 @@ pub fn sums(flow: &Flow, work: &Work, before: &Registry) -> Vec<String> {
         lines.extend(filling(flow, answer, before));
     }
     lines
+}
+
+/// What is held against the deadline; a path without cables has thresholds alone.
+fn deadline_sums(flow: &Flow, work: &Work) -> Vec<String> {
+    let along = |number: fn(&HopWork) -> u64| {
+        let numbers = work.hops.iter().map(|hop| u128::from(number(hop)));
+        summed(&numbers.collect::<Vec<u128>>())
+    };
+    let thresholds = format!("thresholds {}", along(|hop| hop.threshold));
+    let above = if work.end_to_end() > u128::from(flow.deadline) {
+        ": above"
+    } else {
+        ""
+    };
+    let verdict = format!("of {} µs{above}", commas(flow.deadline));
+    if work.fixed_delays() == 0 {
+        return vec![format!("{thresholds} {verdict}")];
+    }
+    let both = [work.thresholds(), work.fixed_delays()];
+    vec![
+        thresholds,
+        format!("fixed delays {}", along(|hop| hop.fixed_delay)),
+        format!("together {} {verdict}", summed(&both)),
+    ]
 }
 
 fn burst(flow: &Flow, hop: &HopWork) -> String {

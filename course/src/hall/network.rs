@@ -2,6 +2,7 @@
 
 use halls::rng::Rng;
 use plain::orders::{Flow, Hop, LARGEST_FRAME};
+use plain::registry::{path_fixed_delays, path_thresholds};
 use plain::table::Queue;
 
 /// A network and what its links are for.
@@ -63,7 +64,20 @@ impl Network {
         network.add((inspection, packer), 100, &[(gate, 2_000), (1_000, 16_000)]);
         let small = stepped(rng, 1_800, 2_400, 100);
         network.add((packer, cabinet), 10, &[(3_000, small), (8_000, 6_000)]);
+        network.lay_fibre(rng);
         network
+    }
+
+    /// Two halls of three have a long fibre run, to the cabinet or to the inspection.
+    fn lay_fibre(&mut self, rng: &mut Rng) {
+        if rng.once_in(3) {
+            return;
+        }
+        let link = rng.pick(&[self.trunk, self.row]);
+        let delay = stepped(rng, 20, 300, 10);
+        for queue in self.queues.iter_mut().filter(|queue| queue.link == link) {
+            queue.fixed_delay = delay;
+        }
     }
 
     fn add(&mut self, ends: (u64, u64), speed: u64, limits: &[(u64, u64)]) {
@@ -77,6 +91,7 @@ impl Network {
                 level: index as u64 + 1,
                 threshold,
                 buffer,
+                fixed_delay: 0,
             });
         }
     }
@@ -105,15 +120,30 @@ impl Network {
     /// A drive, camera, gate, picture or counter; the number is the caller's.
     pub fn flow(&self, rng: &mut Rng, number: u64) -> Flow {
         let (rate, burst, frame, hops) = self.demand(rng);
-        let thresholds = plain::registry::path_thresholds(&self.queues, &hops) as u64;
+        let (thresholds, cables) = self.along(&hops);
         Flow {
             number,
             rate,
             burst,
             frame,
-            deadline: (thresholds / 1_000 + rng.between(1, 2)) * 1_000,
+            deadline: ((thresholds + cables) / 1_000 + rng.between(1, 2)) * 1_000,
             hops,
         }
+    }
+
+    /// A deadline that a flow's path misses; one with cables misses it by these alone.
+    pub fn missed_deadline(&self, rng: &mut Rng, flow: &Flow) -> u64 {
+        match self.along(&flow.hops) {
+            (_, 0) => flow.deadline.saturating_sub(2_000).max(50),
+            (thresholds, cables) => thresholds + rng.between(0, cables - 1),
+        }
+    }
+
+    /// Thresholds and fixed delays along a path.
+    fn along(&self, hops: &[Hop]) -> (u64, u64) {
+        let thresholds = path_thresholds(&self.queues, hops);
+        let cables = path_fixed_delays(&self.queues, hops);
+        (thresholds as u64, cables as u64)
     }
 
     /// Rate, burst, largest frame and path.

@@ -133,7 +133,7 @@ impl<'a> Orders<'a> {
         let first = flow.hops[0];
         match code {
             causes::RATE => flow.rate = rng.pick(&[70_000, 80_000, 90_000]),
-            causes::DEADLINE => flow.deadline = flow.deadline.saturating_sub(2_000).max(50),
+            causes::DEADLINE => flow.deadline = self.network.missed_deadline(rng, &flow),
             causes::HELD => {
                 let held = self.registry.held();
                 flow.number = held[rng.index(held.len())].number;

@@ -27,17 +27,18 @@ impl Seen {
 pub struct Figures<'a> {
     queues: &'a [Queue],
     pub seen: Vec<Seen>,
-    /// The last instant at which a frame left.
+    /// The last instant at which a frame came from a cable.
     pub end: u64,
 }
 
 impl Watch for Figures<'_> {
     fn stay(&mut self, stay: &Stay) {
-        self.end = stay.gone;
+        let queue = &self.queues[stay.queue];
+        self.end = self.end.max(stay.gone + queue.fixed_delay);
         let seen = &mut self.seen[stay.queue];
         seen.stays += 1;
         // Late: not gone at the instant by which the threshold has passed.
-        seen.late += u64::from(stay.length() > self.queues[stay.queue].threshold);
+        seen.late += u64::from(stay.length() > queue.threshold);
         if seen
             .longest
             .is_none_or(|longest| stay.length() > longest.length())

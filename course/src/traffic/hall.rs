@@ -1,9 +1,10 @@
 //! A hall with the flows that are held after its orders, and the bounds of its queues.
 
+use super::run::Stay;
 use halls::tables::link_levels;
 use plain::formula::{backlog, delay, Aggregate};
 use plain::orders::Flow;
-use plain::registry::path_thresholds;
+use plain::registry::{path_fixed_delays, path_thresholds};
 use plain::table::Queue;
 
 /// What the formulas say of a queue that carries a flow.
@@ -50,9 +51,11 @@ impl Hall {
         }
     }
 
-    /// The longest sum of thresholds along a path, µs.
+    /// The longest sum of thresholds and fixed delays along a path, µs.
     pub fn span(&self) -> u64 {
-        let along = |flow: &Flow| path_thresholds(&self.queues, &flow.hops) as u64;
+        let thresholds = |flow: &Flow| path_thresholds(&self.queues, &flow.hops);
+        let cables = |flow: &Flow| path_fixed_delays(&self.queues, &flow.hops);
+        let along = |flow: &Flow| (thresholds(flow) + cables(flow)) as u64;
         self.flows.iter().map(along).max().unwrap_or(0)
     }
 
@@ -68,6 +71,16 @@ impl Hall {
             }
         }
         links
+    }
+
+    /// The instant at which the frame of a stay comes to its next queue or, after its last hop, to its destination.
+    pub fn reached(&self, stay: &Stay) -> u64 {
+        stay.gone + self.queues[stay.queue].fixed_delay
+    }
+
+    /// Whether a link's cable takes time.
+    pub fn has_cables(&self) -> bool {
+        self.queues.iter().any(|queue| queue.fixed_delay > 0)
     }
 
     /// `link 1 level 1`.

@@ -5,6 +5,7 @@ pub mod conform;
 pub mod figures;
 pub mod hall;
 mod job;
+mod marks;
 pub mod network;
 pub mod page;
 pub mod report;

@@ -8,6 +8,8 @@ use std::ops::Range;
 pub struct Sender {
     /// Bits per µs.
     pub speed: u64,
+    /// µs that its cable takes.
+    pub fixed_delay: u64,
     pub queues: Range<usize>,
 }
 
@@ -28,6 +30,7 @@ impl Network {
             if queue.level == 1 {
                 senders.push(Sender {
                     speed: queue.speed,
+                    fixed_delay: queue.fixed_delay,
                     queues: index..index,
                 });
             }

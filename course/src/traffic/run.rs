@@ -2,6 +2,7 @@
 //! inside an interval, so a link's frames in it follow from what waits at its start: only the last
 //! bit of each frame counts, not every bit.
 
+use super::marks::Marks;
 use super::network::Network;
 use halls::rng::Rng;
 use std::cmp::Reverse;
@@ -80,35 +81,8 @@ struct Wire {
     under_way: Option<UnderWay>,
     /// Frames whose last bit is sent before the next instant, with their first bit.
     leaving: Vec<(usize, u64, Frame)>,
-}
-
-/// Indices met at an instant, each once.
-struct Marks {
-    list: Vec<usize>,
-    marked: Vec<bool>,
-}
-
-impl Marks {
-    fn new(count: usize) -> Marks {
-        Marks {
-            list: Vec::new(),
-            marked: vec![false; count],
-        }
-    }
-
-    fn add(&mut self, index: usize) {
-        if !self.marked[index] {
-            self.marked[index] = true;
-            self.list.push(index);
-        }
-    }
-
-    fn take(&mut self) -> Vec<usize> {
-        for &index in &self.list {
-            self.marked[index] = false;
-        }
-        std::mem::take(&mut self.list)
-    }
+    /// Frames that have left, in no queue until they come to their next one.
+    on_cable: VecDeque<Frame>,
 }
 
 struct Run<'a> {
@@ -120,22 +94,24 @@ struct Run<'a> {
     sent: Vec<u64>,
     /// When a link has to be looked at next; each link is here once at most.
     due: BinaryHeap<Reverse<(u64, usize)>>,
+    /// When frames on a link's cable come to their next queues.
+    coming: BinaryHeap<Reverse<(u64, usize)>>,
     arriving: Vec<Frame>,
     changed: Marks,
     awake: Marks,
 }
 
-/// Runs from empty queues until every frame has left. `sends` is sorted by instant.
+/// Runs from empty queues and cables until every frame has left its last queue. `sends` is sorted by instant.
 pub fn run(network: &Network, sends: &[Send], mut order: Arrivals, watch: &mut impl Watch) {
     let mut run = Run::new(network);
     let mut next = 0;
     loop {
-        let due = run.due.peek().map(|Reverse((instant, _))| *instant);
         let sent = sends.get(next).map(|send| send.instant);
-        let Some(now) = due.into_iter().chain(sent).min() else {
+        let Some(now) = run.next_instant().into_iter().chain(sent).min() else {
             break;
         };
         run.depart(now, watch);
+        run.hand_on(now);
         let forwarded = run.arriving.len();
         while let Some(send) = sends.get(next).filter(|send| send.instant == now) {
             run.add(send);
@@ -154,6 +130,15 @@ pub fn run(network: &Network, sends: &[Send], mut order: Arrivals, watch: &mut i
     }
 }
 
+/// The lowest link that is listed for this instant, taken from the list.
+fn pop(list: &mut BinaryHeap<Reverse<(u64, usize)>>, now: u64) -> Option<usize> {
+    let &Reverse((instant, link)) = list.peek()?;
+    (instant == now).then(|| {
+        list.pop();
+        link
+    })
+}
+
 impl<'a> Run<'a> {
     fn new(network: &'a Network) -> Run<'a> {
         let (links, queues) = (network.senders.len(), network.sender_of.len());
@@ -165,22 +150,28 @@ impl<'a> Run<'a> {
             bytes: vec![0; queues],
             sent: vec![0; network.routes.len()],
             due: BinaryHeap::new(),
+            coming: BinaryHeap::new(),
             arriving: Vec::new(),
             changed: Marks::new(queues),
             awake: Marks::new(links),
         }
     }
 
-    /// The frames that have wholly left a queue at this instant, on their way to the next one. A
-    /// link with a fixed delay would hand them on that much later.
+    /// When a link has to be looked at, or a frame comes from a cable.
+    fn next_instant(&self) -> Option<u64> {
+        let heaps = [&self.due, &self.coming];
+        let firsts = heaps.into_iter().filter_map(BinaryHeap::peek);
+        firsts.map(|Reverse((instant, _))| *instant).min()
+    }
+
+    /// The frames that have wholly left a queue at this instant go on the link's cable.
     fn depart(&mut self, now: u64, watch: &mut impl Watch) {
-        while let Some(&Reverse((instant, link))) = self.due.peek() {
-            if instant != now {
-                break;
-            }
-            self.due.pop();
+        while let Some(link) = pop(&mut self.due, now) {
             self.awake.add(link);
-            for (queue, first_bit, frame) in std::mem::take(&mut self.wires[link].leaving) {
+            let reached = now + self.network.senders[link].fixed_delay;
+            let wire = &mut self.wires[link];
+            let on_cable = wire.on_cable.len();
+            for (queue, first_bit, frame) in std::mem::take(&mut wire.leaving) {
                 self.frames[queue] -= 1;
                 self.bytes[queue] -= frame.bytes;
                 self.changed.add(queue);
@@ -191,13 +182,26 @@ impl<'a> Run<'a> {
                     gone: now,
                 });
                 if frame.hop + 1 < self.network.routes[frame.flow].len() {
-                    self.arriving.push(Frame {
+                    wire.on_cable.push_back(Frame {
                         hop: frame.hop + 1,
-                        came: now,
+                        came: reached,
                         ..frame
                     });
                 }
             }
+            if wire.on_cable.len() > on_cable {
+                self.coming.push(Reverse((reached, link)));
+            }
+        }
+    }
+
+    /// The frames that come from a cable at this instant, link by link: what left a link its fixed delay ago.
+    fn hand_on(&mut self, now: u64) {
+        while let Some(link) = pop(&mut self.coming, now) {
+            let on_cable = &mut self.wires[link].on_cable;
+            let coming = on_cable.iter().take_while(|frame| frame.came == now);
+            let count = coming.count();
+            self.arriving.extend(on_cable.drain(..count));
         }
     }
 

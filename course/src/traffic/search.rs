@@ -213,7 +213,9 @@ impl<'a> Search<'a> {
         let mut micros = 0;
         for hop in flow.hops.iter().take_while(|hop| hop.link != link) {
             let of_link = self.hall.queues.iter().find(|queue| queue.link == hop.link);
-            micros += of_link.map_or(0, |queue| (8 * flow.frame).div_ceil(queue.speed));
+            micros += of_link.map_or(0, |queue| {
+                (8 * flow.frame).div_ceil(queue.speed) + queue.fixed_delay
+            });
         }
         micros
     }

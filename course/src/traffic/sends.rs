@@ -245,7 +245,7 @@ impl Entry {
 }
 
 /// A greedy source without an end goes on until this instant: the last one that SENDS names, and
-/// after it twice the longest sum of thresholds along a path.
+/// after it twice the longest sum of thresholds and fixed delays along a path.
 fn horizon(entries: &[Entry], span: u64) -> u64 {
     entries.iter().map(Entry::last).max().unwrap_or(0) + 2 * span
 }

@@ -5,7 +5,7 @@ use super::run::{Stay, Watch};
 use std::io::{self, Write};
 
 /// What the trace and the page tell of a stay.
-pub const COLUMNS: [&str; 11] = [
+pub const COLUMNS: [&str; 12] = [
     "flow",
     "frame",
     "link",
@@ -17,6 +17,7 @@ pub const COLUMNS: [&str; 11] = [
     "stay",
     "threshold",
     "bytes",
+    "reached",
 ];
 
 /// A stay's numbers by these columns. It started at the instant at or before its first bit, after the bits of that interval
@@ -35,6 +36,7 @@ pub fn numbers(hall: &Hall, stay: &Stay) -> [u64; COLUMNS.len()] {
         stay.length(),
         queue.threshold,
         stay.frame.bytes,
+        hall.reached(stay),
     ]
 }
 

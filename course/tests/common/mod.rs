@@ -5,7 +5,7 @@ pub mod pages;
 pub mod tags;
 
 use course::folder::Folder;
-use course::status::Outcome;
+use course::status::{Outcome, Status};
 use std::fs;
 use std::path::{Path, PathBuf};
 use std::sync::atomic::{AtomicU64, Ordering};
@@ -34,6 +34,26 @@ pub fn hall_folder(table: &[u8], orders: &[u8]) -> Folder {
         table: table.to_vec(),
         orders: orders.to_vec(),
     }
+}
+
+/// What `check` says of these two texts, without the count in its last line.
+pub fn said(table: &[u8], orders: &[u8]) -> Vec<String> {
+    let folder = Temporary::with(table, orders);
+    let outcome = course(&["check", &folder.word()]);
+    let mut lines: Vec<String> = outcome.printed.lines().map(str::to_string).collect();
+    let last = lines.pop().unwrap();
+    if last.starts_with("no typing mistake") {
+        assert_eq!((outcome.status, lines.len()), (Status::Fine, 0));
+    } else {
+        assert_eq!(outcome.status, Status::Wrong);
+        let word = if lines.len() == 1 {
+            "mistake"
+        } else {
+            "mistakes"
+        };
+        assert_eq!(last, format!("{} {word}", lines.len()));
+    }
+    lines
 }
 
 /// A folder of its own; it goes when this does.

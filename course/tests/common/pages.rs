@@ -7,12 +7,13 @@ use course::status::{Outcome, Status};
 use course::traffic::trace::COLUMNS;
 use std::collections::{BTreeMap, BTreeSet};
 
-/// A trace's columns: flow, frame, link, level, came, started, bit, gone, stay, threshold, bytes.
-pub type Row = [u64; 11];
+/// A trace's columns: flow, frame, link, level, came, started, bit, gone, stay, threshold, bytes, reached.
+pub type Row = [u64; 12];
 
 fn trace_rows(text: &str) -> Vec<Row> {
     let mut lines = text.lines();
-    let header = "flow\tframe\tlink\tlevel\tcame\tstarted\tbit\tgone\tstay\tthreshold\tbytes";
+    let header =
+        "flow\tframe\tlink\tlevel\tcame\tstarted\tbit\tgone\tstay\tthreshold\tbytes\treached";
     assert_eq!(lines.next(), Some(header));
     let row = |line: &str| {
         let numbers: Vec<u64> = line.split('\t').map(|word| word.parse().unwrap()).collect();
@@ -26,7 +27,7 @@ fn trace_rows(text: &str) -> Vec<Row> {
 fn figures(rows: &[Row]) -> BTreeMap<(u64, u64), (u64, u64)> {
     let mut found: BTreeMap<(u64, u64), (u64, u64)> = BTreeMap::new();
     for row in rows {
-        let [_, _, link, level, came, _, _, gone, stay, _, _] = *row;
+        let [_, _, link, level, came, _, _, gone, stay, _, _, _] = *row;
         assert_eq!(stay, gone - came);
         let held = rows.iter().filter(|other| {
             (other[2], other[3]) == (link, level) && (other[4]..other[7]).contains(&came)
@@ -78,7 +79,7 @@ pub fn drawn_by(
     }
 }
 
-/// The frames drawn are those of the trace that meet the stretch, number by number.
+/// The frames drawn are those of the trace that meet the stretch, number by number, and so are those on a cable in it.
 fn frames_agree(made: &Made, tags: &[Tag]) {
     let stretch = tags
         .iter()
@@ -93,13 +94,16 @@ fn frames_agree(made: &Made, tags: &[Tag]) {
     let meeting = made
         .rows
         .iter()
-        .filter(|row| row[4] <= to && row[7] >= from);
+        .filter(|row| row[4] <= to && row[11] >= from);
     let meeting: BTreeSet<Row> = meeting.copied().collect();
     // A lane with very many says how many more there are.
     let left_out = tags.iter().filter(|tag| tag.get("data-more").is_some());
     let left_out: u64 = left_out.map(|tag| tag.number("data-more")).sum();
     assert_eq!(drawn.len() as u64 + left_out, meeting.len() as u64);
     assert!(!drawn.is_empty() && drawn.is_subset(&meeting));
+    let cables = tags.iter().filter(|tag| tag.get("class") == Some("cable"));
+    let on_cable = |row: &&Row| row[7] < row[11] && row[7] < to && row[11] > from;
+    assert_eq!(cables.count(), drawn.iter().filter(on_cable).count());
 }
 
 /// The table's numbers, as data and as text, are those of the trace.

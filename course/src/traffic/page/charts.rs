@@ -21,6 +21,11 @@ impl Scale {
         to > self.stretch.from as f64 && from < self.stretch.to as f64
     }
 
+    /// Whether an instant lies in the stretch.
+    pub fn holds(&self, instant: f64) -> bool {
+        (self.stretch.from as f64..=self.stretch.to as f64).contains(&instant)
+    }
+
     /// Cut off at the ends of the stretch.
     pub fn x(&self, instant: f64) -> f64 {
         let Stretch { from, to } = self.stretch;

@@ -9,6 +9,7 @@ use crate::traffic::figures::Seen;
 use crate::traffic::hall::Hall;
 use crate::traffic::run::Stay;
 use crate::traffic::trace;
+use plain::table::Queue;
 
 const ROW: f64 = 11.0;
 /// With more rows than fit, rows are lower.
@@ -21,7 +22,7 @@ const MOST_ROWS: usize = 16;
 /// One link being drawn.
 struct Lanes<'a> {
     hall: &'a Hall,
-    recorder: &'a Recorder,
+    recorder: &'a Recorder<'a>,
     closest: Option<&'a Stay>,
     scale: Scale,
     drawing: Drawing,
@@ -70,8 +71,8 @@ pub fn link(
 }
 
 /// The row of each stay: the first one that is free again, where a row is taken until the
-/// threshold's end, or with many frames until the frame has left.
-fn rows(stays: &[Stay], threshold: u64) -> Vec<usize> {
+/// threshold's end and the cable's, or with many frames until the frame has left.
+fn rows(stays: &[Stay], queue: &Queue) -> Vec<usize> {
     let assign = |end: &dyn Fn(&Stay) -> u64| {
         let mut free_from: Vec<u64> = Vec::new();
         let mut rows = Vec::new();
@@ -86,7 +87,10 @@ fn rows(stays: &[Stay], threshold: u64) -> Vec<usize> {
         }
         (free_from.len(), rows)
     };
-    let (count, apart) = assign(&|stay| stay.gone.max(stay.frame.came + threshold));
+    let (count, apart) = assign(&|stay| {
+        let reached = stay.gone + queue.fixed_delay;
+        reached.max(stay.frame.came + queue.threshold)
+    });
     match count <= MOST_ROWS {
         true => apart,
         false => assign(&|stay| stay.gone).1,
@@ -99,7 +103,7 @@ impl Lanes<'_> {
         let (limits, shown) = (&self.hall.queues[queue], &self.recorder.shown[queue]);
         let mut stays = shown.stays.clone();
         stays.sort_by_key(|stay| (stay.frame.came, stay.first_bit));
-        let rows = rows(&stays, limits.threshold);
+        let rows = rows(&stays, limits);
         // Two rows at least: the lane's name and threshold stand beside it.
         let count = rows.iter().max().map_or(2, |row| (row + 1).max(2)) as f64;
         let row_height = ROW.min(MOST_HEIGHT / count);
@@ -144,8 +148,12 @@ impl Lanes<'_> {
             of_speed(stay.first_bit),
             of_speed(stay.first_bit + 8 * stay.frame.bytes),
         );
+        let cable = match queue.fixed_delay {
+            0 => String::new(),
+            _ => format!(", on the cable to {}", commas(self.hall.reached(stay))),
+        };
         self.drawing.raw(&format!(
-            "<title>flow {number} frame {}, {} bytes: came {}, sent from {:.2} to {:.2}, stay {} of {} µs</title>",
+            "<title>flow {number} frame {}, {} bytes: came {}, sent from {:.2} to {:.2}, stay {} of {} µs{cable}</title>",
             commas(stay.frame.number),
             commas(stay.frame.bytes),
             commas(stay.frame.came),
@@ -155,7 +163,22 @@ impl Lanes<'_> {
             commas(queue.threshold)
         ));
         self.bars(stay, sent, (y, height));
+        self.cable(stay, y + height / 2.0);
         self.drawing.raw("</g>");
+    }
+
+    /// A thin line from where the frame left to where it comes to its next queue or its destination.
+    fn cable(&mut self, stay: &Stay, y: f64) {
+        let (gone, reached) = (stay.gone as f64, self.hall.reached(stay) as f64);
+        if gone == reached || !self.scale.shows(gone, reached) {
+            return;
+        }
+        let look = format!(
+            "class=\"cable\" stroke=\"{}\"",
+            colours::sending(stay.frame.flow)
+        );
+        let at = |instant: f64| (self.scale.x(instant), y);
+        self.drawing.line(at(gone), at(reached), &look);
     }
 
     /// The threshold as a bar behind, then waiting and sending in the flow's two shades; the flow's
@@ -183,7 +206,7 @@ impl Lanes<'_> {
         if self.closest == Some(stay) {
             bar(came, gone, "class=\"closest\"");
         }
-        if limit <= scale.stretch.to as f64 {
+        if scale.holds(limit) {
             let x = scale.x(limit);
             drawing.line((x, y), (x, y + height), "class=\"limit\"");
         }

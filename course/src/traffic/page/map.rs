@@ -3,9 +3,10 @@
 use super::colours;
 use super::places::{places, Spot};
 use super::svg::{Drawing, Rect, WIDTH};
-use crate::numbers::per_cent;
+use crate::numbers::{commas, per_cent};
 use crate::traffic::figures::Seen;
 use crate::traffic::hall::Hall;
+use plain::table::Queue;
 use std::collections::BTreeMap;
 
 const NODE: f64 = 13.0;
@@ -102,9 +103,16 @@ fn spread(boxes: &mut [(Spot, f64)]) {
     }
 }
 
-/// The height of a box with so many levels.
-fn tall(levels: usize) -> f64 {
-    14.0 + ROW * levels as f64
+/// What a link's cable takes, `120 µs`; nothing where it takes no time.
+pub fn cable(link: &Queue) -> Option<String> {
+    let delay = link.fixed_delay;
+    (delay > 0).then(|| format!("{} µs", commas(delay)))
+}
+
+/// The height of a link's box: a row for each level, and one for its cable.
+fn tall(hall: &Hall, queues: &[usize]) -> f64 {
+    let cable = cable(&hall.queues[queues[0]]);
+    14.0 + ROW * (queues.len() + usize::from(cable.is_some())) as f64
 }
 
 pub fn map(hall: &Hall, seen: &[Seen]) -> String {
@@ -118,7 +126,7 @@ pub fn map(hall: &Hall, seen: &[Seen]) -> String {
 /// Nodes, curves and boxes.
 fn network(hall: &Hall, seen: &[Seen], spots: &BTreeMap<u64, Spot>) -> String {
     let curves = curves(hall, spots);
-    let at_curve = |curve: &Curve| (curve.middle(), tall(curve.queues.len()));
+    let at_curve = |curve: &Curve| (curve.middle(), tall(hall, &curve.queues));
     let mut boxes: Vec<(Spot, f64)> = curves.iter().map(at_curve).collect();
     spread(&mut boxes);
     let nodes = || spots.values().map(|spot| (*spot, 2.0 * NODE));
@@ -163,13 +171,13 @@ fn grid(hall: &Hall, seen: &[Seen]) -> String {
     for row in hall.links().chunks(IN_ROW) {
         let high = row
             .iter()
-            .map(|queues| tall(queues.len()))
+            .map(|queues| tall(hall, queues))
             .fold(0.0, f64::max);
         for (column, queues) in row.iter().enumerate() {
             let link = &hall.queues[queues[0]];
             let spot = Spot {
                 x: WIDTH / IN_ROW as f64 * (column as f64 + 0.5),
-                y: top + tall(queues.len()) / 2.0,
+                y: top + tall(hall, queues) / 2.0,
             };
             let name = format!("{}: {}→{}", link.link, link.from, link.to);
             draw_box(&mut drawing, hall, seen, queues, spot, &name);
@@ -194,7 +202,7 @@ fn bold(size: f64) -> String {
     format!("style=\"font-size:{size}px\" font-weight=\"bold\" text-anchor=\"middle\"")
 }
 
-/// The link's number and a row for each level.
+/// The link's number, a row for each level and what its cable takes.
 fn draw_box(
     drawing: &mut Drawing,
     hall: &Hall,
@@ -203,7 +211,7 @@ fn draw_box(
     spot: Spot,
     name: &str,
 ) {
-    let high = tall(queues.len());
+    let high = tall(hall, queues);
     let (x, top) = (spot.x - BOX / 2.0, spot.y - high / 2.0);
     drawing.rect(Rect(x, top, BOX, high), "class=\"box\"");
     // Numbers of four digits at both ends need smaller letters.
@@ -212,6 +220,11 @@ fn draw_box(
     for (row, &queue) in queues.iter().enumerate() {
         let y = top + 13.0 + row as f64 * ROW;
         draw_share(drawing, hall, queue, seen[queue].stay(), (x, y));
+    }
+    if let Some(delay) = cable(&hall.queues[queues[0]]) {
+        let look = "class=\"tiny\" text-anchor=\"middle\"";
+        // No room for a word before the longest.
+        drawing.text((spot.x, top + high - 3.0), look, &format!("+ {delay}"));
     }
 }
 

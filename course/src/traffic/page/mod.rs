@@ -41,7 +41,13 @@ pub fn page(
         title = escape(words.title),
         style = include_str!("style.css"),
     );
-    html += "<section>\n<h2>The hall</h2>\n<p>At each link, level by level, the longest stay in per cent of the threshold.</p>\n";
+    html += &format!(
+        "<section>\n<h2>The hall</h2>\n<p>At each link, level by level, the longest stay in per cent of the threshold{}.</p>\n",
+        match hall.has_cables() {
+            true => "; below, after a +, what its cable takes",
+            false => "",
+        }
+    );
     html += &map::map(hall, seen);
     html += "</section>\n<section>\n<h2>Every queue that carries a flow</h2>\n";
     html += &table(hall, seen, verdict);
@@ -92,8 +98,13 @@ fn drawings(hall: &Hall, seen: &[Seen], verdict: &Verdict, recorder: &Recorder) 
     let mut html = format!(
         "<section id=\"stretch\" data-from=\"{from}\" data-to=\"{to}\">\n<h2>Instants {} to {}</h2>\n\
          <p>A lane for each level: a frame waits in the light shade of its flow and is sent in the dark one. The grey bar behind it is its threshold, \
-         the black line its end; the frame with a black edge comes closest. Below, the bytes in the queue; the dashed line is the buffer.</p>\n",
-        commas(from), commas(to)
+         the black line its end; the frame with a black edge comes closest. {}Below, the bytes in the queue; the dashed line is the buffer.</p>\n",
+        commas(from),
+        commas(to),
+        match hall.has_cables() {
+            true => "The dotted line after a frame is its time on the cable, in no queue. ",
+            false => "",
+        }
     );
     html += &legend(hall, recorder);
     html += "</section>\n";
@@ -105,11 +116,12 @@ fn drawings(hall: &Hall, seen: &[Seen], verdict: &Verdict, recorder: &Recorder) 
             continue;
         }
         html += &format!(
-            "<section>\n<h2>Link {}, node {} to {}, {} Mbit/s</h2>\n",
+            "<section>\n<h2>Link {}, node {} to {}, {} Mbit/s{}</h2>\n",
             first.link,
             first.from,
             first.to,
-            commas(first.speed)
+            commas(first.speed),
+            map::cable(first).map_or(String::new(), |delay| format!(", cable {delay}"))
         );
         html += &lanes::link(hall, seen, recorder, verdict.closest.as_ref(), &queues);
         html += "</section>\n";

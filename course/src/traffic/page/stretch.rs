@@ -55,25 +55,28 @@ pub struct Shown {
 }
 
 /// Looks on and keeps what the stretch shows; the closest frame in any case.
-pub struct Recorder {
+pub struct Recorder<'a> {
     pub stretch: Stretch,
+    hall: &'a Hall,
     closest: Option<Stay>,
     pub shown: Vec<Shown>,
 }
 
-impl Recorder {
-    pub fn new(stretch: Stretch, hall: &Hall, closest: Option<Stay>) -> Recorder {
+impl Recorder<'_> {
+    pub fn new(stretch: Stretch, hall: &Hall, closest: Option<Stay>) -> Recorder<'_> {
         Recorder {
             stretch,
+            hall,
             closest,
             shown: vec![Shown::default(); hall.queues.len()],
         }
     }
 }
 
-impl Watch for Recorder {
+impl Watch for Recorder<'_> {
     fn stay(&mut self, stay: &Stay) {
-        if !self.stretch.meets(stay.frame.came, stay.gone) {
+        let reached = self.hall.reached(stay);
+        if !self.stretch.meets(stay.frame.came, reached) {
             return;
         }
         let shown = &mut self.shown[stay.queue];

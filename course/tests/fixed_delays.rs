@@ -1,0 +1,158 @@
+//! Fixed delays in a table's lines, in the deadline's sum and in the bounds.
+
+mod common;
+
+use common::{course, said, Temporary};
+
+const TABLE: &str = "   1   1   2   100 1    250     4000\n   1   1   2   100 2   1000    16000\n";
+
+/// What `check` says of the two lines with these bytes after their buffers.
+fn with_delays(first: &str, second: &str) -> Vec<String> {
+    let ends = [("4000", first), ("16000", second)];
+    let changed = ends.iter().fold(TABLE.to_string(), |text, (buffer, more)| {
+        text.replacen(&format!("{buffer}\n"), &format!("{buffer}{more}\n"), 1)
+    });
+    said(changed.as_bytes(), b"")
+}
+
+/// A fixed delay is right, missing in one line of a link, misplaced, or no number.
+#[test]
+fn fixed_delays() {
+    for right in ["", "      0", "    250", "  10000"] {
+        assert!(with_delays(right, right).is_empty(), "{right}");
+    }
+    assert!(with_delays("", "      0").is_empty());
+    let of_second = |more: &str, words: &str| {
+        let place = format!("table.txt:2:{words}");
+        assert_eq!(with_delays("    250", more), [place], "{more}");
+    };
+    let lacking = "in the line before, of the same link; a line without these columns means 0";
+    of_second(
+        "",
+        &format!("37: fixed delay: 0 differs from 250 {lacking}"),
+    );
+    of_second(
+        "    240",
+        "37: fixed delay: 240 differs from 250 in the line before, of the same link",
+    );
+    of_second("    2,0", "42: fixed delay: a comma");
+    of_second("   0250", "40: fixed delay: a leading zero");
+    of_second("250    ", "40: fixed delay: a blank right of a digit");
+    of_second("       ", "37: fixed delay: no number");
+    of_second(
+        "   250",
+        "37: fixed delay: 1 column too few before its number",
+    );
+    of_second(
+        " 250",
+        "37: fixed delay: 3 columns too few before its number",
+    );
+    of_second(
+        "      250",
+        "37: fixed delay: 2 columns too many before its number",
+    );
+    assert_eq!(
+        with_delays("  10001", "  10001"),
+        [1, 2].map(|line| format!(
+            "table.txt:{line}:37: fixed delay: 10,001 is out of range, 0 to 10,000"
+        ))
+    );
+}
+
+/// The columns forgotten in one line of three are one mistake, whichever line it is.
+#[test]
+fn a_line_that_lacks_its_fixed_delay_is_one_mistake() {
+    let line =
+        |level: usize, more: &str| format!("   1   1   2   100{level:>2}    250     4000{more}\n");
+    for (lacking, told) in [(1, 2), (2, 2), (3, 3)] {
+        let more = |level| if level == lacking { "" } else { "    120" };
+        let table: String = (1..=3).map(|level| line(level, more(level))).collect();
+        let said = said(table.as_bytes(), b"");
+        assert_eq!(said.len(), 1, "{said:?}");
+        assert!(said[0].starts_with(&format!("table.txt:{told}:37: fixed delay: ")));
+    }
+}
+
+/// Lines of other lengths: what stands behind the buffer or the fixed delay.
+#[test]
+fn lengths_of_table_lines() {
+    let of_first = |more: &str, words: &str| {
+        let place = format!("table.txt:1:{words}");
+        assert_eq!(with_delays(more, ""), [place], "{more}");
+    };
+    of_first(" ", "38: the line has 37 columns, 36 or 43 are right");
+    of_first("   x", "41: the line has 40 columns, 36 or 43 are right");
+    of_first(
+        "      0 ",
+        "44: 1 column too many: the line has 44, 43 are right",
+    );
+    let changed = |from: &str, to: &str, words: &str| {
+        let table = TABLE.replacen(from, to, 1);
+        assert_eq!(said(table.as_bytes(), b""), [format!("table.txt:{words}")]);
+    };
+    changed(
+        "     4000",
+        "      4000",
+        "1:28: buffer: 1 column too many before its number",
+    );
+    changed(
+        "     4000",
+        "    4000",
+        "1:28: buffer: 1 column too few before its number",
+    );
+    changed(
+        "   1000",
+        "    1000",
+        "2:21: threshold: 1 column too many before its number",
+    );
+}
+
+/// Two links, the second with a cable of 120 µs, and a flow over both.
+fn fibre(deadline: u64) -> Temporary {
+    let table = b"   1   1   2   100 1    250     4000
+   2   2   3   100 1    100     4000    120
+   2   2   3   100 2    500     4000    120
+";
+    let orders = format!(" 1     7      800     200  200{deadline:>8}  2   1 1   2 1\n");
+    Temporary::with(table, orders.as_bytes())
+}
+
+/// The deadline holds the cable of the last hop too, to the µs.
+#[test]
+fn a_cable_counts_against_the_deadline() {
+    let met = course(&["explain", &fibre(470).word()]).printed;
+    for line in [
+        "line 1: 0 place 1 (done)",
+        "    thresholds 250 + 100 = 350",
+        "    fixed delays 0 + 120 = 120",
+        "    together 350 + 120 = 470 of 470 µs",
+        // The burst grows with thresholds alone.
+        "      link 2 level 1: 200 + ceil(800 × 250 / 8000) = 225",
+        "    link 1: from node 1, to node 2, speed 100 Mbit/s",
+        "    link 2: from node 2, to node 3, speed 100 Mbit/s, fixed delay 120 µs",
+    ] {
+        assert!(met.lines().any(|known| known == line), "{line}: {met}");
+    }
+    let missed = course(&["explain", &fibre(469).word()]).printed;
+    for line in [
+        "line 1: 20 (thresholds and fixed delays above the deadline)",
+        "    The thresholds along the path sum to 350 µs and the fixed delays to 120 µs, together 470 µs, above the deadline of 469 µs.",
+        "    together 350 + 120 = 470 of 469 µs: above",
+    ] {
+        assert!(missed.lines().any(|known| known == line), "{line}: {missed}");
+    }
+}
+
+/// The bounds, 32 and 34 µs, and the thresholds with the cable.
+#[test]
+fn bounds_have_the_cables() {
+    let printed = course(&["bounds", &fibre(1_000).word()]).printed;
+    let title = "\nlink 2: from node 2, to node 3, speed 100 Mbit/s, fixed delay 120 µs; rates";
+    assert!(printed.contains(title), "{printed}");
+    let flows = "
+flows, end to end in µs
+  place  flow  hops  cables  bounds + cables  thresholds + cables  deadline     %
+      1     7     2     120              186                  470     1,000  18.6
+";
+    assert!(printed.ends_with(flows), "{printed}");
+}
