@@ -6,7 +6,7 @@ use mathlib.Core.Option.{Option, none, some}
 use lib.ListN.{length}
 use lib.Dec.{leb, ltb, eqb}
 use Rattle.model.specs.Words.{andThen}
-use Rattle.model.specs.Sizes.{linksMost, levelsMost, shortRowColumns, rowColumns, tableBytes}
+use Rattle.model.specs.Sizes.{linksMost, levelsMost, baseColumns, delayColumns, tableBytes}
 use Rattle.model.specs.Columns.{Line, ended, unended, lines, fieldAt, between}
 
 -- A queue of a link: threshold in µs, buffer in bytes.
@@ -39,7 +39,7 @@ pub record Row : Type 0 where
 
 -- A line may have these lengths, in columns.
 unfoldable pub isRowLength : ℕ → Bool
-isRowLength n = eqb n shortRowColumns || eqb n rowColumns
+isRowLength n = eqb n baseColumns || eqb n delayColumns
 
 -- A field that shorter lines haven't: there it is 0.
 unfoldable pub laterField : (first last : ℕ) → (line : List ℕ) → Option ℕ

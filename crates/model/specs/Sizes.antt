@@ -25,12 +25,15 @@ slotCount = 256
 abbrev pub hopEntries : ℕ
 hopEntries = 1024
 
--- Columns of a table line: the longest has rowColumns, one without a fixed delay shortRowColumns. Bytes of a table text, whose lines end in LF: 22,528.
-abbrev pub shortRowColumns : ℕ
-shortRowColumns = 36
+-- Columns of a table line, without a fixed delay and with one, and of the longest; bytes of a table text, whose lines end in LF: 22,528.
+abbrev pub baseColumns : ℕ
+baseColumns = 36
+
+abbrev pub delayColumns : ℕ
+delayColumns = 43
 
 abbrev pub rowColumns : ℕ
-rowColumns = 43
+rowColumns = delayColumns
 
 abbrev pub tableBytes : ℕ
 tableBytes = queuesMost * (rowColumns + 1)

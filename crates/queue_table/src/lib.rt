@@ -48,10 +48,13 @@ const COUNT: usize = LINK_NUMBERS * LINKS + QUEUE_NUMBERS * QUEUES;
 // How many numbers the array has.
 pub const TABLE_NUMBERS: usize = COUNT + 1;
 
-// How many columns a table line has, without a fixed delay and at the most, and how many bytes a table text at the most.
-const SHORT_ROW_COLUMNS: usize = 36;
+// How many columns a table line has, without a fixed delay and with one, and the longest; how many bytes a table text has
+// at the most.
+const BASE_COLUMNS: usize = 36;
 
-const ROW_COLUMNS: usize = 43;
+const DELAY_COLUMNS: usize = 43;
+
+const ROW_COLUMNS: usize = DELAY_COLUMNS;
 
 pub const TABLE_BYTES: usize = QUEUES * (ROW_COLUMNS + 1);
 

@@ -8,12 +8,12 @@ ghost use Rattle.columns.specs.View.{valueOf};
 ghost use Rattle.model.specs.Sizes.{linksMost};
 ghost use Rattle.model.specs.QueueTable.{isRowLength, laterField, row, rowInRange, continues, rowInTurn, sameLink, rowAgrees, rowCause};
 ghost use Rattle.queue_table.specs.View.{tableNumbers, rowOf, numbersOf, linksOf, codeOf};
+use crate::BASE_COLUMNS;
+use crate::DELAY_COLUMNS;
 use crate::Fault;
 use crate::Judgement;
 use crate::LEVELS;
 use crate::LINKS;
-use crate::ROW_COLUMNS;
-use crate::SHORT_ROW_COLUMNS;
 use crate::access::link_at;
 use columns::Field;
 
@@ -38,10 +38,10 @@ pub(crate) enum RowRead {
 fn is_row_length(columns: usize) -> bool
     ensures { λ b. ⌜ b ≡ isRowLength columns ⌝ }
 {
-    if columns == SHORT_ROW_COLUMNS {
+    if columns == BASE_COLUMNS {
         return true;
     }
-    columns == ROW_COLUMNS
+    columns == DELAY_COLUMNS
 }
 
 // A field that shorter lines haven't: there it is 0.
