@@ -60,6 +60,17 @@ workedBatches =
     0
     7
     "     1  0   1   0 0\n     2 20   0   0 0\n     3 15   0   1 1\n     4 16   0   1 1\n     5 22   0   2 1\n     6 21   0   2 0\n     7 13   0   0 0\n"
+    -- the same two links, the second with a fixed delay of 2 µs: one µs past the deadline (20), and just within it
+    ∷ worked
+    "   1   1   2   448 1      6      169\n   2   2   3   448 1      6      254      2\n"
+    " 1     1     1000     168   84      13  2   1 1   2 1\n 1     1     1000     168   84      14  2   1 1   2 1\n"
+    "........................................"
+    0
+    2
+    "     1 20   0   0 0\n     2  0   1   0 0\n"
+    -- lines of one link may differ in length, not in their fixed delay (4)
+    ∷ worked "   1   1   2   448 1      6      169\n   1   1   2   448 2      6      169      0\n" "" "" 0 0 ""
+    ∷ worked "   1   1   2   448 1      6      169\n   1   1   2   448 2      6      169      1\n" "" "" 4 2 ""
     ∷ []
 
 pub worked-batches : map (λ w. w .worked) workedBatches ≡ map (λ w. w .given) workedBatches
