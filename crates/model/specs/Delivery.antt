@@ -41,7 +41,7 @@ ofFlow weight j f = cond (eqb (f .flow) j) (weight (f .born) (f .length)) 0
 unfoldable pub atHop : (weight : ℕ → ℕ → ℕ) → (j i : ℕ) → Frame → ℕ
 atHop weight j i f = cond (eqb (f .hop) i) (ofFlow weight j f) 0
 
--- The frames that left link `n` less than `d` µs before instant `x`, or at it.
+-- The frames that left link `n` less than `d` µs before instant `x`, those that left at `x` among them.
 unfoldable pub leftSince : History → (n x d : ℕ) → List Frame
 leftSince before n x zero = []
 leftSince before n x (suc d) = leftSince before n x d ++ leftAgo before n x d
@@ -50,7 +50,7 @@ leftSince before n x (suc d) = leftSince before n x d ++ leftAgo before n x d
 unfoldable pub onCable : {t : Table} {fs : List Flow} → Run t fs → (x n : ℕ) → List Frame
 onCable {t} r x n = leftSince (r .before) n x (fixedDelayOf (linkAt t n))
 
--- What is at a hop, after the arrivals of instant `x`: in its queue, waiting or under way, and behind it on the cable of its link.
+-- What is at a hop, after the arrivals of instant `x`: in its queue, waiting or under way, and behind it on the cable, which the levels of its link share.
 unfoldable pub framesAt : {t : Table} {fs : List Flow} → Run t fs → (x : ℕ) → Hop → List Frame
 framesAt r x h = inQueue (h .level) (r .after x (h .link)) ++ onCable r x (h .link)
 

@@ -120,7 +120,7 @@ unfoldable pub append : (ℕ → List Frame) → (n : ℕ) → List (List Frame)
 append new n [] = []
 append new n (q ∷ qs) = (q ++ new n) ∷ append new (suc n) qs
 
--- The arrivals of an instant at a link: each level gets its own, and what has left goes on.
+-- The arrivals of an instant at a link: each level gets its own, and what has left is on the cable.
 unfoldable pub enter : (ℕ → List Frame) → LinkState → LinkState
 enter new l = record { wire = l .wire; levels = append new 1 (l .levels); left = [] }
 
