@@ -83,7 +83,7 @@ fn cables_are_drawn() {
         });
         assert_eq!(instants, drawn);
         // Links 5 and 6 in the map, link 5 above its lanes.
-        assert_eq!(made.page.matches(">+ 120 µs</text>").count(), 2);
+        assert_eq!(made.page.matches(">+120 µs</text>").count(), 2);
         assert!(made.page.contains("1,000 Mbit/s, cable 120 µs</h2>"));
         assert!(made
             .page

@@ -223,8 +223,8 @@ fn draw_box(
     }
     if let Some(delay) = cable(&hall.queues[queues[0]]) {
         let look = "class=\"tiny\" text-anchor=\"middle\"";
-        // No room for a word before the longest.
-        drawing.text((spot.x, top + high - 3.0), look, &format!("+ {delay}"));
+        // No room for a word before the longest, nor for a blank.
+        drawing.text((spot.x, top + high - 3.0), look, &format!("+{delay}"));
     }
 }
 
