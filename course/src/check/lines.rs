@@ -109,14 +109,14 @@ fn shift(line: &[u8], faults: &[Fault], reader: &Reader) -> Option<Mended> {
         let wide = fields.iter().filter(move |field| width(field) >= count);
         wide.flat_map(move |field| moved(line, field, count, reader))
     });
-    let mut first = None;
+    let mut fewest = None;
     for (slip, rest) in ways {
         if rest.is_empty() {
             return Some((slip, rest));
         }
-        first.get_or_insert((slip, rest));
+        fewest.get_or_insert((slip, rest));
     }
-    first
+    fewest
 }
 
 /// The same of one field and so many blanks.
