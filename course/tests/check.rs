@@ -109,6 +109,11 @@ fn order_line_ends() {
         "orders.txt:2:9: a CR before the LF",
     );
     in_orders(
+        "1 1\n 2",
+        "1 1 2",
+        "orders.txt:1:48: another line begins here: the LF before it is missing",
+    );
+    in_orders(
         " 1   101",
         "\u{feff} 1   101",
         "orders.txt:1:1: a byte order mark before the first column",

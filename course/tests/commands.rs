@@ -310,9 +310,6 @@ fn made_halls() {
         assert_eq!(marked.status, Status::Fine, "{}", marked.printed);
         let sheet = fs::read_to_string(format!("{out}/worksheet.txt")).unwrap();
         assert!(sheet.contains("Exercise two"));
-        let table = fs::read_to_string(format!("{out}/table.txt")).unwrap();
-        let fibre = table.lines().any(|line| line.len() > 36);
-        assert_eq!(sheet.contains("fixed delay"), fibre);
         assert_eq!(
             course(&["mark", &out, &format!("{out}/worksheet.txt")]).status,
             Status::Wrong

@@ -3,6 +3,7 @@
 mod common;
 
 use common::{course, said, Temporary};
+use std::fs;
 
 const TABLE: &str = "   1   1   2   100 1    250     4000\n   1   1   2   100 2   1000    16000\n";
 
@@ -15,48 +16,78 @@ fn with_delays(first: &str, second: &str) -> Vec<String> {
     said(changed.as_bytes(), b"")
 }
 
-/// A fixed delay is right, missing in one line of a link, misplaced, or no number.
+/// What `check` says of the second line with these bytes after its buffer, where the first has a fixed delay of 250 µs.
+fn of_second(more: &str, words: &[&str]) {
+    let places: Vec<String> = words
+        .iter()
+        .map(|words| format!("table.txt:2:{words}"))
+        .collect();
+    assert_eq!(with_delays("    250", more), places, "{more}");
+}
+
+/// A fixed delay is right, missing in one line of a link, out of range, or no number.
 #[test]
 fn fixed_delays() {
     for right in ["", "      0", "    250", "  10000"] {
         assert!(with_delays(right, right).is_empty(), "{right}");
     }
     assert!(with_delays("", "      0").is_empty());
-    let of_second = |more: &str, words: &str| {
-        let place = format!("table.txt:2:{words}");
-        assert_eq!(with_delays("    250", more), [place], "{more}");
-    };
-    let lacking = "in the line before, of the same link; a line without these columns means 0";
-    of_second(
-        "",
-        &format!("37: fixed delay: 0 differs from 250 {lacking}"),
-    );
-    of_second(
-        "    240",
-        "37: fixed delay: 240 differs from 250 in the line before, of the same link",
-    );
-    of_second("    2,0", "42: fixed delay: a comma");
-    of_second("   0250", "40: fixed delay: a leading zero");
-    of_second("250    ", "40: fixed delay: a blank right of a digit");
-    of_second("       ", "37: fixed delay: no number");
-    of_second(
-        "   250",
-        "37: fixed delay: 1 column too few before its number",
-    );
-    of_second(
-        " 250",
-        "37: fixed delay: 3 columns too few before its number",
-    );
-    of_second(
-        "      250",
-        "37: fixed delay: 2 columns too many before its number",
-    );
+    let lacking = "37: fixed delay: 0 differs from 250 in the line before, of the same link; a line without these columns means 0";
+    of_second("", &[lacking]);
+    let other = "37: fixed delay: 240 differs from 250 in the line before, of the same link";
+    of_second("    240", &[other]);
+    of_second("    2,0", &["42: fixed delay: a comma"]);
+    of_second("   0250", &["40: fixed delay: a leading zero"]);
+    of_second("250    ", &["40: fixed delay: a blank right of a digit"]);
+    of_second("       ", &["37: fixed delay: no number"]);
     assert_eq!(
         with_delays("  10001", "  10001"),
         [1, 2].map(|line| format!(
             "table.txt:{line}:37: fixed delay: 10,001 is out of range, 0 to 10,000"
         ))
     );
+}
+
+/// With nothing before it, 250 could be the buffer's last digits: then it would differ from the line before.
+#[test]
+fn misplaced_fixed_delays() {
+    for (more, words) in [
+        ("   250", "1 column too few"),
+        (" 250", "3 columns too few"),
+        ("250", "4 columns too few"),
+        ("      250", "2 columns too many"),
+    ] {
+        let place = format!("37: fixed delay: {words} before its number");
+        of_second(more, &[&place]);
+    }
+}
+
+/// In a line that ends within its fixed delay what is no digit is named too.
+#[test]
+fn no_digits_in_a_line_that_ends_too_soon() {
+    for (more, place, columns) in [
+        (" 1,000", "39: fixed delay: a comma", 42),
+        ("\t250", "37: fixed delay: a tab", 40),
+        ("   x", "40: fixed delay: a letter, `x`", 40),
+    ] {
+        let end = columns + 1;
+        let length = format!("{end}: the line has {columns} columns, 36 or 43 are right");
+        of_second(more, &[place, &length]);
+    }
+}
+
+/// Two lines in one, of all lengths.
+#[test]
+fn a_missing_line_end_within_a_table() {
+    for (first, column) in [("", 37), ("    250", 44)] {
+        for second in ["", "    250"] {
+            let lines = TABLE.replacen("4000\n", &format!("4000{first}"), 1);
+            let table = lines.replacen("16000\n", &format!("16000{second}\n"), 1);
+            let words = "another line begins here: the LF before it is missing";
+            let place = format!("table.txt:1:{column}: {words}");
+            assert_eq!(said(table.as_bytes(), b""), [place]);
+        }
+    }
 }
 
 /// The columns forgotten in one line of three are one mistake, whichever line it is.
@@ -81,7 +112,6 @@ fn lengths_of_table_lines() {
         assert_eq!(with_delays(more, ""), [place], "{more}");
     };
     of_first(" ", "38: the line has 37 columns, 36 or 43 are right");
-    of_first("   x", "41: the line has 40 columns, 36 or 43 are right");
     of_first(
         "      0 ",
         "44: 1 column too many: the line has 44, 43 are right",
@@ -155,4 +185,27 @@ flows, end to end in µs
       1     7     2     120              186                  470     1,000  18.6
 ";
     assert!(printed.ends_with(flows), "{printed}");
+}
+
+/// A made hall's sheet says what its fibre run takes; two of these seeds have one.
+#[test]
+fn a_made_halls_sheet_has_its_fixed_delay() {
+    let folder = Temporary::new();
+    let mut with_fibre = 0;
+    for seed in ["1", "2", "3"] {
+        let out = folder.0.join(seed);
+        course(&["hall", "--seed", seed, "--out", &out.display().to_string()]);
+        let read = |name: &str| fs::read_to_string(out.join(name)).unwrap();
+        let (table, sheet) = (read("table.txt"), read("worksheet.txt"));
+        let mut delays = table.lines().filter_map(|line| line.get(36..43));
+        let said = sheet.matches(", fixed delay ").count();
+        let Some(delay) = delays.next() else {
+            assert_eq!(said, 0);
+            continue;
+        };
+        with_fibre += 1;
+        assert_eq!(said, 1);
+        assert!(sheet.contains(&format!(", fixed delay {} µs\n", delay.trim())));
+    }
+    assert_eq!(with_fibre, 2);
 }

@@ -6,11 +6,13 @@ use checker::simulate;
 use common::pages::{check, drawn_by, made};
 use common::tags::{well_formed, Tag};
 use common::{course as call, example, Temporary};
+use course::hall::make;
 use course::status::Status;
 use halls::rng::Rng;
 use halls::tables::{full_ring, loose, table_text, Shape};
 use plain::orders::{write_registration, Flow, Hop};
 use plain::table::Queue;
+use std::fs;
 
 #[test]
 fn the_pages_figures_are_those_of_the_trace() {
@@ -83,7 +85,7 @@ fn cables_are_drawn() {
         });
         assert_eq!(instants, drawn);
         // Links 5 and 6 in the map, link 5 above its lanes.
-        assert_eq!(made.page.matches(">+ 120 µs</text>").count(), 2);
+        assert_eq!(made.page.matches(">+120 µs</text>").count(), 2);
         assert!(made.page.contains("1,000 Mbit/s, cable 120 µs</h2>"));
         assert!(made
             .page
@@ -224,6 +226,44 @@ fn large_halls_have_a_map() {
         assert_eq!(made.page.matches("class=\"node\"").count(), nodes);
         let links = queues.iter().filter(|queue| queue.level == 1).count();
         assert_eq!(made.page.matches("class=\"box\"").count(), links);
+    }
+}
+
+/// A ring of three, whose last link passes the node between its ends, and made halls, with a link at the map's edge: no box
+/// is cut off or lies under a node.
+#[test]
+fn boxes_can_be_read() {
+    let link = |link: u64, to: u64| format!("{link:>4}{link:>4}{to:>4}   100 1    400     4000\n");
+    let ring = [link(1, 2), link(2, 3), link(3, 1)].concat();
+    let mut halls = vec![(ring.into_bytes(), Vec::new())];
+    halls.extend((1..=5).map(|seed| (make(seed).table, make(seed).orders)));
+    for (table, orders) in halls {
+        let folder = Temporary::with(&table, &orders);
+        let (sends, page) = (
+            folder.write("sends.txt", b""),
+            folder.write("page.html", b""),
+        );
+        let drawn = call(&["traffic", &folder.word(), &sends, "--page", &page]);
+        assert_eq!(drawn.status, Status::Fine, "{}", drawn.errors);
+        let text = fs::read_to_string(&page).unwrap();
+        let tags = well_formed(&text).unwrap();
+        let sizes = |class: &str, names: &[&str]| -> Vec<Vec<f64>> {
+            let found = tags.iter().filter(|tag| tag.get("class") == Some(class));
+            let size = |tag: &Tag, name| tag.get(name).unwrap().parse().unwrap();
+            found
+                .map(|tag| names.iter().map(|name| size(tag, name)).collect())
+                .collect()
+        };
+        let boxes = sizes("box", &["x", "y", "width", "height"]);
+        assert!(!boxes.is_empty());
+        for area in boxes {
+            let (right, low) = (area[0] + area[2], area[1] + area[3]);
+            assert!(area[0] >= 0.0 && right <= 640.0, "{area:?}");
+            for node in sizes("node", &["cx", "cy"]) {
+                let across = (area[0]..right).contains(&node[0]);
+                assert!(!across || !(area[1]..low).contains(&node[1]), "{area:?}");
+            }
+        }
     }
 }
 

@@ -231,19 +231,11 @@ fn limits_are_met_exactly() {
             hops: vec![Hop { link: 1, level: 1 }],
         };
         let hall = Hall::new(vec![queue], vec![flow]);
-        let list = sends::expand(
-            &sends::read("5 7 1542", &hall.flows).unwrap(),
-            &hall.flows,
-            0,
-        );
+        let entries = sends::read("5 7 1542", &hall.flows).unwrap();
+        let list = sends::expand(&entries, &hall.flows, 0).unwrap();
         let mut figures = Figures::new(&hall.queues);
         let network = Network::new(&hall.queues, &hall.flows);
-        run(
-            &network,
-            &list.unwrap(),
-            Arrivals::ForwardedFirst,
-            &mut figures,
-        );
+        run(&network, &list, Arrivals::ForwardedFirst, &mut figures);
         let verdict = Verdict::of(&hall.queues, &figures.seen);
         (verdict.late, verdict.exceeded.len(), verdict.kept())
     };

@@ -78,7 +78,11 @@ impl Field {
         };
         let Some(columns) = line.get(self.first - 1..self.last) else {
             let columns = line.len();
-            return Err(fault(columns + 1, What::Short { columns }));
+            let there = line.get(self.first - 1..).unwrap_or_default();
+            return Err(match there.iter().position(foreign) {
+                Some(at) => fault(self.first + at, What::Byte(there[at])),
+                None => fault(columns + 1, What::Short { columns }),
+            });
         };
         number(columns).map_err(|(at, what)| fault(self.first + at, what))
     }
@@ -105,9 +109,13 @@ impl Field {
     }
 }
 
+/// Neither a digit nor a blank.
+fn foreign(byte: &u8) -> bool {
+    !(byte.is_ascii_digit() || *byte == b' ')
+}
+
 /// The number that fills these columns from the right; else what is wrong, and at which of them.
 fn number(columns: &[u8]) -> Result<u64, (usize, What)> {
-    let foreign = |byte: &u8| !(byte.is_ascii_digit() || *byte == b' ');
     if let Some(at) = columns.iter().position(foreign) {
         return Err((at, What::Byte(columns[at])));
     }

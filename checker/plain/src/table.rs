@@ -139,11 +139,9 @@ pub fn examine(line: &Line, before: Option<&Queue>) -> (Option<Queue>, Vec<Fault
     }
     let mut queue = Queue::default();
     let mut faults: Vec<Fault> = length_fault(line.bytes.len()).into_iter().collect();
-    let shortest = LENGTHS[0];
-    for entry in &ENTRIES {
-        if entry.field.last > shortest.max(line.bytes.len()) {
-            continue;
-        }
+    // A field past the shortest length counts where the line goes into it.
+    let end = LENGTHS[0].max(line.bytes.len());
+    for entry in ENTRIES.iter().filter(|entry| entry.field.first <= end) {
         match entry.field.read(line.bytes) {
             Ok(value) => (entry.set)(&mut queue, value),
             Err(fault) => faults.push(fault),

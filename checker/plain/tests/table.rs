@@ -83,6 +83,24 @@ fn what_is_said_of_a_length() {
     assert_eq!(found(44), Some(long));
 }
 
+/// A line that ends within its fixed delay: the length, and what is no digit there.
+#[test]
+fn what_is_said_of_a_cut_fixed_delay() {
+    let bytes = [SHORT, " 1,0"].concat().into_bytes();
+    let line = plain::columns::Line {
+        bytes: &bytes,
+        ended: true,
+    };
+    let (queue, faults) = examine(&line, None);
+    assert_eq!(queue, None);
+    let found: Vec<(usize, What)> = faults
+        .into_iter()
+        .map(|fault| (fault.column, fault.what))
+        .collect();
+    let length = What::Length { columns: 40 };
+    assert_eq!(found, [(41, length), (39, What::Byte(b','))]);
+}
+
 /// 5 is above 512 of the longest lines; 513 of the shortest fit, and are one too many.
 #[test]
 fn size_of_a_text() {

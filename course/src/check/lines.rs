@@ -50,14 +50,12 @@ pub fn mistakes(line: &Line, reader: &Reader) -> Vec<Mistake> {
         let mark = named(line.bytes.len(), "", "a CR before the LF".to_string());
         return with_rest(mark, rest, 0, reader);
     }
-    if let Some((moved, repaired)) = shift(line.bytes, &faults, reader) {
-        let rest = (reader.faults)(&whole(&repaired));
-        return std::iter::once(moved)
-            .chain(rest.iter().map(told))
-            .collect();
+    if let Some((slip, rest)) = shift(line.bytes, &faults, reader) {
+        let rest = rest.iter().map(told);
+        return std::iter::once(slip).chain(rest).collect();
     }
     if out_of_step(&faults) {
-        return few(&faults);
+        return joined(line.bytes, reader).unwrap_or_else(|| few(&faults));
     }
     faults.iter().map(told).collect()
 }
@@ -89,9 +87,12 @@ fn out_of_step(faults: &[Fault]) -> bool {
     count(&length) > 0 || count(&apart) > 1
 }
 
-/// Where a line would be right with some blanks more or fewer before one field: that, and the line so mended. The fewest
-/// blanks count, and of several fields the last one.
-fn shift(line: &[u8], faults: &[Fault], reader: &Reader) -> Option<(Mistake, Vec<u8>)> {
+/// A slip, and what else is wrong with the line once it is mended.
+type Mended = (Mistake, Vec<Fault>);
+
+/// Where a line would be right with some blanks more or fewer before one field. One that leaves no other fault counts
+/// first, then the fewest blanks, and of several fields the last one.
+fn shift(line: &[u8], faults: &[Fault], reader: &Reader) -> Option<Mended> {
     // Where all fields can be read, what is too much stands behind them; a digit may have been pushed there.
     let pushed = line.last().is_some_and(u8::is_ascii_digit);
     let misplaced = |fault: &&Fault| {
@@ -104,26 +105,35 @@ fn shift(line: &[u8], faults: &[Fault], reader: &Reader) -> Option<(Mistake, Vec
     let fields: Vec<&Field> = reader.fields.iter().rev().filter(before).collect();
     let width = |field: &Field| field.last + 1 - field.first;
     let widest = fields.iter().map(|field| width(field)).max()?;
-    (1..=widest).find_map(|count| {
-        let mut wide = fields.iter().filter(|field| width(field) >= count);
-        wide.find_map(|field| moved(line, field, count, reader))
-    })
+    let ways = (1..=widest).flat_map(|count| {
+        let wide = fields.iter().filter(move |field| width(field) >= count);
+        wide.flat_map(move |field| moved(line, field, count, reader))
+    });
+    let mut fewest = None;
+    for (slip, rest) in ways {
+        if rest.is_empty() {
+            return Some((slip, rest));
+        }
+        fewest.get_or_insert((slip, rest));
+    }
+    fewest
 }
 
 /// The same of one field and so many blanks.
-fn moved(line: &[u8], field: &Field, count: usize, reader: &Reader) -> Option<(Mistake, Vec<u8>)> {
+fn moved(line: &[u8], field: &Field, count: usize, reader: &Reader) -> Vec<Mended> {
     let few = with_blanks(line, field.first - 1, count);
     let many = without_blanks(line, field.first - 1, count);
+    let mut all = Vec::new();
     for (repaired, word) in [(few, "few"), (many, "many")] {
         let Some(repaired) = repaired else { continue };
-        let left = first_class(&(reader.faults)(&whole(&repaired)));
-        if left != Some(Class::Columns) {
+        let rest = (reader.faults)(&whole(&repaired));
+        if first_class(&rest) != Some(Class::Columns) {
             let columns = counted(count, "column", "columns");
             let words = format!("{columns} too {word} before its number");
-            return Some((named(field.first, field.name, words), repaired));
+            all.push((named(field.first, field.name, words), rest));
         }
     }
-    None
+    all
 }
 
 fn with_blanks(line: &[u8], at: usize, count: usize) -> Option<Vec<u8>> {
@@ -137,6 +147,17 @@ fn without_blanks(line: &[u8], at: usize, count: usize) -> Option<Vec<u8>> {
     let (taken, after) = rest.split_at_checked(count)?;
     let blank = taken.iter().all(|&byte| byte == b' ');
     (blank && !after.is_empty()).then(|| [before, after].concat())
+}
+
+/// Where a line is two, each right by itself: that.
+fn joined(line: &[u8], reader: &Reader) -> Option<Vec<Mistake>> {
+    let right = |part: &[u8]| {
+        let class = first_class(&(reader.faults)(&whole(part)));
+        class.is_none_or(|class| class > Class::Range)
+    };
+    let at = (1..line.len()).find(|&at| right(&line[..at]) && right(&line[at..]))?;
+    let words = "another line begins here: the LF before it is missing";
+    Some(vec![named(at + 1, "", words.to_string())])
 }
 
 /// Of a line of a wrong length: bytes that are no digit, else the first field that is wrong, and the length. The fields

@@ -27,7 +27,7 @@ impl Seen {
 pub struct Figures<'a> {
     queues: &'a [Queue],
     pub seen: Vec<Seen>,
-    /// The last instant at which a frame came from a cable.
+    /// The last instant at which a frame reached a next queue or its destination.
     pub end: u64,
 }
 

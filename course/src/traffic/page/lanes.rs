@@ -9,7 +9,6 @@ use crate::traffic::figures::Seen;
 use crate::traffic::hall::Hall;
 use crate::traffic::run::Stay;
 use crate::traffic::trace;
-use plain::table::Queue;
 
 const ROW: f64 = 11.0;
 /// With more rows than fit, rows are lower.
@@ -72,7 +71,7 @@ pub fn link(
 
 /// The row of each stay: the first one that is free again, where a row is taken until the
 /// threshold's end and the cable's, or with many frames until the frame has left.
-fn rows(stays: &[Stay], queue: &Queue) -> Vec<usize> {
+fn rows(hall: &Hall, stays: &[Stay], threshold: u64) -> Vec<usize> {
     let assign = |end: &dyn Fn(&Stay) -> u64| {
         let mut free_from: Vec<u64> = Vec::new();
         let mut rows = Vec::new();
@@ -88,8 +87,8 @@ fn rows(stays: &[Stay], queue: &Queue) -> Vec<usize> {
         (free_from.len(), rows)
     };
     let (count, apart) = assign(&|stay| {
-        let reached = stay.gone + queue.fixed_delay;
-        reached.max(stay.frame.came + queue.threshold)
+        let limit = stay.frame.came + threshold;
+        limit.max(hall.reached(stay))
     });
     match count <= MOST_ROWS {
         true => apart,
@@ -103,7 +102,7 @@ impl Lanes<'_> {
         let (limits, shown) = (&self.hall.queues[queue], &self.recorder.shown[queue]);
         let mut stays = shown.stays.clone();
         stays.sort_by_key(|stay| (stay.frame.came, stay.first_bit));
-        let rows = rows(&stays, limits);
+        let rows = rows(self.hall, &stays, limits.threshold);
         // Two rows at least: the lane's name and threshold stand beside it.
         let count = rows.iter().max().map_or(2, |row| (row + 1).max(2)) as f64;
         let row_height = ROW.min(MOST_HEIGHT / count);

@@ -25,10 +25,13 @@ struct Curve {
 }
 
 impl Curve {
-    fn middle(&self) -> Spot {
+    /// Its middle, or as near to it as a box isn't cut off.
+    fn box_spot(&self) -> Spot {
         let half = |a: f64, bend: f64, b: f64| (a + 2.0 * bend + b) / 4.0;
+        let edge = BOX / 2.0 + 1.0;
+        let x = half(self.from.x, self.bend.x, self.to.x);
         Spot {
-            x: half(self.from.x, self.bend.x, self.to.x),
+            x: x.clamp(edge, WIDTH - edge),
             y: half(self.from.y, self.bend.y, self.to.y),
         }
     }
@@ -44,7 +47,17 @@ fn short_of(start: Spot, end: Spot, by: f64) -> Spot {
     }
 }
 
-/// The links' curves; those between the same two nodes bend to different sides.
+/// Whether a straight line between two nodes runs through a third.
+fn through(from: Spot, to: Spot, node: Spot) -> bool {
+    let (dx, dy) = (to.x - from.x, to.y - from.y);
+    let (nx, ny) = (node.x - from.x, node.y - from.y);
+    let length = dx.hypot(dy).max(0.001);
+    let (along, aside) = ((nx * dx + ny * dy) / length, (nx * dy - ny * dx) / length);
+    along > NODE && along < length - NODE && aside.abs() < NODE
+}
+
+/// The links' curves; those between the same two nodes bend to different sides, and one that would run through a third so
+/// far that its box is beside it.
 fn curves(hall: &Hall, spots: &BTreeMap<u64, Spot>) -> Vec<Curve> {
     let mut between: BTreeMap<(u64, u64), u32> = BTreeMap::new();
     let mut curves = Vec::new();
@@ -65,7 +78,12 @@ fn curves(hall: &Hall, spots: &BTreeMap<u64, Spot>) -> Vec<Curve> {
         let length = dx.hypot(dy).max(0.001);
         // The way back sees its own right hand, so both bend the same amount to be apart.
         let side = 30.0 * f64::from(1 + *turn / 2);
-        let aside = if shared > 1 { side } else { 0.0 };
+        let beside = BOX.max(tall(hall, &queues)) / 2.0 + NODE + 4.0;
+        let aside = match spots.values().any(|&node| through(from, to, node)) {
+            true => side.max(beside),
+            false if shared > 1 => side,
+            false => 0.0,
+        };
         *turn += 1;
         curves.push(Curve {
             queues,
@@ -126,7 +144,7 @@ pub fn map(hall: &Hall, seen: &[Seen]) -> String {
 /// Nodes, curves and boxes.
 fn network(hall: &Hall, seen: &[Seen], spots: &BTreeMap<u64, Spot>) -> String {
     let curves = curves(hall, spots);
-    let at_curve = |curve: &Curve| (curve.middle(), tall(hall, &curve.queues));
+    let at_curve = |curve: &Curve| (curve.box_spot(), tall(hall, &curve.queues));
     let mut boxes: Vec<(Spot, f64)> = curves.iter().map(at_curve).collect();
     spread(&mut boxes);
     let nodes = || spots.values().map(|spot| (*spot, 2.0 * NODE));
@@ -223,8 +241,8 @@ fn draw_box(
     }
     if let Some(delay) = cable(&hall.queues[queues[0]]) {
         let look = "class=\"tiny\" text-anchor=\"middle\"";
-        // No room for a word before the longest.
-        drawing.text((spot.x, top + high - 3.0), look, &format!("+ {delay}"));
+        // No room for a word before the longest, nor for a blank.
+        drawing.text((spot.x, top + high - 3.0), look, &format!("+{delay}"));
     }
 }
 
