@@ -1,9 +1,10 @@
--- Document 01, "Sums to check by hand", the starred ones, and those of request W-201: 100 Mbit/s, flows of rate 1,000, burst and frame 1,542.
+-- Document 01, "Sums to check by hand", the starred ones, and some of our own for request W-201: 100 Mbit/s, flows of rate 1,000, burst and frame 1,542.
 -- That each comes out as given is shown in `Laws.HandSums`.
 use Prim.Native.Nat.{ℕ}
 use mathlib.Core.List.{List, [], _∷_, map}
 use mathlib.Core.Option.{Option, none, some}
 use lib.ListN.{getD}
+use Rattle.model.specs.Sizes.{tableBytes}
 use Rattle.model.specs.Formula.{Aggregate, delay, backlog}
 use Rattle.model.specs.QueueTable.{Link, Table}
 use Rattle.model.specs.Orders.{Hop, Flow}
@@ -39,7 +40,7 @@ unfoldable pub code : Option Cause → ℕ
 code none = 0
 code (some c) = c .code
 
--- What is worked out, and what document 01 gives for it.
+-- What is worked out, and what is given for it.
 pub record Sum : Type 0 where
   pub worked : ℕ
   pub given : ℕ
@@ -66,4 +67,6 @@ handSums =
     -- three thresholds and fixed delays of 295, 296 and 296 are the deadline, 2,000; with one µs of cable more at the last hop it is missed
     ∷ sum (code (deadlineFinding (links 296) flow)) 0
     ∷ sum (code (deadlineFinding (links 297) flow)) 20
+    -- the longest table text
+    ∷ sum tableBytes 22528
     ∷ []

@@ -81,7 +81,7 @@ unfoldable pub interval : ℕ → LinkState → LinkState
 interval zero l = l
 interval (suc n) l = bitSlot (interval n l)
 
--- The queue that a frame is on its way to or stands in: none once its path has ended.
+-- The queue of a frame's hop: the one that it stands in or reaches, on a cable the one that it has left; none once its path has ended.
 unfoldable pub hopOf : List Flow → Frame → Option Hop
 hopOf fs f = andThen (getElem? fs (f .flow)) λ fl. getElem? (fl .path) (f .hop)
 

@@ -71,6 +71,13 @@ workedBatches =
     -- lines of one link may differ in length, not in their fixed delay (4)
     ∷ worked "   1   1   2   448 1      6      169\n   1   1   2   448 2      6      169      0\n" "" "" 0 0 ""
     ∷ worked "   1   1   2   448 1      6      169\n   1   1   2   448 2      6      169      1\n" "" "" 4 2 ""
+    -- a fixed delay of 10,000 is in range, one more isn't (2), and its field begins in column 37
+    ∷ worked "   1   1   2   448 1      6      169  10000\n" "" "" 0 0 ""
+    ∷ worked "   1   1   2   448 1      6      169  10001\n" "" "" 2 1 ""
+    ∷ worked "   1   1   2   448 1      6      1691000000\n" "" "" 2 1 ""
+    -- 42 and 44 columns (1)
+    ∷ worked "   1   1   2   448 1      6      169     0\n" "" "" 1 1 ""
+    ∷ worked "   1   1   2   448 1      6      169      0 \n" "" "" 1 1 ""
     ∷ []
 
 pub worked-batches : map (λ w. w .worked) workedBatches ≡ map (λ w. w .given) workedBatches

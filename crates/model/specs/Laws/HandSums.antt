@@ -1,4 +1,4 @@
--- The sums to check by hand come out as the papers give them. By computation. Assumes nothing.
+-- The sums to check by hand come out as given. By computation. Assumes nothing.
 use mathlib.Core.Path.{_≡_, refl}
 use mathlib.Core.List.{map}
 use Rattle.model.specs.Words.{nth}
