@@ -37,11 +37,10 @@ text =
 pub registers : String → Call
 registers line = record { kind = registering; bytes = bytes line }
 
--- Flow 1 over both links, flow 2 on the lower level of link 1, flow 3 on link 2. Thresholds and fixed delays sum to 16, 12
--- and 8; the deadlines are these, and one µs more for flow 1.
+-- Flow 1 over both links, flow 2 on the lower level of link 1, flow 3 on link 2. Their deadlines are what thresholds and fixed delays sum to.
 pub calls : List Call
 calls =
-    registers " 1     1     1000     168   84      17  2   1 1   2 1\n"
+    registers " 1     1     1000     168   84      16  2   1 1   2 1\n"
     ∷ registers " 1     2     1000     252   84      12  1   1 2\n"
     ∷ registers " 1     3     1000      84   84       8  1   2 1\n"
     ∷ []
@@ -57,7 +56,7 @@ flow number burst deadline path =
     record { number = number; rate = 1000; burst = burst; frame = 84; deadline = deadline; path = path }
 
 abbrev pub flows : List Flow
-flows = flow 1 168 17 (at 1 1 ∷ at 2 1 ∷ []) ∷ flow 2 252 12 (at 1 2 ∷ []) ∷ flow 3 84 8 (at 2 1 ∷ []) ∷ []
+flows = flow 1 168 16 (at 1 1 ∷ at 2 1 ∷ []) ∷ flow 2 252 12 (at 1 2 ∷ []) ∷ flow 3 84 8 (at 2 1 ∷ []) ∷ []
 
 abbrev pub table : Table
 table =
@@ -165,23 +164,18 @@ conforming = record { bound = bound }
 pub timely : Timely table flows
 timely = subst (λ t. Timely t flows) (the-state .0) (subst (Timely (state .table)) (the-state .1) (reached-timely (bytes text) calls))
 
-abbrev Limits : Flow → Type 0
-Limits f = (pathDelay table (f .path) ≤ 16) × (f .deadline ≤ 17)
-
-limits : (j : ℕ) (f : Flow) → getElem? flows j ≡ some f → Limits f
+sums : (j : ℕ) (f : Flow) → getElem? flows j ≡ some f → pathDelay table (f .path) ≤ 16
 unfolding pathDelay total linkAt queueAt thresholdOf fixedDelayOf nth
-limits zero f e = subst Limits (Option·some-injective _ f e) (omega arith, omega arith)
-limits (suc zero) f e = subst Limits (Option·some-injective _ f e) (omega arith, omega arith)
-limits (suc (suc zero)) f e = subst Limits (Option·some-injective _ f e) (omega arith, omega arith)
-limits (suc (suc (suc j))) f e = absurd (Option·none-ne-some f e)
+sums zero f e = subst (λ z. pathDelay table (z .path) ≤ 16) (Option·some-injective _ f e) (omega arith)
+sums (suc zero) f e = subst (λ z. pathDelay table (z .path) ≤ 16) (Option·some-injective _ f e) (omega arith)
+sums (suc (suc zero)) f e = subst (λ z. pathDelay table (z .path) ≤ 16) (Option·some-injective _ f e) (omega arith)
+sums (suc (suc (suc j))) f e = absurd (Option·none-ne-some f e)
 
--- Who is delivered was sent at most the greatest sum ago, and at most the greatest deadline.
-pub end-to-end : (x : ℕ) → All (λ f. (x ≤ f .born + 16) × (x ≤ f .born + 17)) (delivered worked x)
+-- Who is delivered was sent at most the greatest of the sums ago.
+pub end-to-end : (x : ℕ) → All (λ f. x ≤ f .born + 16) (delivered worked x)
 unfolding runOf
 end-to-end x =
-    all-imp (delivered worked x)
-    (λ f i. let m = limits (f .flow) (i .flow) (i .known) in (omega (arith, i .path, m .0), omega (arith, i .deadline, m .1)))
-    (timely .inTime worked conforming x)
+    all-imp (delivered worked x) (λ f i. omega (arith, i .path, sums (f .flow) (i .flow) (i .known))) (timely .inTime worked conforming x)
 
 pub on-time : (x : ℕ) (h : Hop) (q : Queue) → queueAt table h ≡ some q → Punctual table flows worked x h q
 unfolding runOf
