@@ -25,6 +25,10 @@ unfoldable pub fixedDelayOf : Option Link → ℕ
 fixedDelayOf none = 0
 fixedDelayOf (some l) = l .fixedDelay
 
+unfoldable pub bestEffortOf : Option Link → ℕ
+bestEffortOf none = 0
+bestEffortOf (some l) = l .bestEffort
+
 -- What a flow adds at its source: its rate, its burst and its largest frame.
 abbrev pub source : Flow → Aggregate
 source f = record { rate = f .rate; burst = f .burst; frame = f .frame }

@@ -13,7 +13,17 @@ use Rattle.model.specs.Reference.{State, heldFlows, heldHops, withNumber
 -- A queue of a link as a table line gives it. Its turn is its place in the table.
 unfoldable pub rowOf : Link → Queue → Row
 rowOf l q =
-    record { link = 0; from = l .from; to = l .to; speed = l .speed; level = 0; threshold = q .threshold; buffer = q .buffer; fixedDelay = l .fixedDelay }
+    record {
+      link = 0;
+      from = l .from;
+      to = l .to;
+      speed = l .speed;
+      level = 0;
+      threshold = q .threshold;
+      buffer = q .buffer;
+      fixedDelay = l .fixedDelay;
+      bestEffort = l .bestEffort;
+    }
 
 -- A link passes 2, 3 and 4: its ranges, 1 to 8 levels, two nodes.
 unfoldable pub linkConsistent : Link → Bool

@@ -1,6 +1,6 @@
 -- Document 01, "The book": the threshold-based model in whole units. Bytes on the wire, kbit/s, µs; a link's speed in Mbit/s.
--- The equations are those of source 000.
-use Prim.Native.Nat.{ℕ, _+_, _-_, _*_, _/_}
+-- The equations are those of source 000. Request W-202: the link's best-effort frame.
+use Prim.Native.Nat.{ℕ, _+_, _-_, _*_, _/_, max}
 use mathlib.Core.Bool.{Bool}
 use mathlib.Core.List.{List}
 use lib.Dec.{ltb}
@@ -37,15 +37,19 @@ pub record Aggregate : Type 0 where
   pub frame : ℕ
 
 -- A level of a link stands between those above it (served first) and those below it.
--- Y: burst sums above, the largest frame below, and the level's own largest frame.
-unfoldable pub interference : (above : List Aggregate) (own : Aggregate) (below : List Aggregate) → ℕ
-interference above own below = total (λ a. a .burst) above + largest (λ a. a .frame) below + own .frame
+-- Blocking: what is under way isn't broken off. It may be of a level below, or a best-effort frame, and then at the last level too: the larger of the two.
+unfoldable pub blocking : (bestEffort : ℕ) (below : List Aggregate) → ℕ
+blocking bestEffort below = max (largest (λ a. a .frame) below) bestEffort
+
+-- Y: burst sums above, blocking, and the level's own largest frame.
+unfoldable pub interference : (bestEffort : ℕ) (above : List Aggregate) (own : Aggregate) (below : List Aggregate) → ℕ
+interference bestEffort above own below = total (λ a. a .burst) above + blocking bestEffort below + own .frame
 
 unfoldable pub levelResidual : (speed : ℕ) (above : List Aggregate) → ℕ
 levelResidual speed above = residual speed (total (λ a. a .rate) above)
 
-unfoldable pub delay : (speed : ℕ) (above : List Aggregate) (own : Aggregate) (below : List Aggregate) → ℕ
-delay speed above own below = delayBound (interference above own below) (own .burst) (levelResidual speed above)
+unfoldable pub delay : (speed bestEffort : ℕ) (above : List Aggregate) (own : Aggregate) (below : List Aggregate) → ℕ
+delay speed bestEffort above own below = delayBound (interference bestEffort above own below) (own .burst) (levelResidual speed above)
 
-unfoldable pub backlog : (speed : ℕ) (above : List Aggregate) (own : Aggregate) (below : List Aggregate) → ℕ
-backlog speed above own below = backlogBound (own .rate) (own .burst) (interference above own below) (levelResidual speed above)
+unfoldable pub backlog : (speed bestEffort : ℕ) (above : List Aggregate) (own : Aggregate) (below : List Aggregate) → ℕ
+backlog speed bestEffort above own below = backlogBound (own .rate) (own .burst) (interference bestEffort above own below) (levelResidual speed above)

@@ -1,4 +1,4 @@
--- Document 01, "Sums to check by hand", the starred ones, and some of our own for request W-201: 100 Mbit/s, flows of rate 1,000, burst and frame 1,542.
+-- Document 01, "Sums to check by hand", the starred ones, and those of requests W-201 and W-202: 100 Mbit/s, flows of rate 1,000, burst and frame 1,542.
 -- That each comes out as given is shown in `Laws.HandSums`.
 use Prim.Native.Nat.{ℕ}
 use mathlib.Core.List.{List, [], _∷_, map}
@@ -20,7 +20,7 @@ rateOnly r = record { rate = r; burst = 0; frame = 0 }
 
 -- Links of one level with a threshold of 371, and with a fixed delay; those of a path, the last one's given.
 unfoldable pub link : (fixedDelay : ℕ) → Link
-link fixedDelay = record { from = 1; to = 2; speed = 100; fixedDelay = fixedDelay; levels = record { threshold = 371; buffer = 2000 } ∷ [] }
+link fixedDelay = record { from = 1; to = 2; speed = 100; fixedDelay = fixedDelay; bestEffort = 0; levels = record { threshold = 371; buffer = 2000 } ∷ [] }
 
 unfoldable pub links : (last : ℕ) → Table
 links last = link 295 ∷ link 296 ∷ link last ∷ []
@@ -51,13 +51,20 @@ sum worked given = record { worked = worked; given = given }
 unfoldable pub handSums : List Sum
 handSums =
     -- one flow, level 1
-    sum (delay 100 [] one []) 247
-    ∷ sum (backlog 100 [] one []) 1558
+    sum (delay 100 0 [] one []) 247
+    ∷ sum (backlog 100 0 [] one []) 1558
     -- a second on level 2: there, and then on level 1
-    ∷ sum (delay 100 (one ∷ []) one []) 374
-    ∷ sum (backlog 100 (one ∷ []) one []) 1574
-    ∷ sum (delay 100 [] one (one ∷ [])) 371
-    ∷ sum (backlog 100 [] one (one ∷ [])) 1573
+    ∷ sum (delay 100 0 (one ∷ []) one []) 374
+    ∷ sum (backlog 100 0 (one ∷ []) one []) 1574
+    ∷ sum (delay 100 0 [] one (one ∷ [])) 371
+    ∷ sum (backlog 100 0 [] one (one ∷ [])) 1573
+    -- the same on a link with a best-effort frame of 1,542: it blocks as a frame below does, the last level too; both together block no longer than one
+    -- (their sum would give 494)
+    ∷ sum (delay 100 1542 [] one []) 371
+    ∷ sum (backlog 100 1542 [] one []) 1573
+    ∷ sum (delay 100 1542 [] one (one ∷ [])) 371
+    ∷ sum (delay 100 1542 (one ∷ []) one []) 499
+    ∷ sum (backlog 100 1542 (one ∷ []) one []) 1589
     -- burst after a threshold of 371, and after two (rounded at each hop it would be 1,636); the fixed delays don't count
     ∷ sum (getD bursts 1 0) 1589
     ∷ sum (getD bursts 2 0) 1635
@@ -68,5 +75,5 @@ handSums =
     ∷ sum (code (deadlineFinding (links 296) flow)) 0
     ∷ sum (code (deadlineFinding (links 297) flow)) 20
     -- the longest table text
-    ∷ sum tableBytes 22528
+    ∷ sum tableBytes 25088
     ∷ []

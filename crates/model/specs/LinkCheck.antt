@@ -17,23 +17,24 @@ unfoldable pub isEmpty : Aggregate → Bool
 isEmpty own = eqb (own .frame) 0
 
 -- Eq. 15 at one level that carries a flow: 22, then 23, else 0.
-unfoldable pub levelCode : (speed : ℕ) → Queue → (above : List Aggregate) (own : Aggregate) (below : List Aggregate) → ℕ
-levelCode speed q above own below =
+unfoldable pub levelCode : (speed bestEffort : ℕ) → Queue → (above : List Aggregate) (own : Aggregate) (below : List Aggregate) → ℕ
+levelCode speed bestEffort q above own below =
     cond (isEmpty own) 0
-    (cond (leb (delay speed above own below) (q .threshold)) (cond (leb (backlog speed above own below) (q .buffer)) 0 23) 22)
+    (cond (leb (delay speed bestEffort above own below) (q .threshold)) (cond (leb (backlog speed bestEffort above own below) (q .buffer)) 0 23) 22)
 
 unfoldable pub orElse : Finding → Finding → Finding
 orElse a b = cond (eqb (a .code) 0) b a
 
 -- The levels from number `n` on; `above` are those before, the nearest first.
-unfoldable pub levelsFinding : (speed n : ℕ) (above : List Aggregate) → List Queue → List Aggregate → Finding
-levelsFinding speed n above [] own = record { code = 0; level = 0 }
-levelsFinding speed n above (q ∷ qs) [] = record { code = 0; level = 0 }
-levelsFinding speed n above (q ∷ qs) (a ∷ below) =
-    orElse (record { code = levelCode speed q above a below; level = n }) (levelsFinding speed (suc n) (a ∷ above) qs below)
+unfoldable pub levelsFinding : (speed bestEffort n : ℕ) (above : List Aggregate) → List Queue → List Aggregate → Finding
+levelsFinding speed bestEffort n above [] own = record { code = 0; level = 0 }
+levelsFinding speed bestEffort n above (q ∷ qs) [] = record { code = 0; level = 0 }
+levelsFinding speed bestEffort n above (q ∷ qs) (a ∷ below) =
+    orElse (record { code = levelCode speed bestEffort q above a below; level = n }) (levelsFinding speed bestEffort (suc n) (a ∷ above) qs below)
 
 unfoldable pub rateCode : (speed : ℕ) → List Aggregate → ℕ
 rateCode speed levels = cond (withinRate speed (total (λ a. a .rate) levels)) 0 21
 
-unfoldable pub linkFinding : (speed : ℕ) → List Queue → List Aggregate → Finding
-linkFinding speed queues levels = orElse (record { code = rateCode speed levels; level = 0 }) (levelsFinding speed 1 [] queues levels)
+unfoldable pub linkFinding : (speed bestEffort : ℕ) → List Queue → List Aggregate → Finding
+linkFinding speed bestEffort queues levels =
+    orElse (record { code = rateCode speed levels; level = 0 }) (levelsFinding speed bestEffort 1 [] queues levels)

@@ -1,4 +1,5 @@
--- Document 01, "Columns", table lines, and "Who can cause which refusal", 1 to 5: what a table text says, for every text. Request W-201: fixed delays.
+-- Document 01, "Columns", table lines, and "Who can cause which refusal", 1 to 5: what a table text says, for every text. Requests W-201, W-202: fixed delays
+-- and best-effort frames.
 use Prim.Native.Nat.{ℕ, suc}
 use mathlib.Core.Bool.{Bool, false, cond, _&&_, _||_, not}
 use mathlib.Core.List.{List, [], _∷_, _++_, reverse}
@@ -6,7 +7,7 @@ use mathlib.Core.Option.{Option, none, some}
 use lib.ListN.{length}
 use lib.Dec.{leb, ltb, eqb}
 use Rattle.model.specs.Words.{andThen}
-use Rattle.model.specs.Sizes.{linksMost, levelsMost, baseColumns, delayColumns, tableBytes}
+use Rattle.model.specs.Sizes.{linksMost, levelsMost, baseColumns, delayColumns, bestEffortColumns, tableBytes}
 use Rattle.model.specs.Columns.{Line, ended, unended, lines, fieldAt, between}
 
 -- A queue of a link: threshold in µs, buffer in bytes.
@@ -14,12 +15,14 @@ pub record Queue : Type 0 where
   pub threshold : ℕ
   pub buffer : ℕ
 
--- A link: its nodes, its speed in Mbit/s, the fixed delay of its cable and switch in µs, and its queues, level 1 first.
+-- A link: its nodes, its speed in Mbit/s, the fixed delay of its cable and switch in µs, the bytes of the longest best-effort frame that shares it (0: none
+-- does), and its queues, level 1 first.
 pub record Link : Type 0 where
   pub from : ℕ
   pub to : ℕ
   pub speed : ℕ
   pub fixedDelay : ℕ
+  pub bestEffort : ℕ
   pub levels : List Queue
 
 -- The queue table, link 1 first.
@@ -36,10 +39,11 @@ pub record Row : Type 0 where
   pub threshold : ℕ
   pub buffer : ℕ
   pub fixedDelay : ℕ
+  pub bestEffort : ℕ
 
 -- A line may have these lengths, in columns.
 unfoldable pub isRowLength : ℕ → Bool
-isRowLength n = eqb n baseColumns || eqb n delayColumns
+isRowLength n = eqb n baseColumns || eqb n delayColumns || eqb n bestEffortColumns
 
 -- A field that shorter lines haven't: there it is 0.
 unfoldable pub laterField : (first last : ℕ) → (line : List ℕ) → Option ℕ
@@ -56,6 +60,7 @@ rowFields line =
     andThen (fieldAt 21 27 line) λ threshold.
     andThen (fieldAt 28 36 line) λ buffer.
     andThen (laterField 37 43 line) λ fixedDelay.
+    andThen (laterField 44 48 line) λ bestEffort.
     some
     (record {
       link = link;
@@ -66,11 +71,16 @@ rowFields line =
       threshold = threshold;
       buffer = buffer;
       fixedDelay = fixedDelay;
+      bestEffort = bestEffort;
     })
 
--- 1: a table line has 36 or 43 columns, each field well formed.
+-- 1: a table line has 36, 43 or 48 columns, each field well formed.
 unfoldable pub row : List ℕ → Option Row
 row line = cond (isRowLength (length line)) (rowFields line) none
+
+-- A best-effort frame: none, or as long as a frame is.
+unfoldable pub bestEffortInRange : ℕ → Bool
+bestEffortInRange n = eqb n 0 || between 84 1542 n
 
 -- 2: each number is in its range. (Link and level are judged by 3.)
 unfoldable pub rowInRange : Row → Bool
@@ -81,6 +91,7 @@ rowInRange r =
     && between 1 100000 (r .threshold)
     && between 1 16777215 (r .buffer)
     && between 0 10000 (r .fixedDelay)
+    && bestEffortInRange (r .bestEffort)
 
 -- While a table is read, its links stand newest first.
 -- The line is the next level of the same link.
@@ -96,12 +107,17 @@ begins ls r = eqb (r .link) (suc (length ls)) && eqb (r .level) 1
 unfoldable pub rowInTurn : List Link → Row → Bool
 rowInTurn ls r = (continues ls r || begins ls r) && leb (r .link) linksMost && leb (r .level) levelsMost
 
--- The line has the nodes, the speed and the fixed delay of the newest link.
+-- The line has the nodes, the speed, the fixed delay and the best-effort frame of the newest link.
 unfoldable pub sameLink : List Link → Row → Bool
 sameLink [] r = false
-sameLink (l ∷ ls) r = eqb (r .from) (l .from) && eqb (r .to) (l .to) && eqb (r .speed) (l .speed) && eqb (r .fixedDelay) (l .fixedDelay)
+sameLink (l ∷ ls) r =
+    eqb (r .from) (l .from)
+    && eqb (r .to) (l .to)
+    && eqb (r .speed) (l .speed)
+    && eqb (r .fixedDelay) (l .fixedDelay)
+    && eqb (r .bestEffort) (l .bestEffort)
 
--- 4: from and to are two nodes, and from, to, speed and fixed delay are the same within a link.
+-- 4: from and to are two nodes, and all that is the link's is the same within a link.
 unfoldable pub rowAgrees : List Link → Row → Bool
 rowAgrees ls r = not (eqb (r .from) (r .to)) && (begins ls r || sameLink ls r)
 
@@ -113,10 +129,12 @@ unfoldable pub queueOf : Row → Queue
 queueOf r = record { threshold = r .threshold; buffer = r .buffer }
 
 unfoldable pub newLink : Row → Link
-newLink r = record { from = r .from; to = r .to; speed = r .speed; fixedDelay = r .fixedDelay; levels = queueOf r ∷ [] }
+newLink r =
+    record { from = r .from; to = r .to; speed = r .speed; fixedDelay = r .fixedDelay; bestEffort = r .bestEffort; levels = queueOf r ∷ [] }
 
 unfoldable pub addLevel : Link → Queue → Link
-addLevel l q = record { from = l .from; to = l .to; speed = l .speed; fixedDelay = l .fixedDelay; levels = l .levels ++ (q ∷ []) }
+addLevel l q =
+    record { from = l .from; to = l .to; speed = l .speed; fixedDelay = l .fixedDelay; bestEffort = l .bestEffort; levels = l .levels ++ (q ∷ []) }
 
 -- The links with the line's queue: one level more of the newest link, or a link more.
 unfoldable pub addRow : List Link → Row → List Link
@@ -150,6 +168,6 @@ unfoldable pub readLines : ℕ → List Link → List Line → TableText
 readLines n ls [] = accepted (reverse ls)
 readLines n ls (l ∷ more) = afterStep (lineStep ls l) (λ ls′. readLines (suc n) ls′ more) (λ code. refused code n)
 
--- 5 comes first, with line 0: a text above 512 of the longest lines, 22,528 bytes, isn't read.
+-- 5 comes first, with line 0: a text above 512 of the longest lines, 25,088 bytes, isn't read.
 unfoldable pub readTable : List ℕ → TableText
 readTable text = cond (leb (length text) tableBytes) (readLines 1 [] (lines text)) (refused 5 0)

@@ -126,7 +126,7 @@ linkCause link w = cond (eqb (w .code) 0) none (some (record { code = w .code; l
 
 unfoldable pub causeAt : Table → List Flow → (link : ℕ) → Option Link → Option Cause
 causeAt t fs link none = none
-causeAt t fs link (some k) = linkCause link (linkFinding (k .speed) (k .levels) (levelAggregates t fs link 1 (k .levels)))
+causeAt t fs link (some k) = linkCause link (linkFinding (k .speed) (k .bestEffort) (k .levels) (levelAggregates t fs link 1 (k .levels)))
 
 -- Link by link along the path 21, and level by level 22 before 23, with the flows `fs`.
 unfoldable pub linkFindings : Table → List Flow → (path : List Hop) → List (Option Cause)

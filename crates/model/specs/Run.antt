@@ -1,5 +1,6 @@
--- Document 01, "The run that the mission's third line speaks of": frames, links, a bit slot, an interval, an instant, runs and conforming sources.
--- Request W-201: cables. Instants are whole µs. A flow is named by its index in the list of flows, a hop by its index in the path, both from 0.
+-- Document 01, "The run that the mission's third line speaks of": frames, links, a slot, an interval, an instant, runs and conforming sources.
+-- Requests W-201, W-202: cables and best-effort frames. Instants are whole µs; a slot is the time of a bit, or any whole part of it, so that a best-effort
+-- frame may start at any moment. A flow is named by its index in the list of flows, a hop by its index in the path, both from 0.
 use Prim.Native.Nat.{ℕ, zero, suc, _+_, _-_, _*_, _≤_}
 use mathlib.Core.Path.{_≡_}
 use mathlib.Core.Bool.{Bool, false, cond}
@@ -11,7 +12,7 @@ use Rattle.model.specs.Words.{All, filter, andThen, nth}
 use Rattle.model.specs.Total.{total}
 use Rattle.model.specs.QueueTable.{Queue, Link, Table}
 use Rattle.model.specs.Orders.{Hop, Flow}
-use Rattle.model.specs.Aggregates.{linkAt, fixedDelayOf, sameHop}
+use Rattle.model.specs.Aggregates.{linkAt, fixedDelayOf, bestEffortOf, sameHop}
 
 -- A frame: its flow, the hop it is at, its bytes, the instant it reached this queue, and the instant its source sent it (which nothing here reads; `Delivery` does).
 pub record Frame : Type 0 where
@@ -21,10 +22,11 @@ pub record Frame : Type 0 where
   pub since : ℕ
   pub born : ℕ
 
--- What is under way on a link: nothing, or a frame of a level, with the number of bits that follow its next one.
+-- What is under way on a link: nothing, a frame of a level, or a best-effort frame; with the number of slots that follow its next one.
 pub data Wire : Type 0 where
   idle : Wire
   sending : (level : ℕ) → Frame → (more : ℕ) → Wire
+  sendingBestEffort : (more : ℕ) → Wire
 
 -- A link in the run: what is under way, the frames that wait at each level, level 1 first, and those that have left since the last instant.
 pub record LinkState : Type 0 where
@@ -49,37 +51,46 @@ pick n [] = none
 pick n ([] ∷ qs) = pastEmpty (pick (suc n) qs)
 pick n ((f ∷ q) ∷ qs) = some (record { level = n; frame = f; rest = q ∷ qs })
 
--- The bits of a frame: bytes on the wire have 8.
-unfoldable pub bits : Frame → ℕ
-bits f = 8 * f .length
+-- The slots that so many bytes take: bytes on the wire have 8 bits, and a bit has `grain` slots.
+unfoldable pub sendingTime : (grain bytes : ℕ) → ℕ
+sendingTime grain bytes = 8 * (grain * bytes)
 
--- The frame that was picked is under way; none of its bits is sent yet.
-unfoldable pub start : Option Pick → LinkState → LinkState
-start none l = l
-start (some p) l =
-    record { wire = sending (p .level) (p .frame) (bits (p .frame) - 1); levels = p .rest; left = l .left }
+-- A best-effort frame of so many bytes is under way, and nothing of it is sent yet; 0 stands for none.
+unfoldable pub startBestEffort : (grain bytes : ℕ) → LinkState → LinkState
+startBestEffort grain zero l = l
+startBestEffort grain (suc n) l =
+    record { wire = sendingBestEffort (sendingTime grain (suc n) - 1); levels = l .levels; left = l .left }
 
--- A free link takes a frame, if one waits.
-unfoldable pub take : LinkState → LinkState
-take l = elim (l .wire) [ idle ↦ start (pick 1 (l .levels)) l | sending n f more ↦ l ]
+-- The frame that was picked is under way, and nothing of it is sent yet. Only where none waits is it the best-effort frame that is offered.
+unfoldable pub start : (grain offered : ℕ) → Option Pick → LinkState → LinkState
+start grain offered none l = startBestEffort grain offered l
+start grain offered (some p) l =
+    record { wire = sending (p .level) (p .frame) (sendingTime grain (p .frame .length) - 1); levels = p .rest; left = l .left }
 
--- One bit of what is under way is sent. With its last bit the frame has left, and the link is free.
+-- A free link takes a frame, if one waits, else the best-effort frame that is offered.
+unfoldable pub take : (grain offered : ℕ) → LinkState → LinkState
+take grain offered l =
+    elim (l .wire) [ idle ↦ start grain offered (pick 1 (l .levels)) l | sending n f more ↦ l | sendingBestEffort more ↦ l ]
+
+-- One slot of what is under way is sent. With its last slot a frame has left, a best-effort frame is gone, and the link is free.
 unfoldable pub send : LinkState → LinkState
 send l =
     elim (l .wire) [
       | idle ↦ l
       | sending n f zero ↦ record { wire = idle; levels = l .levels; left = l .left ++ (f ∷ []) }
       | sending n f (suc more) ↦ record { wire = sending n f more; levels = l .levels; left = l .left }
+      | sendingBestEffort zero ↦ record { wire = idle; levels = l .levels; left = l .left }
+      | sendingBestEffort (suc more) ↦ record { wire = sendingBestEffort more; levels = l .levels; left = l .left }
     ]
 
--- The time of one bit: a free link takes a frame, then one bit is sent.
-unfoldable pub bitSlot : LinkState → LinkState
-bitSlot l = send (take l)
+-- One slot: a free link takes a frame, then one slot of it is sent.
+unfoldable pub timeSlot : (grain offered : ℕ) → LinkState → LinkState
+timeSlot grain offered l = send (take grain offered l)
 
--- So many bit slots. From one instant to the next a link has as many as its speed, in bits per µs.
-unfoldable pub interval : ℕ → LinkState → LinkState
-interval zero l = l
-interval (suc n) l = bitSlot (interval n l)
+-- So many slots; `offered` has what is offered in each, counted from 0.
+unfoldable pub interval : (grain : ℕ) (offered : ℕ → ℕ) (count : ℕ) → LinkState → LinkState
+interval grain offered zero l = l
+interval grain offered (suc n) l = timeSlot grain (offered n) (interval grain offered n l)
 
 -- The queue of a frame's hop: the one that it stands in or reaches, on a cable the one that it has left; none once its path has ended.
 unfoldable pub hopOf : List Flow → Frame → Option Hop
@@ -149,8 +160,14 @@ pub record Sends (fs : List Flow) (x : ℕ) (f : Frame) : Type 0 where
   pub since : f .since ≡ x
   pub born : f .born ≡ x
 
--- A run. It has no end: each link, by its number, before and after the arrivals of each instant.
+-- A run. It has no end: each link, by its number, before and after the arrivals of each instant. From one instant to the next a link has `grain` slots
+-- for each bit of its speed.
 pub record Run (t : Table) (fs : List Flow) : Type 0 where
+  pub grain : ℕ
+  pub divided : 1 ≤ grain
+  -- The best-effort frame that is offered to a link in a slot, counted from 0 after an instant: its bytes, at most the link's, 0 for none. Any choice.
+  pub offered : (x link slot : ℕ) → ℕ
+  pub offers : (x n slot : ℕ) → offered x n slot ≤ bestEffortOf (linkAt t n)
   -- What the sources add at an instant.
   pub sent : ℕ → List Frame
   pub sends : (x : ℕ) → All (Sends fs x) (sent x)
@@ -161,7 +178,7 @@ pub record Run (t : Table) (fs : List Flow) : Type 0 where
   pub anyOrder : (x : ℕ) (q : Hop) → List·Permᴰ (arrivals x (q .link) (q .level)) (reaching fs q (moving t before x (sent x)))
   pub starts : (n : ℕ) → before 0 n ≡ emptyLink (linkAt t n)
   pub enters : (x n : ℕ) → after x n ≡ enter (arrivals x n) (before x n)
-  pub serves : (x n : ℕ) → before (suc x) n ≡ interval (speedOf (linkAt t n)) (after x n)
+  pub serves : (x n : ℕ) → before (suc x) n ≡ interval grain (offered x n) (grain * speedOf (linkAt t n)) (after x n)
 
 -- The sum of a function over `count` instants from `first` on.
 unfoldable pub window : (ℕ → ℕ) → (first count : ℕ) → ℕ
@@ -177,10 +194,11 @@ pub record Conforming (fs : List Flow) (sent : ℕ → List Frame) : Type 0 wher
   pub bound : (j : ℕ) (f : Flow) → getElem? fs j ≡ some f →
       (s t : ℕ) → 8000 * window (λ x. bytesOf j (sent x)) s (suc t) ≤ 8000 * f .burst + f .rate * t
 
--- The frame under way, if it is of level `n`.
+-- The frame under way, if it is of level `n`. A best-effort frame is in no queue.
 unfoldable pub onWire : (n : ℕ) → Wire → List Frame
 onWire n idle = []
 onWire n (sending level f more) = cond (eqb n level) (f ∷ []) []
+onWire n (sendingBestEffort more) = []
 
 -- What waits at a level; nothing where there is no such level.
 abbrev pub orEmpty : Option (List Frame) → List Frame

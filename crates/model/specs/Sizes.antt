@@ -25,15 +25,19 @@ slotCount = 256
 abbrev pub hopEntries : ℕ
 hopEntries = 1024
 
--- Columns of a table line, without a fixed delay and with one, and of the longest; bytes of a table text, whose lines end in LF: 22,528.
+-- Columns of a table line: up to the buffer, up to the fixed delay, up to the best-effort frame, and of the longest; bytes of a table text, whose lines end in
+-- LF: 25,088.
 abbrev pub baseColumns : ℕ
 baseColumns = 36
 
 abbrev pub delayColumns : ℕ
 delayColumns = 43
 
+abbrev pub bestEffortColumns : ℕ
+bestEffortColumns = 48
+
 abbrev pub rowColumns : ℕ
-rowColumns = delayColumns
+rowColumns = bestEffortColumns
 
 abbrev pub tableBytes : ℕ
 tableBytes = queuesMost * (rowColumns + 1)
