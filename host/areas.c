@@ -149,10 +149,14 @@ static void refused_tables(void)
           DEVVONUR_TABLE_RANGE, 1, none);
     check("fixed delays differ", TEXT(FIRST "   1   1   2   100 2    374     2000      1\n"), orders, 80,
           DEVVONUR_TABLE_LINK, 2, none);
+    check("a best-effort frame out of range", TEXT("   1   1   2   100 1    370     2000      0   83\n"), orders, 80,
+          DEVVONUR_TABLE_RANGE, 1, none);
+    check("best-effort frames differ", TEXT(FIRST "   1   1   2   100 2    374     2000      0   84\n"), orders, 80,
+          DEVVONUR_TABLE_LINK, 2, none);
     struct text longest = filled('\n', DEVVONUR_MOST_TABLE_BYTES);
     struct text longer = filled('\n', DEVVONUR_MOST_TABLE_BYTES + 1);
-    check("22,528 bytes", longest, orders, 80, DEVVONUR_TABLE_COLUMNS, 1, none);
-    check("22,529 bytes", longer, orders, 80, DEVVONUR_TABLE_LONG, 0, none);
+    check("25,088 bytes", longest, orders, 80, DEVVONUR_TABLE_COLUMNS, 1, none);
+    check("25,089 bytes", longer, orders, 80, DEVVONUR_TABLE_LONG, 0, none);
     free((void *)longest.bytes);
     free((void *)longer.bytes);
 }

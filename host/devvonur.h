@@ -10,7 +10,7 @@ extern "C" {
 #endif
 
 /* Limits. A longer text is refused, never read in part. */
-#define DEVVONUR_MOST_TABLE_BYTES 22528 /* 64 links of 8 levels, 44 bytes each */
+#define DEVVONUR_MOST_TABLE_BYTES 25088 /* 64 links of 8 levels, 49 bytes each */
 #define DEVVONUR_MOST_ORDER_BYTES 60000
 #define DEVVONUR_MOST_ORDER_LINES 2000
 #define DEVVONUR_ANSWER_BYTES 20 /* one answer line, its LF included */
@@ -21,8 +21,8 @@ enum devvonur_code {
     DEVVONUR_TABLE_COLUMNS = 1,  /* a table line's columns are wrong, or the last line is unended */
     DEVVONUR_TABLE_RANGE = 2,    /* a number of a table line is out of range */
     DEVVONUR_TABLE_TURN = 3,     /* link or level out of turn, or past 64 or 8 */
-    DEVVONUR_TABLE_LINK = 4,     /* from equals to, or from, to, speed or fixed delay differ within a link */
-    DEVVONUR_TABLE_LONG = 5,     /* the table text is above 22,528 bytes; line is 0 */
+    DEVVONUR_TABLE_LINK = 4,     /* from equals to, or a number of the link differs within it */
+    DEVVONUR_TABLE_LONG = 5,     /* the table text is above 25,088 bytes; line is 0 */
     DEVVONUR_ANSWERS_SHORT = 40, /* the answer area is below 20 bytes per order line; line is 0 */
     DEVVONUR_ORDERS_LONG = 41    /* the order text is above 60,000 bytes or 2,000 lines; line is 0 */
 };

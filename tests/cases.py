@@ -7,18 +7,20 @@ import sys
 from pathlib import Path
 
 
-def row(link, frm, to, speed, level, threshold, buffer, fixed=None):
-    """A table line; without a fixed delay it has 36 columns, with one 43."""
-    return f"{link:4}{frm:4}{to:4}{speed:6}{level:2}{threshold:7}{buffer:9}" + ("" if fixed is None else f"{fixed:7}") + "\n"
+def row(link, frm, to, speed, level, threshold, buffer, fixed=None, best=None):
+    """A table line; without a fixed delay it has 36 columns, with one 43, with a best-effort frame 48."""
+    later = ("" if fixed is None else f"{fixed:7}") + ("" if best is None else f"{best:5}")
+    return f"{link:4}{frm:4}{to:4}{speed:6}{level:2}{threshold:7}{buffer:9}{later}\n"
 
 
-def full(links, levels, fixed=None):
-    return "".join(row(l, l, l + 1, 100, p, 370, 2000, fixed) for l in range(1, links + 1) for p in range(1, levels + 1))
+def full(links, levels, fixed=None, best=None):
+    return "".join(row(l, l, l + 1, 100, p, 370, 2000, fixed, best) for l in range(1, links + 1) for p in range(1, levels + 1))
 
 
 one = row(1, 1, 2, 100, 1, 370, 2000)
 two = one + row(1, 1, 2, 100, 2, 374, 2000)
 cabled = row(1, 1, 2, 100, 1, 370, 2000, 5)
+shared = row(1, 1, 2, 100, 1, 370, 2000, 5, 1542)
 
 # (text, code, line, links, queues)
 tables = [
@@ -33,7 +35,9 @@ tables = [
     (full(64, 8) + "x", 1, 513, 0, 0),                           # a line more of them, and it isn't ended
     (full(64, 8) + row(65, 65, 66, 100, 1, 370, 2000), 3, 513, 0, 0),
     (full(64, 8, 10000), 0, 0, 64, 512),                         # the same with fixed delays: 22,528 bytes
-    (full(64, 8, 10000) + "x", 5, 0, 0, 0),                      # 22,529 bytes
+    (full(64, 8, 10000) + "x", 1, 513, 0, 0),
+    (full(64, 8, 10000, 1542), 0, 0, 64, 512),                   # the same with best-effort frames: 25,088 bytes
+    (full(64, 8, 10000, 1542) + "x", 5, 0, 0, 0),                # 25,089 bytes
     (full(64, 7) + row(65, 65, 66, 100, 1, 370, 2000), 3, 449, 0, 0),   # link 65
     (full(1, 8) + row(1, 1, 2, 100, 9, 370, 2000), 3, 9, 0, 0),  # level 9
     (row(2, 1, 2, 100, 1, 370, 2000), 3, 1, 0, 0),               # the first line is link 1 level 1
@@ -69,7 +73,6 @@ tables = [
     (row(1, 1, 2, 100, 1, 370, 2000, "5 "), 1, 1, 0, 0),         # not right-justified
     (one[:-1] + "     5\n", 1, 1, 0, 0),                         # 42 columns
     (cabled[:-1] + " \n", 1, 1, 0, 0),                           # 44 columns
-    (cabled[:-1] + "    0\n", 1, 1, 0, 0),                       # 48 columns
     (cabled + row(1, 1, 2, 100, 2, 374, 2000, 5), 0, 0, 1, 2),
     (one + row(1, 1, 2, 100, 2, 374, 2000, 0), 0, 0, 1, 2),      # lines of a link may differ in length
     (row(1, 1, 2, 100, 1, 370, 2000, 0) + two[len(one):], 0, 0, 1, 2),
@@ -79,6 +82,28 @@ tables = [
     (cabled + row(2, 2, 1, 100, 1, 370, 2000), 0, 0, 2, 2),      # another link has its own
     (cabled + row(1, 1, 2, 100, 2, 374, 2000, 10001), 2, 2, 0, 0),   # 2 before 4
     (cabled + row(1, 1, 2, 100, 3, 374, 2000, 6), 3, 2, 0, 0),   # 3 before 4
+    (shared, 0, 0, 1, 1),                                        # best-effort frames
+    (row(1, 1, 2, 100, 1, 370, 2000, 0, 0), 0, 0, 1, 1),
+    (row(1, 1, 2, 100, 1, 370, 2000, 0, 84), 0, 0, 1, 1),
+    (row(1, 1, 2, 100, 1, 370, 2000, 0, 1), 2, 1, 0, 0),
+    (row(1, 1, 2, 100, 1, 370, 2000, 0, 83), 2, 1, 0, 0),
+    (row(1, 1, 2, 100, 1, 370, 2000, 0, 1543), 2, 1, 0, 0),
+    (row(1, 1, 2, 100, 1, 370, 2000, 0, 10084), 2, 1, 0, 0),     # from column 44 on
+    (row(1, 1, 2, 100, 1, 370, 2000, 10001, 84), 2, 1, 0, 0),    # the fixed delay still ends in column 43
+    (row(1, 1, 2, 100, 1, 370, 2000, 0, "  084"), 1, 1, 0, 0),   # a leading zero
+    (row(1, 1, 2, 100, 1, 370, 2000, 0, ""), 1, 1, 0, 0),        # no number
+    (row(1, 1, 2, 100, 1, 370, 2000, "", 84), 1, 1, 0, 0),       # no fixed delay before it
+    (row(1, 1, 2, 100, 1, 370, 2000, 0, "84 "), 1, 1, 0, 0),     # not right-justified
+    *((cabled[:-1] + f"{84:{n}}" + "\n", 1, 1, 0, 0) for n in (2, 3, 4, 6)),     # 45, 46, 47 and 49 columns
+    (shared + row(1, 1, 2, 100, 2, 374, 2000, 5, 1542), 0, 0, 1, 2),
+    (one + row(1, 1, 2, 100, 2, 374, 2000, 0, 0), 0, 0, 1, 2),   # lines of a link may differ in length
+    (cabled + row(1, 1, 2, 100, 2, 374, 2000, 5, 0), 0, 0, 1, 2),
+    (shared + row(1, 1, 2, 100, 2, 374, 2000, 5, 1541), 4, 2, 0, 0),     # what must agree is the value
+    (shared + row(1, 1, 2, 100, 2, 374, 2000, 5), 4, 2, 0, 0),
+    (one + row(1, 1, 2, 100, 2, 374, 2000, 0, 84), 4, 2, 0, 0),
+    (shared + row(2, 2, 1, 100, 1, 370, 2000), 0, 0, 2, 2),      # another link has its own
+    (shared + row(1, 1, 2, 100, 2, 374, 2000, 5, 83), 2, 2, 0, 0),       # 2 before 4
+    (shared + row(1, 1, 2, 100, 3, 374, 2000, 5, 84), 3, 2, 0, 0),       # 3 before 4
 ]
 
 
@@ -153,7 +178,7 @@ def said(code, slot=0, link=0, level=0):
 
 # The registry's arrays, and where a number stands in them, links, queues and slots counted from 0.
 TABLE, SLOTS, POOL, SUMS = range(4)
-LINK_NUMBERS, QUEUE_NUMBERS, SLOT_COUNT = 5, 2, 256
+LINK_NUMBERS, QUEUE_NUMBERS, SLOT_COUNT = 6, 2, 256
 COUNT = 64 * LINK_NUMBERS + 512 * QUEUE_NUMBERS
 
 
@@ -163,7 +188,7 @@ def put(array, index, n):
 
 
 def link(i, k):
-    """Link i: from node (k = 0), to node, speed, number of levels, fixed delay (k = 4)."""
+    """Link i: from node (k = 0), to node, speed, number of levels, fixed delay, best-effort frame (k = 5)."""
     return LINK_NUMBERS * i + k
 
 
@@ -177,9 +202,9 @@ def slot(i, k):
     return SLOT_COUNT * k + i
 
 
-def queues(*pairs):
-    """One link at 100 Mbit/s, a threshold and a buffer for each level."""
-    return "".join(row(1, 1, 2, 100, p, t, b) for p, (t, b) in enumerate(pairs, 1))
+def queues(*pairs, best=None):
+    """One link at 100 Mbit/s, a threshold and a buffer for each level; its best-effort frame."""
+    return "".join(row(1, 1, 2, 100, p, t, b, None if best is None else 0, best) for p, (t, b) in enumerate(pairs, 1))
 
 
 def chain(n, threshold):
@@ -245,6 +270,22 @@ registries = [
     (queues((371, 1572), (374, 2000)), [first, (second, said(23, 0, 1, 1))]),
     (queues((371, 2000), (373, 2000)), [first, (second, said(22, 0, 1, 2))]),
     (queues((371, 2000), (374, 1573)), [first, (second, said(23, 0, 1, 2))]),
+    (queues((371, 1573), best=1542), [first]),                   # with a best-effort frame, at the last level too
+    (queues((370, 1573), best=1542), [(first[0], said(22, 0, 1, 1))]),
+    (queues((371, 1572), best=1542), [(first[0], said(23, 0, 1, 1))]),
+    (queues((371, 1573), (499, 1589), best=1542), both + [       # the larger, not the sum: level 1 stays 371
+        put(TABLE, link(0, 5), 84), (reg(), said(12)),           # a smaller one: nothing wrong
+        put(TABLE, link(0, 5), 0), (reg(), said(12)),            # none at all
+        put(TABLE, link(0, 5), 1542), (reg(), said(12)),
+        *damaged((TABLE, link(0, 5), 1543, 1542)),               # out of range
+        *damaged((TABLE, link(0, 5), 83, 1542)),
+        *damaged((TABLE, queue(1, 0), 498, 499)),                # the held flows pass the threshold
+        *damaged((TABLE, queue(1, 1), 1588, 1589)),              # .. the buffer
+    ]),
+    (queues((371, 1573), (498, 1589), best=1542), [first, (second, said(22, 0, 1, 2))]),
+    (queues((371, 1573), (499, 1588), best=1542), [first, (second, said(23, 0, 1, 2))]),
+    (queues((371, 1573), (374, 1574), best=0), both              # a laptop where the thresholds have no room for it
+        + damaged((TABLE, link(0, 5), 84, 0))),
     (queues((1000, 9000)), [                                     # rates
         (reg(number=1, rate=99000, deadline=1000), said(0, 1)),
         (reg(number=2, rate=1000, deadline=1000), said(21, link=1)),

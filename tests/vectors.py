@@ -41,7 +41,7 @@ ODD = {
         "a last line unended": ({"table.txt": TABLE, "orders.txt": REGISTER + RELEASE[:-1]}, b"     1  0   1   0 0\n     2 10   0   0 0\n"),
         "a table unended": ({"table.txt": TABLE + TABLE[:-1], "orders.txt": RELEASE}, b"  1     2\n",
             b"admit: refused: table.txt, line 2: its columns are wrong, or the last line has no LF\n"),
-        "a table of 22,529 bytes": ({"table.txt": b"x" * 22_529, "orders.txt": RELEASE}, b"  5     0\n", LONG_TABLE),
+        "a table of 25,089 bytes": ({"table.txt": b"x" * 25_089, "orders.txt": RELEASE}, b"  5     0\n", LONG_TABLE),
         "a table of 30 MB": ({"table.txt": TABLE * 810_811, "orders.txt": RELEASE}, b"  5     0\n", LONG_TABLE),
         "orders of 30 MB": ({"table.txt": TABLE, "orders.txt": RELEASE * 3_333_334}, b" 41     0\n",
             b"admit: refused: the orders are too long, or too many\n"),

@@ -23,10 +23,10 @@ use Rattle.model.specs.Reference.{linkCause, causeAt}
 use Rattle.model.specs.Laws.Aggregates.{growthSum}
 use Rattle.model.specs.Laws.LinkSteps.{padding}
 use Rattle.model.specs.Laws.Figures.{Crossed, counted, levels-more, levels-append, levels-length, levels-empty, aggregate-unnamed}
-use Rattle.queue_table.specs.View.{upTo, entryAt, linkIn, levelIn, linkCount, speedAt, levelsAt, queueAt, linkAt, tableOf, hopAt, isQueue, WellFormed}
+use Rattle.queue_table.specs.View.{upTo, entryAt, linkIn, levelIn, linkCount, speedAt, bestEffortAt, levelsAt, queueAt, linkAt, tableOf, hopAt, isQueue, WellFormed}
 use Rattle.queue_table.proofs.ViewLaws.{length-up, up-same}
 use Rattle.queue_table.proofs.LookupLaws.{link-found, link-missing, queue-no-level}
-use Rattle.figures.specs.View.{figureAt, levelFigures, levelsWith, causeWith, codeAt, Figures}
+use Rattle.figures.specs.View.{figureAt, levelFigures, levelsWith, findingAt, causeWith, codeAt, Figures}
 use Rattle.queue_table.proofs.EntryLaws.{queue-within, queue-low}
 use Rattle.figures.proofs.EntryLaws.{entry-hop}
 
@@ -61,10 +61,10 @@ module _ (table : List ℕ) where
       (λ p lt. sym (figures .same (entryAt i p) (omega arith) ∙ ap (model.aggregateAt t fs) (entry-hop i p lt)))
 
   -- Eight levels say what the link's own levels say.
-  eight-levels : (fs : List Flow) (i speed : ℕ) → i < linkCount table → levelsAt table i ≤ levelsMost → All (λ g. All (Named t) (g .path)) fs
-      → linkFinding speed (upTo levelsMost (queueAt table i)) (model.levelAggregates t fs (i + 1) 1 (upTo levelsMost (queueAt table i)))
-      ≡ linkFinding speed (upTo (levelsAt table i) (queueAt table i)) (model.levelAggregates t fs (i + 1) 1 (upTo (levelsAt table i) (queueAt table i)))
-  eight-levels fs i speed h shallow on =
+  eight-levels : (fs : List Flow) (i speed bestEffort : ℕ) → i < linkCount table → levelsAt table i ≤ levelsMost → All (λ g. All (Named t) (g .path)) fs
+      → linkFinding speed bestEffort (upTo levelsMost (queueAt table i)) (model.levelAggregates t fs (i + 1) 1 (upTo levelsMost (queueAt table i)))
+      ≡ linkFinding speed bestEffort (upTo (levelsAt table i) (queueAt table i)) (model.levelAggregates t fs (i + 1) 1 (upTo (levelsAt table i) (queueAt table i)))
+  eight-levels fs i speed bestEffort h shallow on =
       let m : ℕ = levelsAt table i in
       let own : List Queue = upTo m (queueAt table i) in
       let more : List Queue = upTo (levelsMost - m) (λ p. queueAt table i (m + p)) in
@@ -75,8 +75,8 @@ module _ (table : List ℕ) where
       let e : p ≡ p - 1 + 1 = omega arith in
       rw e (aggregate-unnamed t (record { link = i + 1; level = p - 1 + 1 }) (queue-no-level table i (p - 1) h (omega (arith, length-up m (queueAt table i)))) fs on) in
       rw split
-      (ap (linkFinding speed (own ++ more)) (levels-append t fs (i + 1) 1 own more)
-      ∙ padding speed more (model.levelAggregates t fs (i + 1) (1 + length own) more) (levels-empty t fs (i + 1) (1 + length own) more past) own
+      (ap (linkFinding speed bestEffort (own ++ more)) (levels-append t fs (i + 1) 1 own more)
+      ∙ padding speed bestEffort more (model.levelAggregates t fs (i + 1) (1 + length own) more) (levels-empty t fs (i + 1) (1 + length own) more past) own
       (model.levelAggregates t fs (i + 1) 1 own)
       (sym (levels-length t fs (i + 1) 1 own)))
 
@@ -104,23 +104,21 @@ module _ (table : List ℕ) where
       unfolding causeAt linkAt hopAt
       hop-cause =
           let within = queue-within table e named in
-          let speed : ℕ = speedAt table i in
           ap (causeAt t (f ∷ fs) (i + 1)) (link-found table i (within .0))
           ∙ ap (linkCause (i + 1))
-          (sym (eight-levels (f ∷ fs) i speed (within .0) (well .shallow i (within .0)) (f-on, on))
-          ∙ ap (linkFinding speed (upTo levelsMost (queueAt table i))) hop-levels)
+          (sym (eight-levels (f ∷ fs) i (speedAt table i) (bestEffortAt table i) (within .0) (well .shallow i (within .0)) (f-on, on))
+          ∙ ap (findingAt table i) hop-levels)
 
   -- The finding at a link as the flows are.
   module _ (well : WellFormed table) (fs : List Flow) (sums : List ℕ) (figures : Figures t fs sums) (on : All (λ g. All (Named t) (g .path)) fs) where
     own-code : (i : ℕ) → i < linkCount table
-        → linkFinding (linkAt table i .speed) (linkAt table i .levels) (model.levelAggregates t fs (i + 1) 1 (linkAt table i .levels)) .code
+        → linkFinding (linkAt table i .speed) (linkAt table i .bestEffort) (linkAt table i .levels) (model.levelAggregates t fs (i + 1) 1 (linkAt table i .levels)) .code
         ≡ codeAt table sums i
     unfolding linkAt
     own-code i h =
-        let speed : ℕ = speedAt table i in
         ap (λ (w : Finding). w .code)
-        (sym (eight-levels fs i speed h (well .shallow i h) on)
-        ∙ ap (linkFinding speed (upTo levelsMost (queueAt table i))) (figure-levels fs sums i (omega (arith, well .few)) figures))
+        (sym (eight-levels fs i (speedAt table i) (bestEffortAt table i) h (well .shallow i h) on)
+        ∙ ap (findingAt table i) (figure-levels fs sums i (omega (arith, well .few)) figures))
 
     pub meets-code : (i : ℕ) → i < linkCount table → LinkMeets t fs (i + 1) → codeAt table sums i ≡ 0
     meets-code i h m = sym (own-code i h) ∙ m .meets (linkAt table i) (link-found table i h)
@@ -129,7 +127,7 @@ module _ (table : List ℕ) where
     code-meets i z h =
         record {
           meets = λ k e.
-              subst (λ (k : Link). linkFinding (k .speed) (k .levels) (model.levelAggregates t fs (i + 1) 1 (k .levels)) .code ≡ 0)
+              subst (λ (k : Link). linkFinding (k .speed) (k .bestEffort) (k .levels) (model.levelAggregates t fs (i + 1) 1 (k .levels)) .code ≡ 0)
               (Option·some-injective _ _ (sym (link-found table i h) ∙ e))
               (own-code i h ∙ z);
         }

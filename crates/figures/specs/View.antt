@@ -12,13 +12,13 @@ use Rattle.model.specs.Formula.{Aggregate}
 use Rattle.model.specs.QueueTable.{Table}
 use Rattle.model.specs.Orders.{Hop, Flow}
 use Rattle.model.specs.Aggregates.{source, aggregateAt}
-use Rattle.model.specs.LinkCheck.{linkFinding}
+use Rattle.model.specs.LinkCheck as check
 use Rattle.model.specs.Schedulable.{Named, LinkMeets}
 use Rattle.model.specs.WithFlow.{together}
 use Rattle.model.specs.Reference.{Cause, linkCause, firstCause, linkFindings, atHop, metEarlier}
 use Rattle.causes.specs.declared.Finding.{Finding}
 use Rattle.causes.specs.View.{findingOf}
-use Rattle.queue_table.specs.View.{upTo, entryAt, linkIn, levelIn, hopAt, tableNumbers, linkCount, speedAt, thresholdAt, queueAt, tableOf, AllQueues, WellFormed}
+use Rattle.queue_table.specs.View.{upTo, entryAt, linkIn, levelIn, hopAt, tableNumbers, linkCount, speedAt, bestEffortAt, thresholdAt, queueAt, tableOf, AllQueues, WellFormed}
 
 -- How many numbers a queue has in the array, and the array.
 abbrev pub figureNumbers : ℕ
@@ -41,7 +41,7 @@ levelsWith sums e share = set (levelFigures sums (linkIn e)) (levelIn e) (togeth
 
 -- What the check of a link asks of its levels.
 abbrev pub Summable : List Aggregate → Type 0
-Summable levels = (total (λ a. a .rate) levels < 2 ^ 40) × (total (λ a. a .burst) levels + 2 * largest (λ a. a .frame) levels ≤ 2 ^ 40)
+Summable levels = (total (λ a. a .rate) levels < 2 ^ 40) × (total (λ a. a .burst) levels + 2 * largest (λ a. a .frame) levels ≤ 2 ^ 39)
 
 -- The array holds the figures of the flows.
 pub record Figures (t : Table) (fs : List Flow) (sums : List ℕ) : Type 0 where
@@ -160,10 +160,13 @@ pub record OnTable (table entries : List ℕ) : Type 0 where
   pub named : AllQueues table entries
   pub once : atHop 16 metEarlier [] (map hopAt entries) ≡ none
 
+-- What the check of a link, counted from 0, finds with these figures of its eight levels.
+abbrev pub findingAt : (table : List ℕ) (link : ℕ) (levels : List Aggregate) → check.Finding
+findingAt table link = check.linkFinding (speedAt table link) (bestEffortAt table link) (upTo levelsMost (queueAt table link))
+
 -- What the check of the link of queue `e` finds with a flow counted in there by its share.
 abbrev pub causeWith : (table sums : List ℕ) (e : ℕ) (share : Aggregate) → Option Cause
-causeWith table sums e share =
-    linkCause (linkIn e + 1) (linkFinding (speedAt table (linkIn e)) (upTo levelsMost (queueAt table (linkIn e))) (levelsWith sums e share))
+causeWith table sums e share = linkCause (linkIn e + 1) (findingAt table (linkIn e) (levelsWith sums e share))
 
 -- The first of 21 to 23 along the path with the flow beside the others, which are on queues of the table. Free where a link is met twice or a queue
 -- that the table lacks has figures.
@@ -175,7 +178,7 @@ pub record PathChecked (share : Aggregate) (table sums entries : List ℕ) (r : 
 
 -- What the check of the eight levels of a link finds with these figures: the code of 21 to 23, or 0.
 abbrev pub codeAt : (table sums : List ℕ) (link : ℕ) → ℕ
-codeAt table sums link = linkFinding (speedAt table link) (upTo levelsMost (queueAt table link)) (levelFigures sums link) .code
+codeAt table sums link = findingAt table link (levelFigures sums link) .code
 
 -- The links of the table, with speeds in their range.
 pub record LinkSpeeds (table : List ℕ) : Type 0 where

@@ -5,13 +5,12 @@ ghost use Prim.Native.Nat.{_+_, _≤_, _<_};
 ghost use lib.ListN.{length};
 ghost use lib.Dec.{eqb};
 ghost use Rattle.model.specs.Sizes.{linksMost, levelsMost, queuesMost};
-ghost use Rattle.model.specs.LinkCheck.{linkFinding};
 ghost use Rattle.model.specs.Reference.{linkCause};
 ghost use Rattle.units.specs.View.{aggregateOf, AtSource};
 ghost use Rattle.queue_table.specs.View.{upTo, tableNumbers, linkIn, speedAt, queueAt, WellFormed};
 ghost use Rattle.causes.specs.View.{findingOf};
 ghost use Rattle.link_check.specs.View.{aggregatesOf, queuesOf};
-ghost use Rattle.figures.specs.View.{Summable, ShareBounded, Hops, Bounded, Speeds, causeWith, PathChecked, codeAt, LinkSpeeds, LinksMet};
+ghost use Rattle.figures.specs.View.{Summable, ShareBounded, Hops, Bounded, Speeds, findingAt, causeWith, PathChecked, codeAt, LinkSpeeds, LinksMet};
 use crate::figure;
 use crate::link_levels;
 use crate::shares::share_at;
@@ -51,11 +50,11 @@ fn find_on(link: usize, levels: [Aggregate; LEVELS], table: &[u32]) -> Finding
     requires { ⌜ (link < linksMost) × (length (now table) ≡ tableNumbers) ⌝ }
     requires { ⌜ speedAt (now table) link ≤ 10000 ⌝ }
     requires { ⌜ Summable (aggregatesOf levels) ⌝ }
-    ensures { λ r. ⌜ findingOf r ≡ linkCause (link + 1) (linkFinding (speedAt (now (table .entry)) link) (upTo levelsMost (queueAt (now (table .entry)) link)) (aggregatesOf levels)) ⌝ }
+    ensures { λ r. ⌜ findingOf r ≡ linkCause (link + 1) (findingAt (now (table .entry)) link (aggregatesOf levels)) ⌝ }
 {
     let queues = link_queues(link, table);
     let own = link_at(link, table);
-    let checked = check_link(link as u32 + 1, own.speed as u64, queues, levels);
+    let checked = check_link(link as u32 + 1, own.speed as u64, own.besteffort, queues, levels);
     checked.finding
 }
 

@@ -8,10 +8,9 @@ use native.Mathlib.Numerals.{add-one}
 use lib.ListN.{length, getD, set, drop, length-map, List·getD-map, drop-of-length-le}
 use lib.Seq.{drop-cons}
 use Rattle.units.specs.declared.Bytes.{Bytes}
-use Rattle.model.specs.Total.{largest}
+use Rattle.model.specs.Formula.{blocking}
 use Rattle.model.specs.Laws.List.{drop-set}
-use Rattle.model.specs.Laws.Total.{largest-next}
-use Rattle.model.specs.Laws.LinkSteps.{framesBelow}
+use Rattle.model.specs.Laws.LinkSteps.{blockings, blocking-more}
 use Rattle.units.specs.declared.Aggregate.{Aggregate}
 use Rattle.units.specs.View.{aggregateOf}
 use Rattle.link_check.specs.View.{aggregatesOf, bytesOf}
@@ -33,20 +32,20 @@ blank = record { rate = record { 0 = 0 }; burst = record { 0 = 0 }; frame = reco
 pub level-next : (l : List Aggregate) (i : ℕ) → i < length l → drop i (aggregatesOf l) ≡ aggregateOf (getD l i blank) ∷ drop (i + 1) (aggregatesOf l)
 level-next l i h = mapped-next aggregateOf l i blank h
 
--- The step of the loop that goes from the last level up: `top` is the largest frame of the levels from `i` on.
-module _ (levels : List Aggregate) (top : Bytes) (i : ℕ) (pos : 0 < i) (within : i ≤ length levels)
-    (so-far : top .0 ≡ largest (λ a. a .frame) (drop i (aggregatesOf levels))) where
+-- The step of the loop that goes from the last level up: `top` is what blocks above level `i`.
+module _ (alone : ℕ) (levels : List Aggregate) (top : Bytes) (i : ℕ) (pos : 0 < i) (within : i ≤ length levels)
+    (so-far : top .0 ≡ blocking alone (drop i (aggregatesOf levels))) where
   previous : drop (i - 1) (aggregatesOf levels) ≡ aggregateOf (getD levels (i - 1) blank) ∷ drop i (aggregatesOf levels)
   previous =
       let e : i - 1 + 1 ≡ i = omega arith in
       rw e at (level-next levels (i - 1) (omega arith))
 
-  pub top-previous : max (getD levels (i - 1) blank .frame .0) (top .0) ≡ largest (λ a. a .frame) (drop (i - 1) (aggregatesOf levels))
-  top-previous = rw so-far (sym (largest-next (λ a. a .frame) previous))
+  pub top-previous : max (getD levels (i - 1) blank .frame .0) (top .0) ≡ blocking alone (drop (i - 1) (aggregatesOf levels))
+  top-previous = rw so-far (sym (ap (blocking alone) previous ∙ blocking-more alone _ _))
 
-  pub below-previous : (below : List Bytes) → i ≤ length below → bytesOf (drop i below) ≡ framesBelow (drop i (aggregatesOf levels))
-      → bytesOf (drop (i - 1) (set below (i - 1) top)) ≡ framesBelow (drop (i - 1) (aggregatesOf levels))
-  unfolding framesBelow
-  below-previous below long rest =
+  pub blocked-previous : (blocked : List Bytes) → i ≤ length blocked → bytesOf (drop i blocked) ≡ blockings alone (drop i (aggregatesOf levels))
+      → bytesOf (drop (i - 1) (set blocked (i - 1) top)) ≡ blockings alone (drop (i - 1) (aggregatesOf levels))
+  unfolding blockings
+  blocked-previous blocked long rest =
       let next : suc (i - 1) ≡ i = omega arith in
-      ap bytesOf (rw next at (drop-set below (i - 1) top (omega arith))) ∙ ap₂ (λ (n : ℕ) (l : List ℕ). n ∷ l) so-far rest ∙ sym (ap framesBelow previous)
+      ap bytesOf (rw next at (drop-set blocked (i - 1) top (omega arith))) ∙ ap₂ (λ (n : ℕ) (l : List ℕ). n ∷ l) so-far rest ∙ sym (ap (blockings alone) previous)

@@ -6,7 +6,7 @@ ghost use Prim.Native.Nat.{_+_, _*_, _^_, _≤_, _<_};
 ghost use Rattle.model.specs.Total.{total, largest};
 ghost use Rattle.model.specs.LinkCheck.{levelsFinding, linkFinding};
 ghost use Rattle.model.specs.Reference.{linkCause};
-ghost use Rattle.model.specs.Laws.LinkSteps.{levelFinding, framesBelow};
+ghost use Rattle.model.specs.Laws.LinkSteps.{levelFinding, blockings};
 ghost use Rattle.units.specs.View.{aggregateOf};
 ghost use Rattle.causes.specs.View.{findingOf};
 ghost use Rattle.link_check.specs.View.{aggregatesOf, queueOf, queuesOf, bytesOf, levelFindingOf};
@@ -52,36 +52,36 @@ fn rate_sum(levels: [Aggregate; LEVELS]) -> Rate
     Rate(sum)
 }
 
-// The largest frame of all levels below each level.
-fn frames_below(levels: [Aggregate; LEVELS]) -> [Bytes; LEVELS]
-    ensures { λ r. ⌜ bytesOf r ≡ framesBelow (aggregatesOf levels) ⌝ }
+// Blocking at each level: the larger of the greatest frame of all levels below and the best-effort frame.
+fn blockings(besteffort: Bytes, levels: [Aggregate; LEVELS]) -> [Bytes; LEVELS]
+    ensures { λ r. ⌜ bytesOf r ≡ blockings (besteffort .0) (aggregatesOf levels) ⌝ }
 {
-    let mut below = [Bytes(0); LEVELS];
-    let mut largest = Bytes(0);
+    let mut blocked = [Bytes(0); LEVELS];
+    let mut largest = besteffort;
     let mut i = LEVELS;
     while 0 < i {
         i -= 1;
-        below[i] = largest;
+        blocked[i] = largest;
         let own = levels[i];
         let frame = own.frame;
         largest = larger(frame, largest);
     }
-    below
+    blocked
 }
 
-// One level: eq. 15, if it carries a flow. `above` has the sums of the levels above, `below` the largest frame of those below.
+// One level: eq. 15, if it carries a flow. `above` has the sums of the levels above, `blocked` the frame that may block it.
 fn check_level(
     speed: u64,
     level: u32,
     queue: Queue,
     above: Aggregate,
     own: Aggregate,
-    below: Bytes,
+    blocked: Bytes,
 ) -> LevelFinding
     requires { ⌜ speed ≤ 10000 ⌝ }
     requires { ⌜ above .rate .0 + own .rate .0 < 1000 * speed ⌝ }
-    requires { ⌜ above .burst .0 + below .0 + own .frame .0 + own .burst .0 ≤ 2 ^ 40 ⌝ }
-    ensures { λ r. ⌜ levelFindingOf r ≡ levelFinding speed level (queueOf queue) (aggregateOf above) (aggregateOf own) (below .0) ⌝ }
+    requires { ⌜ above .burst .0 + blocked .0 + own .frame .0 + own .burst .0 ≤ 2 ^ 40 ⌝ }
+    ensures { λ r. ⌜ levelFindingOf r ≡ levelFinding speed level (queueOf queue) (aggregateOf above) (aggregateOf own) (blocked .0) ⌝ }
 {
     let threshold = queue.threshold;
     let buffer = queue.buffer;
@@ -91,7 +91,7 @@ fn check_level(
     }
     let res = residual_rate(speed, above.rate);
     let burst = above.burst;
-    let y = Bytes(burst.0 + below.0 + frame.0);
+    let y = Bytes(burst.0 + blocked.0 + frame.0);
     let delay = delay_bound(y, own.burst, res);
     if threshold.0 < delay.0 {
         return LevelFinding::OverDelay(level);
@@ -104,13 +104,18 @@ fn check_level(
 }
 
 // All levels, from 1 on.
-fn check_levels(speed: u64, queues: [Queue; LEVELS], levels: [Aggregate; LEVELS]) -> LevelFinding
+fn check_levels(
+    speed: u64,
+    besteffort: Bytes,
+    queues: [Queue; LEVELS],
+    levels: [Aggregate; LEVELS],
+) -> LevelFinding
     requires { ⌜ speed ≤ 10000 ⌝ }
     requires { ⌜ total (λ a. a .rate) (aggregatesOf levels) < 1000 * speed ⌝ }
-    requires { ⌜ total (λ a. a .burst) (aggregatesOf levels) + 2 * largest (λ a. a .frame) (aggregatesOf levels) ≤ 2 ^ 40 ⌝ }
-    ensures { λ r. ⌜ levelFindingOf r ≡ levelsFinding speed 1 [] (queuesOf queues) (aggregatesOf levels) ⌝ }
+    requires { ⌜ total (λ a. a .burst) (aggregatesOf levels) + 2 * largest (λ a. a .frame) (aggregatesOf levels) + besteffort .0 ≤ 2 ^ 40 ⌝ }
+    ensures { λ r. ⌜ levelFindingOf r ≡ levelsFinding speed (besteffort .0) 1 [] (queuesOf queues) (aggregatesOf levels) ⌝ }
 {
-    let below = frames_below(levels);
+    let blocked = blockings(besteffort, levels);
     let mut above = Aggregate {
         rate: Rate(0),
         burst: Bytes(0),
@@ -119,7 +124,7 @@ fn check_levels(speed: u64, queues: [Queue; LEVELS], levels: [Aggregate; LEVELS]
     let mut i: usize = 0;
     while i < LEVELS {
         let own = levels[i];
-        let found = check_level(speed, i as u32 + 1, queues[i], above, own, below[i]);
+        let found = check_level(speed, i as u32 + 1, queues[i], above, own, blocked[i]);
         let LevelFinding::Fits = found else {
             return found;
         };
@@ -144,18 +149,19 @@ fn on_link(link: u32, found: LevelFinding) -> Finding
 pub fn check_link(
     link: u32,
     speed: u64,
+    besteffort: Bytes,
     queues: [Queue; LEVELS],
     levels: [Aggregate; LEVELS],
 ) -> Checked
     requires { ⌜ speed ≤ 10000 ⌝ }
     requires { ⌜ total (λ a. a .rate) (aggregatesOf levels) < 2 ^ 40 ⌝ }
-    requires { ⌜ total (λ a. a .burst) (aggregatesOf levels) + 2 * largest (λ a. a .frame) (aggregatesOf levels) ≤ 2 ^ 40 ⌝ }
+    requires { ⌜ total (λ a. a .burst) (aggregatesOf levels) + 2 * largest (λ a. a .frame) (aggregatesOf levels) + besteffort .0 ≤ 2 ^ 40 ⌝ }
     ensures { λ r. ⌜ r .levels ≡ levels ⌝ }
-    ensures { λ r. ⌜ findingOf (r .finding) ≡ linkCause link (linkFinding speed (queuesOf queues) (aggregatesOf levels)) ⌝ }
+    ensures { λ r. ⌜ findingOf (r .finding) ≡ linkCause link (linkFinding speed (besteffort .0) (queuesOf queues) (aggregatesOf levels)) ⌝ }
 {
     if within_rate(speed, rate_sum(levels)) {
         return Checked {
-            finding: on_link(link, check_levels(speed, queues, levels)),
+            finding: on_link(link, check_levels(speed, besteffort, queues, levels)),
             levels,
         };
     }

@@ -8,7 +8,7 @@ use lib.ListN.{length, getD, set, length-set}
 use lib.Seq.{sets, length-sets, getD-set-same, getD-set-other}
 use Rattle.model.specs.Sizes.{linksMost, levelsMost}
 use Rattle.model.specs.QueueTable as model
-use Rattle.queue_table.specs.View.{entryAt, linkPosition, queuePosition, countPosition, tableNumbers, upTo, queueAt, linkCount, fromAt, toAt, speedAt, levelsAt, fixedDelayAt, thresholdAt, bufferAt, linkAt, linksOf, tableOf, linkStored, queueStored, rowStored, Linked, WellFormed, Placed}
+use Rattle.queue_table.specs.View.{entryAt, linkPosition, queuePosition, countPosition, tableNumbers, upTo, queueAt, linkCount, fromAt, toAt, speedAt, levelsAt, fixedDelayAt, bestEffortAt, thresholdAt, bufferAt, linkAt, linksOf, tableOf, linkStored, queueStored, rowStored, Linked, WellFormed, Placed}
 use Rattle.queue_table.proofs.ViewLaws.{up-same, down-same}
 
 -- Numbers stored from `i` on: below that and past them nothing changes, and each number stands where it was stored.
@@ -31,11 +31,11 @@ sets-at l i (v ∷ vs) (suc k) h room =
 
 -- The link of a row, with these levels.
 abbrev pub linkWith : model.Row → List model.Queue → model.Link
-linkWith r qs = record { from = r .from; to = r .to; speed = r .speed; fixedDelay = r .fixedDelay; levels = qs }
+linkWith r qs = record { from = r .from; to = r .to; speed = r .speed; fixedDelay = r .fixedDelay; bestEffort = r .bestEffort; levels = qs }
 
 module _ (r : model.Row) (table : List ℕ) (placed : Placed r table) where
   abbrev linkNumbers : List ℕ
-  linkNumbers = r .from ∷ r .to ∷ r .speed ∷ r .level ∷ r .fixedDelay ∷ []
+  linkNumbers = r .from ∷ r .to ∷ r .speed ∷ r .level ∷ r .fixedDelay ∷ r .bestEffort ∷ []
 
   abbrev queueNumbers : List ℕ
   queueNumbers = r .threshold ∷ r .buffer ∷ []
@@ -51,7 +51,7 @@ module _ (r : model.Row) (table : List ℕ) (placed : Placed r table) where
   unfolding linkStored queueStored
   link-kept k h = sets-below (linkStored r table) queueAt′ queueNumbers k (omega (arith, placed .link-high)) ∙ sets-below table linkAt′ linkNumbers k h
 
-  pub link-stored : (k : ℕ) → k < 5 → getD (rowStored r table) (linkAt′ + k) 0 ≡ getD linkNumbers k 0
+  pub link-stored : (k : ℕ) → k < 6 → getD (rowStored r table) (linkAt′ + k) 0 ≡ getD linkNumbers k 0
   unfolding linkStored queueStored
   link-stored k h =
       sets-below (linkStored r table) queueAt′ queueNumbers (linkAt′ + k) (omega (arith, placed .link-low, placed .link-high))
@@ -95,7 +95,7 @@ module _ (r : model.Row) (table : List ℕ) (placed : Placed r table) where
 
   -- An older link is as it was.
   older : (i : ℕ) → i < r .link - 1 → levelsAt table i ≤ levelsMost → linkAt (rowStored r table) i ≡ linkAt table i
-  unfolding linkAt fromAt toAt speedAt fixedDelayAt
+  unfolding linkAt fromAt toAt speedAt fixedDelayAt bestEffortAt
   older i h few =
       let same : levelsAt (rowStored r table) i ≡ levelsAt table i = older-levels i h in
       λ t.
@@ -104,6 +104,7 @@ module _ (r : model.Row) (table : List ℕ) (placed : Placed r table) where
         to = link-kept (linkPosition i + 1) (omega arith) t;
         speed = link-kept (linkPosition i + 2) (omega arith) t;
         fixedDelay = link-kept (linkPosition i + 4) (omega arith) t;
+        bestEffort = link-kept (linkPosition i + 5) (omega arith) t;
         levels =
             (ap (λ (n : ℕ). upTo n (queueAt (rowStored r table) i)) same ∙ levels-kept i (levelsAt table i) (omega (arith, placed .level-low))) t;
       }
@@ -111,7 +112,7 @@ module _ (r : model.Row) (table : List ℕ) (placed : Placed r table) where
   -- The row's link has its numbers, and levels up to the row's.
   pub stored : linkAt (rowStored r table) (r .link - 1)
       ≡ linkWith r (upTo (r .level) (queueAt (rowStored r table) (r .link - 1)))
-  unfolding linkAt fromAt toAt speedAt levelsAt fixedDelayAt
+  unfolding linkAt fromAt toAt speedAt levelsAt fixedDelayAt bestEffortAt
   stored =
       let e : linkAt′ + 0 ≡ linkAt′ = omega arith in
       λ t.
@@ -120,6 +121,7 @@ module _ (r : model.Row) (table : List ℕ) (placed : Placed r table) where
         to = link-stored 1 (omega arith) t;
         speed = link-stored 2 (omega arith) t;
         fixedDelay = link-stored 4 (omega arith) t;
+        bestEffort = link-stored 5 (omega arith) t;
         levels = upTo (link-stored 3 (omega arith) t) (queueAt (rowStored r table) (r .link - 1));
       }
 
@@ -168,7 +170,7 @@ module _ (n : ℕ) (table : List ℕ) (linked : Linked n table) where
       }
 
   link-same : (i : ℕ) → i < n → linkAt counted i ≡ linkAt table i
-  unfolding linkAt fromAt toAt speedAt fixedDelayAt
+  unfolding linkAt fromAt toAt speedAt fixedDelayAt bestEffortAt
   link-same i h =
       λ t.
       record {
@@ -176,6 +178,7 @@ module _ (n : ℕ) (table : List ℕ) (linked : Linked n table) where
         to = number-kept (linkPosition i + 1) (omega (arith, linked .few)) t;
         speed = number-kept (linkPosition i + 2) (omega (arith, linked .few)) t;
         fixedDelay = number-kept (linkPosition i + 4) (omega (arith, linked .few)) t;
+        bestEffort = number-kept (linkPosition i + 5) (omega (arith, linked .few)) t;
         levels =
             (ap (λ (m : ℕ). upTo m (queueAt counted i)) (levels-same i h)
             ∙ up-same (levelsAt table i) (queueAt counted i) (queueAt table i) (λ p lt. queue-same i p h (omega (arith, linked .shallow i h)))) t;

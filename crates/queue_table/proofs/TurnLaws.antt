@@ -18,7 +18,7 @@ use Rattle.queue_table.specs.declared.Fault.{Fault}
 use Rattle.queue_table.specs.declared.Fault.the-variants.{Malformed, OutOfRange, OutOfTurn, Disagrees, TooLong}
 use Rattle.queue_table.specs.declared.Judgement.{Judgement}
 use Rattle.queue_table.specs.declared.Judgement.the-variants.{Fine, Faulty}
-use Rattle.queue_table.specs.View.{upTo, queueAt, fromAt, toAt, speedAt, levelsAt, fixedDelayAt, linkAt, linksOf, faultCode, codeOf, stepWhen, leftWhen, rowStored, Linked, Placed}
+use Rattle.queue_table.specs.View.{upTo, queueAt, fromAt, toAt, speedAt, levelsAt, fixedDelayAt, bestEffortAt, linkAt, linksOf, faultCode, codeOf, stepWhen, leftWhen, rowStored, Linked, Placed}
 use Rattle.queue_table.proofs.ViewLaws.{begins-at, continues-none, continues-at, same-at, links-newest}
 use Rattle.queue_table.proofs.StoreLaws.{linkWith, older-links, older-levels, stored, stored-levels, link-stored, stored-long}
 
@@ -35,6 +35,7 @@ record Continued (n : ℕ) (table : List ℕ) (r : model.Row) : Type 0 where
   to : r .to ≡ toAt table (n - 1)
   speed : r .speed ≡ speedAt table (n - 1)
   fixed : r .fixedDelay ≡ fixedDelayAt table (n - 1)
+  effort : r .bestEffort ≡ bestEffortAt table (n - 1)
 
 module _ (n : ℕ) (table : List ℕ) (r : model.Row) (free : model.rowCause (linksOf n table) r ≡ 0) where
   judged : RowRules (linksOf n table) r
@@ -63,8 +64,8 @@ module _ (n : ℕ) (table : List ℕ) (r : model.Row) (free : model.rowCause (li
       go (suc m) at =
           let more : 0 < n = omega arith in
           let turn = and-both (eqb (r .link) n) (eqb (r .level) (levelsAt table (n - 1) + 1)) (sym (continues-at table n r more) ∙ continues e) in
-          let four = sym (same-at table n r more) ∙ same e in
-          let three = and-both (eqb (r .from) (fromAt table (n - 1)) && eqb (r .to) (toAt table (n - 1)) && eqb (r .speed) (speedAt table (n - 1))) _ four in
+          let four = and-both (eqb (r .from) (fromAt table (n - 1)) && eqb (r .to) (toAt table (n - 1)) && eqb (r .speed) (speedAt table (n - 1)) && eqb (r .fixedDelay) (fixedDelayAt table (n - 1))) _ (sym (same-at table n r more) ∙ same e) in
+          let three = and-both (eqb (r .from) (fromAt table (n - 1)) && eqb (r .to) (toAt table (n - 1)) && eqb (r .speed) (speedAt table (n - 1))) _ (four .0) in
           let ends = and-both (eqb (r .from) (fromAt table (n - 1)) && eqb (r .to) (toAt table (n - 1))) (eqb (r .speed) (speedAt table (n - 1))) (three .0) in
           let nodes = and-both (eqb (r .from) (fromAt table (n - 1))) (eqb (r .to) (toAt table (n - 1))) (ends .0) in
           record {
@@ -75,6 +76,7 @@ module _ (n : ℕ) (table : List ℕ) (r : model.Row) (free : model.rowCause (li
             to = eqb-true (r .to) (toAt table (n - 1)) (nodes .1);
             speed = eqb-true (r .speed) (speedAt table (n - 1)) (ends .1);
             fixed = eqb-true (r .fixedDelay) (fixedDelayAt table (n - 1)) (three .1);
+            effort = eqb-true (r .bestEffort) (bestEffortAt table (n - 1)) (four .1);
           }
 
 -- A row that begins a link is a link more; any other goes to the newest.
@@ -131,6 +133,7 @@ module _ (n : ℕ) (table : List ℕ) (r : model.Row) (linked : Linked n table) 
         to = at .to t;
         speed = at .speed t;
         fixedDelay = at .fixed t;
+        bestEffort = at .effort t;
         levels = upTo (levels t) (queueAt table (link t)) ++ (model.queueOf r ∷ []);
       }
 

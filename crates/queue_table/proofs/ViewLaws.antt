@@ -10,7 +10,7 @@ use borrow.Author.Tests.{eq-eqb, ne-eqb, eqb-true, eqb-false}
 use lib.ListN.{length, length-append}
 use lib.Dec.{eqb}
 use Rattle.model.specs.QueueTable as model
-use Rattle.queue_table.specs.View.{upTo, downFrom, queueAt, fromAt, toAt, speedAt, levelsAt, fixedDelayAt, linkAt, linksOf}
+use Rattle.queue_table.specs.View.{upTo, downFrom, queueAt, fromAt, toAt, speedAt, levelsAt, fixedDelayAt, bestEffortAt, linkAt, linksOf}
 
 -- Two tests of equality that hold together are one.
 pub same-test : (a b c d : ℕ) → (a ≡ b → c ≡ d) → (c ≡ d → a ≡ b) → eqb a b ≡ eqb c d
@@ -94,6 +94,7 @@ module _ (table : List ℕ) (n : ℕ) (r : model.Row) where
       ≡ (eqb (r .from) (fromAt table (n - 1))
       && eqb (r .to) (toAt table (n - 1))
       && eqb (r .speed) (speedAt table (n - 1))
-      && eqb (r .fixedDelay) (fixedDelayAt table (n - 1)))
+      && eqb (r .fixedDelay) (fixedDelayAt table (n - 1))
+      && eqb (r .bestEffort) (bestEffortAt table (n - 1)))
   unfolding model.sameLink linkAt
   same-at pos = rw (links-newest table n pos)

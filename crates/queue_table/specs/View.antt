@@ -37,6 +37,7 @@ numbersOf r =
       threshold = r .threshold;
       buffer = r .buffer;
       fixedDelay = r .fixed;
+      bestEffort = r .besteffort;
     }
 
 abbrev pub rowOf : RowRead → Option model.Row
@@ -82,7 +83,7 @@ hopAt entry = record { link = linkIn entry + 1; level = levelIn entry + 1 }
 
 -- Where the numbers of a link stand, those of a queue, and the number of links; how many numbers there are.
 abbrev pub linkPosition : (link : ℕ) → ℕ
-linkPosition i = 5 * i
+linkPosition i = 6 * i
 
 abbrev pub queuePosition : (entry : ℕ) → ℕ
 queuePosition e = linkPosition linksMost + 2 * e
@@ -97,7 +98,7 @@ tableNumbers = countPosition + 1
 unfoldable pub linkCount : (table : List ℕ) → ℕ
 linkCount table = getD table countPosition 0
 
--- From node, to node, speed, number of levels and fixed delay of link i, counted from 0.
+-- From node, to node, speed, number of levels, fixed delay and best-effort frame of link i, counted from 0.
 unfoldable pub fromAt : (table : List ℕ) (i : ℕ) → ℕ
 fromAt table i = getD table (linkPosition i) 0
 
@@ -112,6 +113,9 @@ levelsAt table i = getD table (linkPosition i + 3) 0
 
 unfoldable pub fixedDelayAt : (table : List ℕ) (i : ℕ) → ℕ
 fixedDelayAt table i = getD table (linkPosition i + 4) 0
+
+unfoldable pub bestEffortAt : (table : List ℕ) (i : ℕ) → ℕ
+bestEffortAt table i = getD table (linkPosition i + 5) 0
 
 -- Threshold and buffer of the queue that an entry names.
 unfoldable pub thresholdAt : (table : List ℕ) (entry : ℕ) → ℕ
@@ -132,6 +136,7 @@ linkAt table i =
       to = toAt table i;
       speed = speedAt table i;
       fixedDelay = fixedDelayAt table i;
+      bestEffort = bestEffortAt table i;
       levels = upTo (levelsAt table i) (queueAt table i);
     }
 
@@ -163,7 +168,7 @@ WellFormed table = Linked (linkCount table) table
 
 -- A row's numbers stored in the array: those of its link, then those of its queue.
 unfoldable pub linkStored : model.Row → List ℕ → List ℕ
-linkStored r table = sets table (linkPosition (r .link - 1)) (r .from ∷ r .to ∷ r .speed ∷ r .level ∷ r .fixedDelay ∷ [])
+linkStored r table = sets table (linkPosition (r .link - 1)) (r .from ∷ r .to ∷ r .speed ∷ r .level ∷ r .fixedDelay ∷ r .bestEffort ∷ [])
 
 unfoldable pub queueStored : model.Row → List ℕ → List ℕ
 queueStored r table = sets table (queuePosition (entryAt (r .link - 1) (r .level - 1))) (r .threshold ∷ r .buffer ∷ [])

@@ -5,7 +5,7 @@ ghost use mathlib.Core.Path.{_≡_};
 ghost use Prim.Native.Nat.{_+_, _≤_, _<_, _^_};
 ghost use lib.ListN.{length};
 ghost use Rattle.model.specs.Sizes.{linksMost, levelsMost, queuesMost};
-ghost use Rattle.queue_table.specs.View.{tableNumbers, linkPosition, queuePosition, linkCount, fromAt, toAt, speedAt, levelsAt, fixedDelayAt, thresholdAt, bufferAt, entryAt, linkIn, levelIn, isQueue};
+ghost use Rattle.queue_table.specs.View.{tableNumbers, linkPosition, queuePosition, linkCount, fromAt, toAt, speedAt, levelsAt, fixedDelayAt, bestEffortAt, thresholdAt, bufferAt, entryAt, linkIn, levelIn, isQueue};
 use crate::COUNT;
 use crate::LEVELS;
 use crate::LINK_NUMBERS;
@@ -14,13 +14,14 @@ use crate::QUEUE_NUMBERS;
 use units::Bytes;
 use units::Micros;
 
-// The numbers of a link; its speed is in Mbit/s, `fixed` is its fixed delay.
+// The numbers of a link; its speed is in Mbit/s, `fixed` is its fixed delay, `besteffort` its best-effort frame.
 pub struct Link {
     pub from: u32,
     pub to: u32,
     pub speed: u32,
     pub levels: u32,
     pub fixed: Micros,
+    pub besteffort: Bytes,
 }
 
 pub struct Queue {
@@ -94,7 +95,7 @@ pub fn link_count(table: &[u32]) -> usize
 pub fn link_at(i: usize, table: &[u32]) -> Link
     requires { ⌜ (i < linksMost) × (length (now table) ≡ tableNumbers) ⌝ }
     ensures { λ r. ⌜ (r .from ≡ fromAt (now (table .entry)) i) × (r .to ≡ toAt (now (table .entry)) i) ⌝ }
-    ensures { λ r. ⌜ (r .speed ≡ speedAt (now (table .entry)) i) × (r .levels ≡ levelsAt (now (table .entry)) i) × (r .fixed .0 ≡ fixedDelayAt (now (table .entry)) i) × (r .fixed .0 < 2 ^ 32) ⌝ }
+    ensures { λ r. ⌜ (r .speed ≡ speedAt (now (table .entry)) i) × (r .levels ≡ levelsAt (now (table .entry)) i) × (r .fixed .0 ≡ fixedDelayAt (now (table .entry)) i) × (r .fixed .0 < 2 ^ 32) × (r .besteffort .0 ≡ bestEffortAt (now (table .entry)) i) × (r .besteffort .0 < 2 ^ 32) ⌝ }
 {
     let at = link_position(i);
     Link {
@@ -103,6 +104,7 @@ pub fn link_at(i: usize, table: &[u32]) -> Link
         speed: table[at + 2],
         levels: table[at + 3],
         fixed: Micros(table[at + 4] as u64),
+        besteffort: Bytes(table[at + 5] as u64),
     }
 }
 

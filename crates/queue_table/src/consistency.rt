@@ -32,6 +32,7 @@ fn level_in_range(i: usize, p: usize, table: &[u32]) -> bool
         threshold: queue.threshold.0 as u32,
         buffer: queue.buffer.0 as u32,
         fixed: link.fixed.0 as u32,
+        besteffort: link.besteffort.0 as u32,
     })
 }
 

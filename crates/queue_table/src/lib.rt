@@ -1,8 +1,8 @@
 // The queue table: links with their levels, read from a text (document 01, "Columns", table lines; codes 1 to 5).
 //
-// The table is one array of numbers. Link i, counted from 0, has its from node, to node, speed, number of levels and fixed
-// delay from `link_position(i)` on; queue e, which `entry_at` counts, has its threshold and buffer from
-// `queue_position(e)` on; the last number is how many links there are. What stands past them and their levels is free.
+// The table is one array of numbers. Link i, counted from 0, has its from node, to node, speed, number of levels, fixed
+// delay and best-effort frame from `link_position(i)` on; queue e, which `entry_at` counts, has its threshold and buffer
+// from `queue_position(e)` on; the last number is how many links there are. What stands past them and their levels is free.
 mod access;
 mod consistency;
 mod row;
@@ -39,7 +39,7 @@ pub const LEVELS: usize = 8;
 pub const QUEUES: usize = LINKS * LEVELS;
 
 // How many numbers a link has in the array, and a queue; where the number of links stands.
-const LINK_NUMBERS: usize = 5;
+const LINK_NUMBERS: usize = 6;
 
 const QUEUE_NUMBERS: usize = 2;
 
@@ -48,13 +48,15 @@ const COUNT: usize = LINK_NUMBERS * LINKS + QUEUE_NUMBERS * QUEUES;
 // How many numbers the array has.
 pub const TABLE_NUMBERS: usize = COUNT + 1;
 
-// How many columns a table line has, without a fixed delay and with one, and the longest; how many bytes a table text has
-// at the most.
+// How many columns a table line has: up to the buffer, up to the fixed delay, up to the best-effort frame, and the longest;
+// how many bytes a table text has at the most.
 const BASE_COLUMNS: usize = 36;
 
 const DELAY_COLUMNS: usize = 43;
 
-const ROW_COLUMNS: usize = DELAY_COLUMNS;
+const BEST_EFFORT_COLUMNS: usize = 48;
+
+const ROW_COLUMNS: usize = BEST_EFFORT_COLUMNS;
 
 pub const TABLE_BYTES: usize = QUEUES * (ROW_COLUMNS + 1);
 
@@ -66,7 +68,7 @@ pub enum Fault {
     OutOfRange,
     // 3: out of turn, or past the most links or levels.
     OutOfTurn,
-    // 4: from equals to, or nodes, speed or fixed delay differ within a link.
+    // 4: from equals to, or a number of the link differs within it.
     Disagrees,
     // 5: text too long.
     TooLong,
@@ -136,6 +138,7 @@ fn store_row(r: Row, table: &mut [u32]) -> usize
     let speed = r.speed;
     let levels = r.level;
     let fixed = r.fixed;
+    let besteffort = r.besteffort;
     let threshold = r.threshold;
     let buffer = r.buffer;
     let at = link_position(link - 1);
@@ -144,6 +147,7 @@ fn store_row(r: Row, table: &mut [u32]) -> usize
     table[at + 2] = speed;
     table[at + 3] = levels;
     table[at + 4] = fixed;
+    table[at + 5] = besteffort;
     let q = queue_position(entry_at(link - 1, level - 1));
     table[q] = threshold;
     table[q + 1] = buffer;

@@ -6,9 +6,10 @@ ghost use lib.ListN.{length};
 ghost use lib.Dec.{eqb};
 ghost use Rattle.columns.specs.View.{valueOf};
 ghost use Rattle.model.specs.Sizes.{linksMost};
-ghost use Rattle.model.specs.QueueTable.{isRowLength, laterField, row, rowInRange, continues, rowInTurn, sameLink, rowAgrees, rowCause};
+ghost use Rattle.model.specs.QueueTable.{isRowLength, laterField, row, bestEffortInRange, rowInRange, continues, rowInTurn, sameLink, rowAgrees, rowCause};
 ghost use Rattle.queue_table.specs.View.{tableNumbers, rowOf, numbersOf, linksOf, codeOf};
 use crate::BASE_COLUMNS;
+use crate::BEST_EFFORT_COLUMNS;
 use crate::DELAY_COLUMNS;
 use crate::Fault;
 use crate::Judgement;
@@ -27,6 +28,7 @@ pub(crate) struct Row {
     pub(crate) threshold: u32,
     pub(crate) buffer: u32,
     pub(crate) fixed: u32,
+    pub(crate) besteffort: u32,
 }
 
 pub(crate) enum RowRead {
@@ -41,7 +43,10 @@ fn is_row_length(columns: usize) -> bool
     if columns == BASE_COLUMNS {
         return true;
     }
-    columns == DELAY_COLUMNS
+    if columns == DELAY_COLUMNS {
+        return true;
+    }
+    columns == BEST_EFFORT_COLUMNS
 }
 
 // A field that shorter lines haven't: there it is 0.
@@ -85,6 +90,9 @@ pub(crate) fn read_row(line: &[u8]) -> RowRead
     let Field::Number(fixed) = later_field(line, 37, 43) else {
         return RowRead::Malformed;
     };
+    let Field::Number(besteffort) = later_field(line, 44, 48) else {
+        return RowRead::Malformed;
+    };
     RowRead::Numbers(Row {
         link,
         from,
@@ -94,7 +102,18 @@ pub(crate) fn read_row(line: &[u8]) -> RowRead
         threshold,
         buffer,
         fixed,
+        besteffort,
     })
+}
+
+// A best-effort frame: none, or as long as a frame is.
+fn best_effort_in_range(bytes: u32) -> bool
+    ensures { λ b. ⌜ b ≡ bestEffortInRange bytes ⌝ }
+{
+    if bytes == 0 {
+        return true;
+    }
+    columns::within(84, 1542, columns::wide(bytes))
 }
 
 // 2: each number is in its range.
@@ -107,6 +126,7 @@ pub(crate) fn in_range(r: Row) -> bool
     let threshold = r.threshold;
     let buffer = r.buffer;
     let fixed = r.fixed;
+    let besteffort = r.besteffort;
     if !columns::within(1, 9999, columns::wide(from)) {
         return false;
     }
@@ -122,7 +142,10 @@ pub(crate) fn in_range(r: Row) -> bool
     if !columns::within(1, 16_777_215, columns::wide(buffer)) {
         return false;
     }
-    columns::within(0, 10_000, columns::wide(fixed))
+    if !columns::within(0, 10_000, columns::wide(fixed)) {
+        return false;
+    }
+    best_effort_in_range(besteffort)
 }
 
 // The line is level 1 of the next link, after n of them.
@@ -177,7 +200,7 @@ fn in_turn(r: Row, n: usize, table: &[u32]) -> bool
     continues(r, n, table)
 }
 
-// The line has the nodes, the speed and the fixed delay of the newest of n links.
+// The line has all that is the link's as the newest of n links has it.
 fn same_link(r: Row, n: usize, table: &[u32]) -> bool
     requires { ⌜ (n ≤ linksMost) × (length (now table) ≡ tableNumbers) ⌝ }
     ensures { λ b. ⌜ b ≡ sameLink (linksOf n (now (table .entry))) (numbersOf r) ⌝ }
@@ -186,6 +209,7 @@ fn same_link(r: Row, n: usize, table: &[u32]) -> bool
     let to = r.to;
     let speed = r.speed;
     let fixed = columns::wide(r.fixed);
+    let besteffort = columns::wide(r.besteffort);
     if n == 0 {
         return false;
     }
@@ -199,10 +223,13 @@ fn same_link(r: Row, n: usize, table: &[u32]) -> bool
     if speed != newest.speed {
         return false;
     }
-    fixed == newest.fixed.0
+    if fixed != newest.fixed.0 {
+        return false;
+    }
+    besteffort == newest.besteffort.0
 }
 
-// 4: from and to are two nodes, and from, to, speed and fixed delay are the same within a link.
+// 4: from and to are two nodes, and all that is the link's is the same within a link.
 fn agrees(r: Row, n: usize, table: &[u32]) -> bool
     requires { ⌜ (n ≤ linksMost) × (length (now table) ≡ tableNumbers) ⌝ }
     ensures { λ b. ⌜ b ≡ rowAgrees (linksOf n (now (table .entry))) (numbersOf r) ⌝ }

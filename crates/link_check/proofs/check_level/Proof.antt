@@ -1,16 +1,16 @@
--- `link_check::check_level` meets its contract: its tests are the definition's, with the sums above as one level and the largest frame below as another.
+-- `link_check::check_level` meets its contract: its tests are the definition's, with the sums above as one level and what may block as the best-effort frame.
 -- Assumes nothing.
 use borrow.Author.Needs.{needs}
 use Prim.Native.Nat.{ℕ, _+_}
 use mathlib.Core.Path.{_≡_}
 use mathlib.Core.Bool.{true}
-use native.Mathlib.Nat.{add-zero, max-zero}
+use native.Mathlib.Nat.{add-zero}
 use lib.Dec.{leb}
 use borrow.Author.Tests.{eq-eqb, ne-eqb, le-leb, lt-leb}
-use Rattle.model.specs.Total.{total, largest}
+use Rattle.model.specs.Total.{total}
 use Rattle.model.specs.Formula.{residual, delayBound, backlogBound, delay, backlog, interference, levelResidual}
 use Rattle.model.specs.LinkCheck.{isEmpty, levelCode, orElse}
-use Rattle.model.specs.Laws.LinkSteps.{levelFinding}
+use Rattle.model.specs.Laws.LinkSteps.{levelFinding, blocking-none}
 use Rattle.link_check.proofs.check_level.Statement.{statement}
 use Rattle.link_check.proofs.check_level.Tie as tie
 
@@ -20,7 +20,7 @@ module _ (c : tie.After-delay-bound) where
   start = c .before .before .before .before .before .before .before .before .before .before .before
 
   abbrev y : ℕ
-  y = start .args .above .burst .0 + start .args .below .0 + start .args .own .frame .0
+  y = start .args .above .burst .0 + start .args .blocked .0 + start .args .own .frame .0
 
   abbrev res : ℕ
   res = residual (start .args .speed) (start .args .above .rate .0)
@@ -52,26 +52,26 @@ unfolding residual
 delay-bound-requires c κs = search needs
 
 returns-2 : tie.Need-returns-2
-unfolding levelFinding levelCode isEmpty orElse delay backlog interference levelResidual total largest
+unfolding levelFinding levelCode isEmpty orElse delay backlog interference levelResidual total
 returns-2 c =
     let at = c .before .before .before in
-    simp (ne-eqb _ 0 (carries at), add-zero, max-zero, lt-leb _ _ (rw (delayed at) at (c .if2 .taken)))
+    simp (ne-eqb _ 0 (carries at), add-zero, blocking-none, lt-leb _ _ (rw (delayed at) at (c .if2 .taken)))
 
 backlog-bound-requires : tie.Need-backlog-bound-requires
 unfolding residual
 backlog-bound-requires c κs = search needs
 
 returns-3 : tie.Need-returns-3
-unfolding levelFinding levelCode isEmpty orElse delay backlog interference levelResidual total largest
+unfolding levelFinding levelCode isEmpty orElse delay backlog interference levelResidual total
 returns-3 c =
     let at = c .before .before .before in
-    simp (ne-eqb _ 0 (carries (at .before .before .before .before)), add-zero, max-zero, in-time at, lt-leb _ _ (rw (queued at) at (c .if3 .taken)))
+    simp (ne-eqb _ 0 (carries (at .before .before .before .before)), add-zero, blocking-none, in-time at, lt-leb _ _ (rw (queued at) at (c .if3 .taken)))
 
 returns-4 : tie.Need-returns-4
-unfolding levelFinding levelCode isEmpty orElse delay backlog interference levelResidual total largest
+unfolding levelFinding levelCode isEmpty orElse delay backlog interference levelResidual total
 returns-4 c =
     let at = c .before .before .before in
-    simp (ne-eqb _ 0 (carries (at .before .before .before .before)), add-zero, max-zero, in-time at, le-leb _ _ (rw (queued at) at (c .if3 .left)))
+    simp (ne-eqb _ 0 (carries (at .before .before .before .before)), add-zero, blocking-none, in-time at, le-leb _ _ (rw (queued at) at (c .if3 .left)))
 
 pub check-level-spec : {M : Type 1} → statement M
 check-level-spec =

@@ -8,11 +8,10 @@ use native.Mathlib.Omega.{arith}
 use native.Mathlib.Numerals.{add-one}
 use lib.ListN.{length, getD, drop, length-map, List·getD-map}
 use Rattle.model.specs.Sizes.{levelsMost}
-use Rattle.model.specs.Total.{largest}
 use Rattle.model.specs.Formula as model
 use Rattle.model.specs.QueueTable.{Queue}
 use Rattle.model.specs.WithFlow.{noFlow}
-use Rattle.model.specs.Laws.LinkSteps.{levelFinding, framesBelow-at, Passed, passed-none, passed-all, passed-room, passed-next, passed-found}
+use Rattle.model.specs.Laws.LinkSteps.{levelFinding, blockings-at, Passed, passed-none, passed-all, passed-room, passed-next, passed-found}
 use Rattle.units.specs.View.{aggregateOf}
 use Rattle.queue_table.specs.declared.access.Queue as queue_table
 use Rattle.link_check.specs.View.{aggregatesOf, queueOf, queuesOf, levelFindingOf}
@@ -26,24 +25,24 @@ abbrev noQueue : queue_table.Queue
 noQueue = record { threshold = record { 0 = 0 }; buffer = record { 0 = 0 } }
 
 abbrev Inv-loop : tie.InvT-loop
-Inv-loop speed queues levels below above₀ i₀ above i = (i ≤ levelsMost) × Passed speed (queuesOf queues) (aggregatesOf levels) i (aggregateOf above)
+Inv-loop speed besteffort queues levels blocked above₀ i₀ above i = (i ≤ levelsMost) × Passed speed (besteffort .0) (queuesOf queues) (aggregatesOf levels) i (aggregateOf above)
 
 abbrev μ-loop : tie.MeasureT-loop
-μ-loop speed queues levels below above₀ i₀ above i = levelsMost - i
+μ-loop speed besteffort queues levels blocked above₀ i₀ above i = levelsMost - i
 
-long : (c : tie.Start Inv-loop μ-loop) → (length (c .args .t2) ≡ levelsMost) × (length (c .args .t3) ≡ levelsMost)
+long : (c : tie.Start Inv-loop μ-loop) → (length (c .args .t3) ≡ levelsMost) × (length (c .args .t4) ≡ levelsMost)
 long c = (search (needs, length-mapped), search (needs, length-mapped))
 
--- The queue and the level at `i`, and the largest frame below.
+-- The queue and the level at `i`, and what may block it.
 module _ (c : tie.In-loop Inv-loop μ-loop) where
   abbrev start : tie.Start Inv-loop μ-loop
   start = c .before .before .before
 
   abbrev queues : List Queue
-  queues = queuesOf (start .args .t2)
+  queues = queuesOf (start .args .t3)
 
   abbrev levels : List model.Aggregate
-  levels = aggregatesOf (start .args .t3)
+  levels = aggregatesOf (start .args .t4)
 
   abbrev i : ℕ
   i = c .before .loop .i
@@ -52,39 +51,39 @@ module _ (c : tie.In-loop Inv-loop μ-loop) where
   above = aggregateOf (c .before .loop .above)
 
   abbrev queue : Queue
-  queue = queueOf (getD (start .args .t2) i noQueue)
+  queue = queueOf (getD (start .args .t3) i noQueue)
 
   abbrev own : model.Aggregate
-  own = aggregateOf (getD (start .args .t3) i blank)
+  own = aggregateOf (getD (start .args .t4) i blank)
 
-  abbrev below : ℕ
-  below = getD (c .before .before .frames-below .result) i (record { 0 = 0 }) .0
+  abbrev blocked : ℕ
+  blocked = getD (c .before .before .blockings .result) i (record { 0 = 0 }) .0
 
   queue-at : drop i queues ≡ queue ∷ drop (i + 1) queues
-  queue-at = mapped-next queueOf (start .args .t2) i noQueue (omega (arith, long start))
+  queue-at = mapped-next queueOf (start .args .t3) i noQueue (omega (arith, long start))
 
   own-at : drop i levels ≡ own ∷ drop (i + 1) levels
-  own-at = level-next (start .args .t3) i (omega (arith, long start))
+  own-at = level-next (start .args .t4) i (omega (arith, long start))
 
-  below-at : below ≡ largest (λ a. a .frame) (drop (i + 1) levels)
-  below-at =
+  blocked-at : blocked ≡ model.blocking (start .args .besteffort .0) (drop (i + 1) levels)
+  blocked-at =
       rw (add-one i)
-      (sym (List·getD-map (λ b. b .0) (c .before .before .frames-below .result) i (record { 0 = 0 }))
-      ∙ ap (λ (l : List ℕ). getD l i 0) (c .before .before .frames-below .ensures)
-      ∙ framesBelow-at levels i (simp length-map (omega (arith, long start))))
+      (sym (List·getD-map (λ b. b .0) (c .before .before .blockings .result) i (record { 0 = 0 }))
+      ∙ ap (λ (l : List ℕ). getD l i 0) (c .before .before .blockings .ensures)
+      ∙ blockings-at (start .args .besteffort .0) levels i (simp length-map (omega (arith, long start))))
 
-  room : (above .rate + own .rate < 1000 * start .args .speed) × (above .burst + below + own .frame + own .burst ≤ 2 ^ 40)
-  room = omega (arith, passed-room (c .before .loop .inv .1) queue-at own-at, below-at, start .pre)
+  room : (above .rate + own .rate < 1000 * start .args .speed) × (above .burst + blocked + own .frame + own .burst ≤ 2 ^ 40)
+  room = omega (arith, passed-room (c .before .loop .inv .1) queue-at own-at, blocked-at, start .pre)
 
 -- What the call tells of the level.
 found : (c : tie.After-check-level Inv-loop μ-loop) → let at = c .before .before .before .before in
-    levelFinding (start at .args .speed) (i at + 1) (queue at) (above at) (own at) (largest (λ a. a .frame) (drop (i at + 1) (levels at)))
+    levelFinding (start at .args .speed) (i at + 1) (queue at) (above at) (own at) (model.blocking (start at .args .besteffort .0) (drop (i at + 1) (levels at)))
     ≡ levelFindingOf (c .check-level .result)
-found c = rw (below-at (c .before .before .before .before)) at (sym (c .check-level .ensures))
+found c = rw (blocked-at (c .before .before .before .before)) at (sym (c .check-level .ensures))
 
 loop-holds : tie.Need-loop-holds Inv-loop μ-loop
 unfolding noFlow
-loop-holds c = (omega arith, passed-none (c .before .args .speed) (queuesOf (c .before .args .t2)) (aggregatesOf (c .before .args .t3)))
+loop-holds c = (omega arith, passed-none (c .before .args .speed) (c .before .args .besteffort .0) (queuesOf (c .before .args .t3)) (aggregatesOf (c .before .args .t4)))
 
 check-level-requires : tie.Need-check-level-requires Inv-loop μ-loop
 check-level-requires c κs = omega (arith, room (c .before .before .before), c .before .before .before .before .before .before .pre)
@@ -110,7 +109,7 @@ returns-2 : tie.Need-returns-2 Inv-loop μ-loop
 returns-2 c =
     let start = c .before .before .before in
     let at = c .before .loop in
-    sym (passed-all (at .inv .1) (mapped-end aggregateOf (start .args .t3) (at .i) (omega (arith, long start))))
+    sym (passed-all (at .inv .1) (mapped-end aggregateOf (start .args .t4) (at .i) (omega (arith, long start))))
 
 pub check-levels-spec : {M : Type 1} → statement M
 check-levels-spec =

@@ -33,7 +33,7 @@ use Rattle.model.specs.Admissible.{LinkAdmits, Admissible}
 module _ (t : Table) (fs : List Flow) (frames : All (λ f. 1 ≤ f .frame) fs) (n : ℕ) (k : Link) (found : linkAt t n ≡ some k) where
   pub meets-admits : LinkMeets t fs n → LinkAdmits t fs n k
   meets-admits m =
-      let (rate, levels) = link-meets (k .speed) (k .levels) (levelAggregates t fs n 1 (k .levels)) (m .meets k found) in
+      let (rate, levels) = link-meets (k .speed) (k .bestEffort) (k .levels) (levelAggregates t fs n 1 (k .levels)) (m .meets k found) in
       record { rate = rate; levels = λ p q e c. level-admits t fs n k levels p q e (carries-frame t _ fs frames c) }
 
   pub admits-meets : LinkAdmits t fs n k → LinkMeets t fs n
@@ -41,9 +41,9 @@ module _ (t : Table) (fs : List Flow) (frames : All (λ f. 1 ≤ f .frame) fs) (
       record {
         meets = λ k′ e.
             subst
-            (λ (k : Link). linkFinding (k .speed) (k .levels) (levelAggregates t fs n 1 (k .levels)) .code ≡ 0)
+            (λ (k : Link). linkFinding (k .speed) (k .bestEffort) (k .levels) (levelAggregates t fs n 1 (k .levels)) .code ≡ 0)
             (Option·some-injective _ _ (sym found ∙ e))
-            (meets-link (k .speed) (k .levels) (levelAggregates t fs n 1 (k .levels)) (a .rate)
+            (meets-link (k .speed) (k .bestEffort) (k .levels) (levelAggregates t fs n 1 (k .levels)) (a .rate)
             (admits-level t fs n k (λ p q e h. a .levels p q e (frame-carries t _ fs h))));
       }
 

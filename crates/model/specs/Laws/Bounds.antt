@@ -119,7 +119,7 @@ module _ (s : State) (r : StateRules s) (h : Hop) where
       let m = all-member (FlowMeets (s .table) fs) (schedulable s r .flows) (c .among) in
       let n = all-member (Named (s .table)) (m .queues) (c .hop) in
       let (k, found, level, bounds) = queue-bounds (s .table) (r .table) h (n .queue) (n .found) in
-      let (rate, levels) = link-meets (k .speed) (k .levels) (levelAggregates (s .table) fs (h .link) 1 (k .levels))
+      let (rate, levels) = link-meets (k .speed) (k .bestEffort) (k .levels) (levelAggregates (s .table) fs (h .link) 1 (k .levels))
       (all-member (λ h. LinkMeets (s .table) fs (h .link)) (m .links) (c .hop) .meets k found) in
       let admits = level-admits (s .table) fs (h .link) k levels (h .level) (n .queue) level p in (
         omega (arith, level-below (s .table) fs (λ a. a .rate) (h .link) (k .levels) (h .level) level, bounds .speed),

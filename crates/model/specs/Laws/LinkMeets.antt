@@ -27,14 +27,14 @@ module _ (t : Table) where
   meets-part {part} {fs} p n m =
       record {
         meets = λ k e.
-            link-mono (k .speed) (k .levels) (level-pairs t part fs n (λ level. aggregate-part t p _) 1 (k .levels)) (m .meets k e);
+            link-mono (k .speed) (k .bestEffort) (k .levels) (level-pairs t part fs n (λ level. aggregate-part t p _) 1 (k .levels)) (m .meets k e);
       }
 
   pub meets-off : (f : Flow) (fs : List Flow) (n : ℕ) → crosses n (f .path) ≡ false → LinkMeets t fs n → LinkMeets t (f ∷ fs) n
   meets-off f fs n off m =
       record {
         meets = λ k e.
-            link-mono (k .speed) (k .levels) (level-pairs t (f ∷ fs) fs n (λ p. aggregate-off t f fs n p off) 1 (k .levels)) (m .meets k e);
+            link-mono (k .speed) (k .bestEffort) (k .levels) (level-pairs t (f ∷ fs) fs n (λ p. aggregate-off t f fs n p off) 1 (k .levels)) (m .meets k e);
       }
 
 -- A link's cause and its finding.
@@ -83,6 +83,6 @@ module _ (t : Table) (fs : List Flow) where
       go : (h : Hop) → List·Memᴰ h path → (o : Option Link) → linkAt t (h .link) ≡ o → Caused P (causeAt t fs (h .link) o)
       go h on none e = tt
       go h on (some k) e =
-          link-finds (λ w. Caused P (linkCause (h .link) w)) (λ level. tt) (k .speed) (k .levels) (levelAggregates t fs (h .link) 1 (k .levels))
+          link-finds (λ w. Caused P (linkCause (h .link) w)) (λ level. tt) (k .speed) (k .bestEffort) (k .levels) (levelAggregates t fs (h .link) 1 (k .levels))
           (rate h on k e)
           (λ i q f. level h on (suc i) q (ap (λ o. andThen o (λ l. getElem? (l .levels) i)) e ∙ f))

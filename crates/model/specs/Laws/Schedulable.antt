@@ -39,10 +39,11 @@ pub record RowBounds (l : Link) (q : Queue) : Type 0 where
 row-bounds : (l : Link) (q : Queue) → rowInRange (rowOf l q) ≡ true → RowBounds l q
 unfolding rowInRange rowOf
 row-bounds l q e =
-    let e₀ = and-both (between 1 9999 (l .from) && between 1 9999 (l .to) && between 1 10000 (l .speed) && between 1 100000 (q .threshold) && between 1 16777215 (q .buffer)) _ e .0 in
-    let (e₁, buffer) = and-both (between 1 9999 (l .from) && between 1 9999 (l .to) && between 1 10000 (l .speed) && between 1 100000 (q .threshold)) _ e₀ in
-    let (e₂, threshold) = and-both (between 1 9999 (l .from) && between 1 9999 (l .to) && between 1 10000 (l .speed)) _ e₁ in
-    let (e₃, speed) = and-both (between 1 9999 (l .from) && between 1 9999 (l .to)) _ e₂ in
+    let e₀ = and-both (between 1 9999 (l .from) && between 1 9999 (l .to) && between 1 10000 (l .speed) && between 1 100000 (q .threshold) && between 1 16777215 (q .buffer) && between 0 10000 (l .fixedDelay)) _ e .0 in
+    let e₁ = and-both (between 1 9999 (l .from) && between 1 9999 (l .to) && between 1 10000 (l .speed) && between 1 100000 (q .threshold) && between 1 16777215 (q .buffer)) _ e₀ .0 in
+    let (e₂, buffer) = and-both (between 1 9999 (l .from) && between 1 9999 (l .to) && between 1 10000 (l .speed) && between 1 100000 (q .threshold)) _ e₁ in
+    let (e₃, threshold) = and-both (between 1 9999 (l .from) && between 1 9999 (l .to) && between 1 10000 (l .speed)) _ e₂ in
+    let (e₄, speed) = and-both (between 1 9999 (l .from) && between 1 9999 (l .to)) _ e₃ in
     let (low, high) = between-true 1 100000 (q .threshold) threshold in
     let (slowest, fastest) = between-true 1 10000 (l .speed) speed in
     record {

@@ -70,13 +70,14 @@ one-more : (l : Link) (r : Row) → LinkRules l → rowInRange r ≡ true → eq
     → (r .to ≡ l .to)
     → (r .speed ≡ l .speed)
     → (r .fixedDelay ≡ l .fixedDelay)
+    → (r .bestEffort ≡ l .bestEffort)
     → LinkRules (addLevel l (queueOf r))
 unfolding addLevel rowOf queueOf rowInRange between
-one-more l r m range level high from to speed fixed =
+one-more l r m range level high from to speed fixed effort =
     let more : length (l .levels ++ (queueOf r ∷ [])) ≡ length (l .levels) + 1 = length-append (l .levels) (queueOf r ∷ []) in
     let last : r .level ≡ suc (length (l .levels)) = eqb-true _ _ level in
     record {
-      ranges = all-append _ (l .levels) (queueOf r ∷ []) (m .ranges) (rw (← from, ← to, ← speed, ← fixed) range, tt);
+      ranges = all-append _ (l .levels) (queueOf r ∷ []) (m .ranges) (rw (← from, ← to, ← speed, ← fixed, ← effort) range, tt);
       levels =
           both-and
           (le-leb 1 (length (l .levels ++ (queueOf r ∷ []))) (omega arith))
@@ -98,19 +99,21 @@ add-row (l ∷ ls) r m n = go (begins (l ∷ ls) r) refl
     goes-on : begins (l ∷ ls) r ≡ false → eqb (r .level) (suc (length (l .levels))) ≡ true
     goes-on e = and-both (eqb (r .link) (length (l ∷ ls))) _ (or-left _ _ (turn .0) e) .1
 
-    same : begins (l ∷ ls) r ≡ false → (r .from ≡ l .from) × (r .to ≡ l .to) × (r .speed ≡ l .speed) × (r .fixedDelay ≡ l .fixedDelay)
+    same : begins (l ∷ ls) r ≡ false
+        → (r .from ≡ l .from) × (r .to ≡ l .to) × (r .speed ≡ l .speed) × (r .fixedDelay ≡ l .fixedDelay) × (r .bestEffort ≡ l .bestEffort)
     same e =
         let agrees = and-both (not (eqb (r .from) (r .to))) _ (n .agrees) .1 in
-        let (three, fixed) = and-both (eqb (r .from) (l .from) && eqb (r .to) (l .to) && eqb (r .speed) (l .speed)) _ (or-right _ _ agrees e) in
+        let (four, effort) = and-both (eqb (r .from) (l .from) && eqb (r .to) (l .to) && eqb (r .speed) (l .speed) && eqb (r .fixedDelay) (l .fixedDelay)) _ (or-right _ _ agrees e) in
+        let (three, fixed) = and-both (eqb (r .from) (l .from) && eqb (r .to) (l .to) && eqb (r .speed) (l .speed)) _ four in
         let (two, speed) = and-both (eqb (r .from) (l .from) && eqb (r .to) (l .to)) _ three in
         let (from, to) = and-both (eqb (r .from) (l .from)) _ two in
-        (eqb-true _ _ from, eqb-true _ _ to, eqb-true _ _ speed, eqb-true _ _ fixed)
+        (eqb-true _ _ from, eqb-true _ _ to, eqb-true _ _ speed, eqb-true _ _ fixed, eqb-true _ _ effort)
 
     go : (b : Bool) → begins (l ∷ ls) r ≡ b → LinksRules (cond b (newLink r ∷ l ∷ ls) (addLevel l (queueOf r) ∷ ls))
     go true e = record { each = (new-link (l ∷ ls) r n, m .each); count = omega (arith, begun e, turn .1) }
     go false e =
         record {
-          each = (one-more l r (m .each .0) (n .range) (goes-on e) (turn .2) (same e .0) (same e .1) (same e .2) (same e .3), m .each .1);
+          each = (one-more l r (m .each .0) (n .range) (goes-on e) (turn .2) (same e .0) (same e .1) (same e .2) (same e .3) (same e .4), m .each .1);
           count = m .count;
         }
 

@@ -10,12 +10,11 @@ use lib.ListN.{set}
 use Rattle.model.specs.Sizes.{linksMost, levelsMost}
 use Rattle.model.specs.Formula as model
 use Rattle.model.specs.WithFlow.{together}
-use Rattle.model.specs.LinkCheck.{linkFinding}
 use Rattle.model.specs.Reference.{linkCause}
 use Rattle.units.specs.View.{aggregateOf}
-use Rattle.queue_table.specs.View.{upTo, linkIn, speedAt, queueAt}
+use Rattle.queue_table.specs.View.{linkIn}
 use Rattle.link_check.specs.View.{aggregatesOf}
-use Rattle.figures.specs.View.{figureAt, levelFigures, levelsWith}
+use Rattle.figures.specs.View.{figureAt, levelFigures, levelsWith, findingAt}
 use Rattle.figures.proofs.BoundLaws.{map-set, summable}
 use Rattle.figures.proofs.checking.check_hop.Statement.{statement}
 use Rattle.figures.proofs.checking.check_hop.Tie as tie
@@ -74,8 +73,8 @@ returns c =
     let table = args .table .now in
     let at = c .before .before .before .before .before in
     c .find-on .ensures
-    ∙ ap (λ (l : List model.Aggregate). linkCause (link at + 1) (linkFinding (speedAt table (link at)) (upTo levelsMost (queueAt table (link at))) l)) (counted (c .before))
-    ∙ ap (λ (k : ℕ). linkCause (k + 1) (linkFinding (speedAt table k) (upTo levelsMost (queueAt table k)) (levelsWith (args .sums .now) (args .e) (aggregateOf (args .share)))))
+    ∙ ap (λ (l : List model.Aggregate). linkCause (link at + 1) (findingAt table (link at) l)) (counted (c .before))
+    ∙ ap (λ (k : ℕ). linkCause (k + 1) (findingAt table k (levelsWith (args .sums .now) (args .e) (aggregateOf (args .share))))
     (at .link-of .ensures)
 
 pub check-hop-spec : {M : Type 1} → statement M

@@ -15,8 +15,7 @@ returns : tie.Need-returns
 returns c =
     let args = c .before .before .before .before .before .args in
     c .check-link .ensures .1
-    ∙ ap₂ (λ (s : ℕ) (qs : List Queue). linkCause (args .link + 1) (linkFinding s qs (aggregatesOf (args .levels)))) (c .before .before .link-at .ensures .1 .0)
-    (c .before .before .before .link-queues .ensures)
+    ∙ rw (c .before .before .link-at .ensures .1 .0, c .before .before .link-at .ensures .1 .4, c .before .before .before .link-queues .ensures)
 
 pub find-on-spec : {M : Type 1} → statement M
 find-on-spec = tie.close (tie.spec (λ c κs. search needs) (λ c κs. search needs) (λ c. search needs) (λ c. search needs) (λ c. search needs) (λ c κs. search needs) returns)

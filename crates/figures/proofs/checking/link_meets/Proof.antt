@@ -8,14 +8,12 @@ use mathlib.Core.List.{List}
 use mathlib.Core.Option.{none, some}
 use lib.Dec.{eqb}
 use Rattle.model.specs.Words.{isNone}
-use Rattle.model.specs.Sizes.{levelsMost}
 use Rattle.model.specs.Formula.{Aggregate}
 use Rattle.model.specs.LinkCheck as model
 use Rattle.model.specs.Reference.{Cause, linkCause}
 use Rattle.causes.specs.declared.Finding.{Finding}
 use Rattle.causes.specs.View.{findingOf}
-use Rattle.queue_table.specs.View.{upTo, speedAt, queueAt}
-use Rattle.figures.specs.View.{codeAt}
+use Rattle.figures.specs.View.{findingAt, codeAt}
 use Rattle.figures.proofs.BoundLaws.{summable-alone}
 use Rattle.figures.proofs.checking.link_meets.Statement.{statement}
 use Rattle.figures.proofs.checking.link_meets.Tie as tie
@@ -38,7 +36,7 @@ found c =
     let table = args .table .now in
     ap isNone
     (c .find-on .ensures
-    ∙ ap (λ (l : List Aggregate). linkCause (args .link + 1) (model.linkFinding (speedAt table (args .link)) (upTo levelsMost (queueAt table (args .link))) l)) (c .before .link-levels .ensures))
+    ∙ ap (λ (l : List Aggregate). linkCause (args .link + 1) (findingAt table (args .link) l)) (c .before .link-levels .ensures))
     ∙ coded (args .link + 1) _
 
 find-on-requires : tie.Need-find-on-requires

@@ -12,7 +12,7 @@ unfolding rowOf queueAt linkAt
 returns c =
     let link = c .before .before .before .before .before .before .link-at .ensures in
     let queue = c .before .before .before .before .queue-at .ensures in
-    c .in-range .ensures ∙ rw (link .0 .0, link .0 .1, link .1 .0, link .1 .2, queue .0 .0, queue .0 .1, c .before .before .before .before .before .entry-at .ensures .0)
+    c .in-range .ensures ∙ rw (link .0 .0, link .0 .1, link .1 .0, link .1 .2, link .1 .4, queue .0 .0, queue .0 .1, c .before .before .before .before .before .entry-at .ensures .0)
 
 pub level-in-range-spec : {M : Type 1} → statement M
 level-in-range-spec =

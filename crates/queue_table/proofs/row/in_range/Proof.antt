@@ -24,6 +24,9 @@ threshold-within c = ap (between 1 100000) (sym (c .before .before .wide4 .ensur
 buffer-within : (c : tie.Else5) → between 1 16777215 (c .before .before .before .before .before .before .before .before .before .before .before .before .before .before .before .args .r .buffer) ≡ true
 buffer-within c = ap (between 1 16777215) (sym (c .before .before .wide5 .ensures)) ∙ sym (c .before .within5 .ensures) ∙ not-false _ (c .if5 .left)
 
+fixed-within : (c : tie.Else6) → between 0 10000 (c .before .before .before .before .before .before .before .before .before .before .before .before .before .before .before .before .before .before .args .r .fixed) ≡ true
+fixed-within c = ap (between 0 10000) (sym (c .before .before .wide6 .ensures)) ∙ sym (c .before .within6 .ensures) ∙ not-false _ (c .if6 .left)
+
 returns : tie.Need-returns
 unfolding rowInRange
 returns c =
@@ -57,9 +60,14 @@ returns-5 c =
 returns-6 : tie.Need-returns-6
 unfolding rowInRange
 returns-6 c =
-    c .within6 .ensures ∙ ap (between 0 10000) (c .before .wide6 .ensures) ∙ sym (simp (from-within (c .before .before .before .before .before .before .before .before .before .before .before .before .before .before), to-within (c .before .before .before .before .before .before .before .before .before .before .before), speed-within (c .before .before .before .before .before .before .before .before), threshold-within (c .before .before .before .before .before), buffer-within (c .before .before)))
+    let ends = ap (between 0 10000) (sym (c .before .before .wide6 .ensures)) ∙ sym (c .before .within6 .ensures) ∙ not-true _ (c .if6 .taken) in
+    sym (simp (from-within (c .before .before .before .before .before .before .before .before .before .before .before .before .before .before .before), to-within (c .before .before .before .before .before .before .before .before .before .before .before .before), speed-within (c .before .before .before .before .before .before .before .before .before), threshold-within (c .before .before .before .before .before .before), buffer-within (c .before .before .before), ends))
+
+returns-7 : tie.Need-returns-7
+unfolding rowInRange
+returns-7 c = c .best-effort-in-range .ensures ∙ sym (simp (from-within (c .before .before .before .before .before .before .before .before .before .before .before .before .before .before .before .before), to-within (c .before .before .before .before .before .before .before .before .before .before .before .before .before), speed-within (c .before .before .before .before .before .before .before .before .before .before), threshold-within (c .before .before .before .before .before .before .before), buffer-within (c .before .before .before .before), fixed-within (c .before)))
 
 pub in-range-spec : {M : Type 1} → statement M
 in-range-spec =
     tie.close
-    (tie.spec (λ c κs. search needs) (λ c κs. search needs) returns (λ c κs. search needs) (λ c κs. search needs) returns-2 (λ c κs. search needs) (λ c κs. search needs) returns-3 (λ c κs. search needs) (λ c κs. search needs) returns-4 (λ c κs. search needs) (λ c κs. search needs) returns-5 (λ c κs. search needs) (λ c κs. search needs) returns-6)
+    (tie.spec (λ c κs. search needs) (λ c κs. search needs) returns (λ c κs. search needs) (λ c κs. search needs) returns-2 (λ c κs. search needs) (λ c κs. search needs) returns-3 (λ c κs. search needs) (λ c κs. search needs) returns-4 (λ c κs. search needs) (λ c κs. search needs) returns-5 (λ c κs. search needs) (λ c κs. search needs) returns-6 (λ c κs. search needs) returns-7)

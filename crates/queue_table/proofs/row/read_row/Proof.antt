@@ -39,6 +39,9 @@ read-buffer c = sym (c .before .before .read-at7 .ensures) ∙ ap valueOf (c .bu
 read-fixed : (c : tie.After-fixed) → laterField 37 43 (c .before .before .before .before .before .before .before .before .before .before .before .before .before .before .before .before .before .before .before .before .before .before .before .before .before .before .before .before .before .before .before .before .before .before .args .line .now) ≡ some (c .fixed .given .0 .0)
 read-fixed c = sym (c .before .before .later-field .ensures) ∙ ap valueOf (c .fixed .given .1)
 
+read-besteffort : (c : tie.After-besteffort) → laterField 44 48 (c .before .before .before .before .before .before .before .before .before .before .before .before .before .before .before .before .before .before .before .before .before .before .before .before .before .before .before .before .before .before .before .before .before .before .before .before .before .before .args .line .now) ≡ some (c .besteffort .given .0 .0)
+read-besteffort c = sym (c .before .before .later-field2 .ensures) ∙ ap valueOf (c .besteffort .given .1)
+
 returns : tie.Need-returns
 unfolding row
 returns c = sym (simp (sym (c .before .is-row-length .ensures) ∙ not-true _ (c .if1 .taken)))
@@ -94,9 +97,15 @@ returns-9 c =
 returns-10 : tie.Need-returns-10
 unfolding row rowFields
 returns-10 c =
+    let ends = sym (c .before .before .later-field2 .ensures) ∙ ap valueOf (c .enum-told9 .given .1) in
+    sym (simp (right-length (c .before .before .before .before .before .before .before .before .before .before .before .before .before .before .before .before .before .before .before .before .before .before .before .before .before .before .before .before .before .before .before .before .before .before .before), read-link (c .before .before .before .before .before .before .before .before .before .before .before .before .before .before .before .before .before .before .before .before .before .before .before .before .before .before .before .before .before .before .before .before), read-from (c .before .before .before .before .before .before .before .before .before .before .before .before .before .before .before .before .before .before .before .before .before .before .before .before .before .before .before .before), read-to (c .before .before .before .before .before .before .before .before .before .before .before .before .before .before .before .before .before .before .before .before .before .before .before .before), read-speed (c .before .before .before .before .before .before .before .before .before .before .before .before .before .before .before .before .before .before .before .before), read-level (c .before .before .before .before .before .before .before .before .before .before .before .before .before .before .before .before), read-threshold (c .before .before .before .before .before .before .before .before .before .before .before .before), read-buffer (c .before .before .before .before .before .before .before .before), read-fixed (c .before .before .before .before), ends))
+
+returns-11 : tie.Need-returns-11
+unfolding row rowFields
+returns-11 c =
     sym
     (simp
-    (right-length (c .before .before .before .before .before .before .before .before .before .before .before .before .before .before .before .before .before .before .before .before .before .before .before .before .before .before .before .before .before .before .before .before), read-link (c .before .before .before .before .before .before .before .before .before .before .before .before .before .before .before .before .before .before .before .before .before .before .before .before .before .before .before .before .before), read-from (c .before .before .before .before .before .before .before .before .before .before .before .before .before .before .before .before .before .before .before .before .before .before .before .before .before), read-to (c .before .before .before .before .before .before .before .before .before .before .before .before .before .before .before .before .before .before .before .before .before), read-speed (c .before .before .before .before .before .before .before .before .before .before .before .before .before .before .before .before .before), read-level (c .before .before .before .before .before .before .before .before .before .before .before .before .before), read-threshold (c .before .before .before .before .before .before .before .before .before), read-buffer (c .before .before .before .before .before), read-fixed (c .before)))
+    (right-length (c .before .before .before .before .before .before .before .before .before .before .before .before .before .before .before .before .before .before .before .before .before .before .before .before .before .before .before .before .before .before .before .before .before .before .before .before), read-link (c .before .before .before .before .before .before .before .before .before .before .before .before .before .before .before .before .before .before .before .before .before .before .before .before .before .before .before .before .before .before .before .before .before), read-from (c .before .before .before .before .before .before .before .before .before .before .before .before .before .before .before .before .before .before .before .before .before .before .before .before .before .before .before .before .before), read-to (c .before .before .before .before .before .before .before .before .before .before .before .before .before .before .before .before .before .before .before .before .before .before .before .before .before), read-speed (c .before .before .before .before .before .before .before .before .before .before .before .before .before .before .before .before .before .before .before .before .before), read-level (c .before .before .before .before .before .before .before .before .before .before .before .before .before .before .before .before .before), read-threshold (c .before .before .before .before .before .before .before .before .before .before .before .before .before), read-buffer (c .before .before .before .before .before .before .before .before .before), read-fixed (c .before .before .before .before .before), read-besteffort (c .before)))
 
 pub read-row-spec : {M : Type 1} → statement M
-read-row-spec = tie.close (tie.spec (λ c κs. search needs) returns (λ c κs. search needs) (λ c. search needs) (λ c. search needs) returns-2 (λ c κs. search needs) (λ c. search needs) (λ c. search needs) returns-3 (λ c κs. search needs) (λ c. search needs) (λ c. search needs) returns-4 (λ c κs. search needs) (λ c. search needs) (λ c. search needs) returns-5 (λ c κs. search needs) (λ c. search needs) (λ c. search needs) returns-6 (λ c κs. search needs) (λ c. search needs) (λ c. search needs) returns-7 (λ c κs. search needs) (λ c. search needs) (λ c. search needs) returns-8 (λ c κs. search needs) (λ c. search needs) (λ c. search needs) returns-9 returns-10)
+read-row-spec = tie.close (tie.spec (λ c κs. search needs) returns (λ c κs. search needs) (λ c. search needs) (λ c. search needs) returns-2 (λ c κs. search needs) (λ c. search needs) (λ c. search needs) returns-3 (λ c κs. search needs) (λ c. search needs) (λ c. search needs) returns-4 (λ c κs. search needs) (λ c. search needs) (λ c. search needs) returns-5 (λ c κs. search needs) (λ c. search needs) (λ c. search needs) returns-6 (λ c κs. search needs) (λ c. search needs) (λ c. search needs) returns-7 (λ c κs. search needs) (λ c. search needs) (λ c. search needs) returns-8 (λ c κs. search needs) (λ c. search needs) (λ c. search needs) returns-9 (λ c κs. search needs) (λ c. search needs) (λ c. search needs) returns-10 returns-11)
