@@ -54,7 +54,13 @@ fn find_on(link: usize, levels: [Aggregate; LEVELS], table: &[u32]) -> Finding
 {
     let queues = link_queues(link, table);
     let own = link_at(link, table);
-    let checked = check_link(link as u32 + 1, own.speed as u64, own.besteffort, queues, levels);
+    let checked = check_link(
+        link as u32 + 1,
+        own.speed as u64,
+        own.besteffort,
+        queues,
+        levels,
+    );
     checked.finding
 }
 

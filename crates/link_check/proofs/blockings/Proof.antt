@@ -15,14 +15,14 @@ use Rattle.link_check.proofs.blockings.Statement.{statement}
 use Rattle.link_check.proofs.blockings.Tie as tie
 
 abbrev Inv-loop : tie.InvT-loop
-Inv-loop besteffort levels blocked₀ top₀ i₀ blocked top i =
+Inv-loop levels blocked₀ top₀ i₀ blocked top i =
     (i ≤ levelsMost)
     × (length blocked ≡ levelsMost)
-    × (top .0 ≡ blocking (besteffort .0) (drop i (aggregatesOf levels)))
-    × (bytesOf (drop i blocked) ≡ blockings (besteffort .0) (drop i (aggregatesOf levels)))
+    × (top .0 ≡ blocking (top₀ .0) (drop i (aggregatesOf levels)))
+    × (bytesOf (drop i blocked) ≡ blockings (top₀ .0) (drop i (aggregatesOf levels)))
 
 abbrev μ-loop : tie.MeasureT-loop
-μ-loop besteffort levels blocked₀ top₀ i₀ blocked top i = i
+μ-loop levels blocked₀ top₀ i₀ blocked top i = i
 
 long : (c : tie.Start Inv-loop μ-loop) → length (c .args .t2) ≡ levelsMost
 long c = search (needs, length-mapped)

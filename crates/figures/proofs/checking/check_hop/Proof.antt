@@ -74,7 +74,7 @@ returns c =
     let at = c .before .before .before .before .before in
     c .find-on .ensures
     ∙ ap (λ (l : List model.Aggregate). linkCause (link at + 1) (findingAt table (link at) l)) (counted (c .before))
-    ∙ ap (λ (k : ℕ). linkCause (k + 1) (findingAt table k (levelsWith (args .sums .now) (args .e) (aggregateOf (args .share))))
+    ∙ ap (λ (k : ℕ). linkCause (k + 1) (findingAt table k (levelsWith (args .sums .now) (args .e) (aggregateOf (args .share)))))
     (at .link-of .ensures)
 
 pub check-hop-spec : {M : Type 1} → statement M
