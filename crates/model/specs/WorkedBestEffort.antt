@@ -14,7 +14,7 @@ use Rattle.model.specs.Total.{total, largest}
 use Rattle.model.specs.Formula.{ceilDiv, burstAtHop, residual, withinRate, delayBound, backlogBound, blocking, interference, levelResidual, delay, backlog}
 use Rattle.model.specs.Columns.{isDigit, digits, number, field, fieldAt, between, prepend, lines}
 use Rattle.model.specs.QueueTable.{Queue, Table, isRowLength, laterField, rowFields, row, bestEffortInRange, rowInRange, continues, begins, rowInTurn, sameLink, rowAgrees, rowCause, queueOf, newLink, addLevel, addRow, rowStep, lineStep, readLines, readTable}
-use Rattle.model.specs.Orders.{Hop, Flow, registering, headFields, hopField, hopFields, pathFields, numberInRange, hopsInRange, headInRange, flowOf, withPath, registrationOf, registration, kindNumber, kindOfNumber, kindOrder, orderOfKind, readOrder}
+use Rattle.model.specs.Orders.{Hop, Flow, headFields, hopField, hopFields, pathFields, numberInRange, hopsInRange, headInRange, flowOf, withPath, registrationOf, registration, kindNumber, kindOfNumber, kindOrder, orderOfKind, readOrder}
 use Rattle.model.specs.LinkCheck.{isEmpty, levelCode, orElse, levelsFinding, rateCode, linkFinding}
 use Rattle.model.specs.Aggregates.{linkAt, queueAt, thresholdOf, fixedDelayOf, bestEffortOf, shares, allShares, sameHop, addsAt, aggregateAt, levelAggregates}
 use Rattle.model.specs.Reference.{State, heldFlows, heldHops, withNumber, crosses, pathDelay, firstCause, whole, start, end, noQueue, metEarlier, startsElsewhere, numberFinding, lineFindings, deadlineFinding, isHeld, roomFindings, linkCause, causeAt, linkFindings, registerFindings, findings, refuse, fill, perform, decide, apply, Call, lineOfKind, onlyLine, callOrder, step, tableOf, opened, final}

@@ -34,7 +34,7 @@ pub text : String
 text =
     "   1   1   2   448 1      6      169      2\n   1   1   2   448 2     10      253      2\n   2   2   3   448 1      7      254      1\n"
 
-pub registers : String → Call
+unfoldable pub registers : String → Call
 registers line = record { kind = registering; bytes = bytes line }
 
 -- Flow 1 over both links, flow 2 on the lower level of link 1, flow 3 on link 2. Their deadlines are what thresholds and fixed delays sum to.

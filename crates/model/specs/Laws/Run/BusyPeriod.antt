@@ -98,7 +98,7 @@ module _ {grain speed most h : ℕ} {largest : ℕ → ℕ} {before after : ℕ 
 
   fits : (x : ℕ) → x ≤ h → WireFits grain most (before x)
   fits zero u = rw (s .starts) (empty-fits (s .link))
-  fits (suc x) u = 
+  fits (suc x) u =
       rw (s .serves x)
       (interval-fits grain (s .divided) (s .offered x) most (s .offers x) (grain * speed) (after x) (long x (omega arith)) (after-fits x (fits x (omega arith))))
 
@@ -113,7 +113,7 @@ module _ {grain speed most h : ℕ} {largest : ℕ → ℕ} {before after : ℕ 
     after-load x u =
         let qs = before x .levels in
         let more : waiting (whole (suc q) a) 1 (append (new x) 1 qs) ≤ waiting (whole (suc q) a) 1 qs + (above new q x + upTo new q a x) =
-            omega (arith, append-waiting (whole (suc q) a) (new x) 1 qs, whole-adds q a x (new x) (came x u) (length qs)) in
+        omega (arith, append-waiting (whole (suc q) a) (new x) 1 qs, whole-adds q a x (new x) (came x u) (length qs)) in
         rw (s .enters x) (omega (arith, mul-le-mul-left grain more))
 
     gone-on : (x : ℕ) → x ≤ h → Gone q a x (before x) → Gone q a (suc x) (before (suc x))

@@ -133,11 +133,11 @@ module _ {grain speed most h : ℕ} {largest : ℕ → ℕ} {before after : ℕ 
     unfolding held unsent sendingTime
     mostly x u =
         let less : held (own (suc q) x) (after x) ≤ largest (suc q) + waiting (whole (suc q) x) 1 (after x .levels) =
-            omega (
-              arith,
-              own-wire (suc q) x (largest (suc q)) (after x .wire) wire,
-              waiting-le (own (suc q) x) (whole (suc q) x) (own-whole (suc q) x) 1 (after x .levels),
-            ) in
+        omega (
+          arith,
+          own-wire (suc q) x (largest (suc q)) (after x .wire) wire,
+          waiting-le (own (suc q) x) (whole (suc q) x) (own-whole (suc q) x) 1 (after x .levels),
+        ) in
         omega (arith, mul-le-mul-left grain less)
       where
         wire : OnWire (λ n f. n ≡ suc q → f .length ≤ largest (suc q)) (after x .wire)
