@@ -110,11 +110,13 @@ module _ {grain speed most h : ℕ} {largest : ℕ → ℕ} {before after : ℕ 
 
     pub after-load : (x : ℕ) → x ≤ h → unsent grain (suc q) a (after x) ≤ unsent grain (suc q) a (before x) + sendingTime grain (above new q x + upTo new q a x)
     unfolding above upTo unsent enter sendingTime
-    after-load x u =
-        let qs = before x .levels in
-        let more : waiting (whole (suc q) a) 1 (append (new x) 1 qs) ≤ waiting (whole (suc q) a) 1 qs + (above new q x + upTo new q a x) =
-        omega (arith, append-waiting (whole (suc q) a) (new x) 1 qs, whole-adds q a x (new x) (came x u) (length qs)) in
-        rw (s .enters x) (omega (arith, mul-le-mul-left grain more))
+    after-load x u = rw (s .enters x) (omega (arith, mul-le-mul-left grain more))
+      where
+        qs : List (List Frame)
+        qs = before x .levels
+
+        more : waiting (whole (suc q) a) 1 (append (new x) 1 qs) ≤ waiting (whole (suc q) a) 1 qs + (above new q x + upTo new q a x)
+        more = omega (arith, append-waiting (whole (suc q) a) (new x) 1 qs, whole-adds q a x (new x) (came x u) (length qs))
 
     gone-on : (x : ℕ) → x ≤ h → Gone q a x (before x) → Gone q a (suc x) (before (suc x))
     unfolding upTo

@@ -131,19 +131,20 @@ module _ {grain speed most h : ℕ} {largest : ℕ → ℕ} {before after : ℕ 
     -- Only a frame under way has slots sent.
     mostly : (x : ℕ) → x ≤ h → sendingTime grain (held (own (suc q) x) (after x)) ≤ unsent grain (suc q) x (after x) + sendingTime grain (largest (suc q))
     unfolding held unsent sendingTime
-    mostly x u =
-        let less : held (own (suc q) x) (after x) ≤ largest (suc q) + waiting (whole (suc q) x) 1 (after x .levels) =
-        omega (
-          arith,
-          own-wire (suc q) x (largest (suc q)) (after x .wire) wire,
-          waiting-le (own (suc q) x) (whole (suc q) x) (own-whole (suc q) x) 1 (after x .levels),
-        ) in
-        omega (arith, mul-le-mul-left grain less)
+    mostly x u = omega (arith, mul-le-mul-left grain less)
       where
         wire : OnWire (λ n f. n ≡ suc q → f .length ≤ largest (suc q)) (after x .wire)
         wire =
             each-up (Sound largest x) (λ n f. n ≡ suc q → f .length ≤ largest (suc q)) (λ n f k e. omega (arith, k .short, ap largest e)) (after x)
             (after-each s x u) .wire
+
+        less : held (own (suc q) x) (after x) ≤ largest (suc q) + waiting (whole (suc q) x) 1 (after x .levels)
+        less =
+            omega (
+              arith,
+              own-wire (suc q) x (largest (suc q)) (after x .wire) wire,
+              waiting-le (own (suc q) x) (whole (suc q) x) (own-whole (suc q) x) 1 (after x .levels),
+            )
 
     backlog : (x : ℕ) → x ≤ h → held (own (suc q) x) (after x) ≤ backlogBound (rate (suc q)) (burst (suc q)) y res
     unfolding window sendingTime
