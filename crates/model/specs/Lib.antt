@@ -24,5 +24,6 @@ pub mod Punctual
 pub mod Delivery
 pub mod Timely
 pub mod WorkedRun
+pub mod WorkedBestEffort
 pub mod Laws
 pub mod Results

@@ -10,9 +10,9 @@ use native.Mathlib.Nat.{zero-add}
 use lib.ListN.{getD, getElem?}
 use Rattle.model.specs.Words.{All, every, filter, firstIndex, isNone, nth}
 use Rattle.model.specs.Total.{total, largest}
-use Rattle.model.specs.Formula.{ceilDiv, burstAtHop, residual, withinRate, delayBound, backlogBound, interference, levelResidual, delay, backlog}
+use Rattle.model.specs.Formula.{ceilDiv, burstAtHop, residual, withinRate, delayBound, backlogBound, blocking, interference, levelResidual, delay, backlog}
 use Rattle.model.specs.Columns.{isDigit, digits, number, field, fieldAt, between, prepend, lines}
-use Rattle.model.specs.QueueTable.{Queue, Table, isRowLength, laterField, rowFields, row, rowInRange, continues, begins, rowInTurn, sameLink, rowAgrees, rowCause, queueOf, newLink, addLevel, addRow, rowStep, lineStep, readLines, readTable}
+use Rattle.model.specs.QueueTable.{Queue, Table, isRowLength, laterField, rowFields, row, bestEffortInRange, rowInRange, continues, begins, rowInTurn, sameLink, rowAgrees, rowCause, queueOf, newLink, addLevel, addRow, rowStep, lineStep, readLines, readTable}
 use Rattle.model.specs.Orders.{Hop, Flow, registering, headFields, hopField, hopFields, pathFields, numberInRange, hopsInRange, headInRange, flowOf, withPath, registrationOf, registration, kindNumber, kindOfNumber, kindOrder, orderOfKind, readOrder}
 use Rattle.model.specs.LinkCheck.{isEmpty, levelCode, orElse, levelsFinding, rateCode, linkFinding}
 use Rattle.model.specs.Aggregates.{linkAt, queueAt, thresholdOf, fixedDelayOf, shares, allShares, sameHop, addsAt, aggregateAt, levelAggregates}
@@ -34,7 +34,7 @@ pub text : String
 text =
     "   1   1   2   448 1      6      169      2\n   1   1   2   448 2     10      253      2\n   2   2   3   448 1      7      254      1\n"
 
-pub registers : String → Call
+unfoldable pub registers : String → Call
 registers line = record { kind = registering; bytes = bytes line }
 
 -- Flow 1 over both links, flow 2 on the lower level of link 1, flow 3 on link 2. Their deadlines are what thresholds and fixed delays sum to.
@@ -65,22 +65,30 @@ table =
       to = 2;
       speed = 448;
       fixedDelay = 2;
+      bestEffort = 0;
       levels = record { threshold = 6; buffer = 169 } ∷ record { threshold = 10; buffer = 253 } ∷ [];
     }
-    ∷ record { from = 2; to = 3; speed = 448; fixedDelay = 1; levels = record { threshold = 7; buffer = 254 } ∷ [] }
+    ∷ record { from = 2; to = 3; speed = 448; fixedDelay = 1; bestEffort = 0; levels = record { threshold = 7; buffer = 254 } ∷ [] }
     ∷ []
 
 -- The calls admit these flows on this table.
 pub the-state : (state .table ≡ table) × (heldFlows (state .slots) ≡ flows)
-unfolding text calls registers bytes bytesFrom isDigit digits number field fieldAt between prepend lines isRowLength laterField rowFields row rowInRange continues begins rowInTurn sameLink rowAgrees rowCause queueOf newLink addLevel addRow rowStep lineStep readLines readTable headFields hopField hopFields pathFields numberInRange hopsInRange headInRange flowOf withPath registrationOf registration kindNumber kindOfNumber kindOrder orderOfKind readOrder total largest ceilDiv burstAtHop residual withinRate delayBound backlogBound interference levelResidual delay backlog isEmpty levelCode orElse levelsFinding rateCode linkFinding nth linkAt queueAt thresholdOf fixedDelayOf shares allShares sameHop addsAt aggregateAt levelAggregates heldFlows heldHops withNumber crosses pathDelay firstCause whole book.atHop isNone start end noQueue metEarlier startsElsewhere numberFinding lineFindings deadlineFinding every isHeld roomFindings linkCause causeAt linkFindings registerFindings findings firstIndex refuse fill perform decide apply lineOfKind onlyLine callOrder step tableOf opened final
+unfolding text calls registers bytes bytesFrom isDigit digits number field fieldAt between prepend lines isRowLength laterField rowFields row bestEffortInRange rowInRange continues begins rowInTurn sameLink rowAgrees rowCause queueOf newLink addLevel addRow rowStep lineStep readLines readTable headFields hopField hopFields pathFields numberInRange hopsInRange headInRange flowOf withPath registrationOf registration kindNumber kindOfNumber kindOrder orderOfKind readOrder total largest ceilDiv burstAtHop residual withinRate delayBound backlogBound blocking interference levelResidual delay backlog isEmpty levelCode orElse levelsFinding rateCode linkFinding nth linkAt queueAt thresholdOf fixedDelayOf shares allShares sameHop addsAt aggregateAt levelAggregates heldFlows heldHops withNumber crosses pathDelay firstCause whole book.atHop isNone start end noQueue metEarlier startsElsewhere numberFinding lineFindings deadlineFinding every isHeld roomFindings linkCause causeAt linkFindings registerFindings findings firstIndex refuse fill perform decide apply lineOfKind onlyLine callOrder step tableOf opened final
 the-state = (refl, refl)
+
+-- What is promised of the flows and the table that calls lead to.
+pub promised : (text : String) (calls : List Call) (table : Table) (flows : List Flow) → final (opened (bytes text)) calls .table ≡ table
+    → heldFlows (final (opened (bytes text)) calls .slots) ≡ flows → Timely table flows
+promised text calls table flows e d =
+    let s : State = final (opened (bytes text)) calls in
+    subst (λ t. Timely t flows) e (subst (Timely (s .table)) d (reached-timely (bytes text) calls))
 
 -- A frame of the flow with index `j` that its source adds at instant `x`. It takes a link 1.5 µs.
 abbrev pub frame : (j x : ℕ) → Frame
 frame j x = record { flow = j; hop = 0; length = 84; since = x; born = x }
 
-one : (f : Flow) (j x : ℕ) → getElem? flows j ≡ some f → 84 ≤ f .frame → Sends flows x (frame j x)
-one f j x e u = record { flow = f; known = e; first = refl; least = omega arith; most = u; since = refl; born = refl }
+pub one : (fs : List Flow) (f : Flow) (j x : ℕ) → getElem? fs j ≡ some f → 84 ≤ f .frame → Sends fs x (frame j x)
+one fs f j x e u = record { flow = f; known = e; first = refl; least = omega arith; most = u; since = refl; born = refl }
 
 -- At instant 1 a frame of level 2 is under way when one of level 1 comes; at instant 3 the link is free just when another comes.
 abbrev pub sent : ℕ → List Frame
@@ -88,15 +96,16 @@ sent x =
     getD ((frame 1 0 ∷ []) ∷ (frame 1 1 ∷ frame 0 1 ∷ []) ∷ (frame 1 2 ∷ []) ∷ (frame 0 3 ∷ []) ∷ (frame 2 4 ∷ []) ∷ []) x []
 
 pub sends : (x : ℕ) → All (Sends flows x) (sent x)
-sends zero = (one _ 1 0 refl (omega arith), tt)
-sends (suc zero) = (one _ 1 1 refl (omega arith), (one _ 0 1 refl (omega arith), tt))
-sends (suc (suc zero)) = (one _ 1 2 refl (omega arith), tt)
-sends (suc (suc (suc zero))) = (one _ 0 3 refl (omega arith), tt)
-sends (suc (suc (suc (suc zero)))) = (one _ 2 4 refl (omega arith), tt)
+sends zero = (one flows _ 1 0 refl (omega arith), tt)
+sends (suc zero) = (one flows _ 1 1 refl (omega arith), (one flows _ 0 1 refl (omega arith), tt))
+sends (suc (suc zero)) = (one flows _ 1 2 refl (omega arith), tt)
+sends (suc (suc (suc zero))) = (one flows _ 0 3 refl (omega arith), tt)
+sends (suc (suc (suc (suc zero)))) = (one flows _ 2 4 refl (omega arith), tt)
 sends (suc (suc (suc (suc (suc x))))) = tt
 
+-- The grain is 1, and nothing is offered.
 abbrev pub worked : Run table flows
-worked = runOf table flows sent (λ x q l. l) sends (λ x q l. Permᴰ·refl l)
+worked = runOf table flows 1 (λ x n slot. 0) sent (λ x q l. l) (omega arith) (λ x n slot. omega arith) sends (λ x q l. Permᴰ·refl l)
 
 -- A stay in a queue: on which link, of which flow, from when to when.
 pub record Stay : Type 0 where
@@ -129,10 +138,19 @@ pub the-run : (worked .before 1 1 ≡ record { wire = run.sending 2 (frame 1 0) 
     ≡ record { flow = 1; hop = 1; length = 84; since = 8; born = 1 }
     ∷ record { flow = 0; hop = 2; length = 84; since = 8; born = 1 }
     ∷ [])
-unfolding stays delivered ofFlow atHop leftSince onCable framesAt alongPath total run.onWire run.inQueue runOf states goesOn upTo coming run.pastEmpty run.pick run.bits run.start run.take run.send run.bitSlot run.interval run.hopOf run.next run.leftAgo run.handedOn run.moving run.reaching run.append run.enter run.emptyLevels run.emptyLink run.speedOf filter isNone nth linkAt fixedDelayOf sameHop
+unfolding stays delivered ofFlow atHop leftSince onCable framesAt alongPath total run.onWire run.inQueue runOf states goesOn upTo coming run.pastEmpty run.pick run.sendingTime run.startBestEffort run.start run.take run.send run.timeSlot run.interval run.hopOf run.next run.leftAgo run.handedOn run.moving run.reaching run.append run.enter run.emptyLevels run.emptyLink run.speedOf filter isNone nth linkAt fixedDelayOf sameHop
 the-run = (refl, refl, refl, refl, refl, refl)
 
--- Each source sends no more than its burst in all.
+-- Sources that add nothing from instant `last` on, and each no more than its burst in all, conform.
+pub in-all : (fs : List Flow) (sent : ℕ → List Frame) (last : ℕ) → ((j x : ℕ) → 0 + last ≤ x → bytesOf j (sent x) ≡ 0)
+    → ((j : ℕ) (f : Flow) → getElem? fs j ≡ some f → window (λ x. bytesOf j (sent x)) 0 last ≤ f .burst) → Conforming fs sent
+in-all fs sent last later bursts = record { bound = bound }
+  where
+    bound : (j : ℕ) (f : Flow) → getElem? fs j ≡ some f → (s n : ℕ) → 8000 * window (λ x. bytesOf j (sent x)) s (suc n) ≤ 8000 * f .burst + f .rate * n
+    bound j f e s n =
+        let g : ℕ → ℕ = λ x. bytesOf j (sent x) in
+        omega (arith, bursts j f e, window-join g 0 s (suc n), window-within g 0 last (s + suc n) (later j), ap (λ z. window g z (suc n)) (zero-add s))
+
 none-later : (j x : ℕ) → 0 + 5 ≤ x → bytesOf j (sent x) ≡ 0
 unfolding bytesOf total
 none-later j zero u = absurd (omega arith)
@@ -142,14 +160,9 @@ none-later j (suc (suc (suc zero))) u = absurd (omega arith)
 none-later j (suc (suc (suc (suc zero)))) u = absurd (omega arith)
 none-later j (suc (suc (suc (suc (suc x))))) u = refl
 
-in-all : (j s n : ℕ) → window (λ x. bytesOf j (sent x)) s n ≤ window (λ x. bytesOf j (sent x)) 0 5
-in-all j s n =
-    let g : ℕ → ℕ = λ x. bytesOf j (sent x) in
-    omega (arith, window-join g 0 s n, window-within g 0 5 (s + n) (none-later j), ap (λ z. window g z n) (zero-add s))
-
 pub conforming : Conforming flows sent
 unfolding window bytesOf total
-conforming = record { bound = bound }
+conforming = in-all flows sent 5 none-later bursts
   where
     bursts : (j : ℕ) (f : Flow) → getElem? flows j ≡ some f → window (λ x. bytesOf j (sent x)) 0 5 ≤ f .burst
     bursts zero f e = omega (arith, ap (λ z. z .burst) (Option·some-injective _ f e))
@@ -157,12 +170,9 @@ conforming = record { bound = bound }
     bursts (suc (suc zero)) f e = omega (arith, ap (λ z. z .burst) (Option·some-injective _ f e))
     bursts (suc (suc (suc j))) f e = absurd (Option·none-ne-some f e)
 
-    bound : (j : ℕ) (f : Flow) → getElem? flows j ≡ some f → (s n : ℕ) → 8000 * window (λ x. bytesOf j (sent x)) s (suc n) ≤ 8000 * f .burst + f .rate * n
-    bound j f e s n = omega (arith, in-all j s (suc n), bursts j f e)
-
 -- So the theorems speak of this run.
 pub timely : Timely table flows
-timely = subst (λ t. Timely t flows) (the-state .0) (subst (Timely (state .table)) (the-state .1) (reached-timely (bytes text) calls))
+timely = promised text calls table flows (the-state .0) (the-state .1)
 
 sums : (j : ℕ) (f : Flow) → getElem? flows j ≡ some f → pathDelay table (f .path) ≤ 16
 unfolding pathDelay total linkAt queueAt thresholdOf fixedDelayOf nth

@@ -1,6 +1,6 @@
 -- The network: what has come to a hop of a flow is still there, is on the cable behind it or has come to the next one, so it is at most what the source has sent.
 -- By weights that read only flow, birth and length, summed over all links: no order of arrivals matters. Assumes nothing.
-use Prim.Native.Nat.{ℕ, zero, suc, _+_, _≤_}
+use Prim.Native.Nat.{ℕ, zero, suc, _+_, _*_, _≤_}
 use mathlib.Core.Path.{_≡_, refl, ap, _∙_}
 use mathlib.Core.Bool.{cond, _&&_, and-false}
 use mathlib.Core.List.{List, map}
@@ -137,7 +137,7 @@ module _ (t : Table) (fs : List Flow) (r : Run t fs) where
     unfolding all enter total
     serves x n =
         let gone : total m (r .after x n .left) ≡ 0 = ap (λ l. total m (l .left)) (r .enters x n) in
-        ap (all m) (r .serves x n) ∙ interval-all m (speedOf (linkAt t n)) (r .after x n) ∙ omega (arith, gone)
+        ap (all m) (r .serves x n) ∙ interval-all m (r .grain) (r .offered x n) (r .grain * speedOf (linkAt t n)) (r .after x n) ∙ omega (arith, gone)
 
     abbrev handed : (x n : ℕ) → ℕ
     handed x n = total m (leftAgo (r .before) n x (fixedDelayOf (linkAt t n)))

@@ -1,5 +1,5 @@
 -- One link: a property of each frame and its level, and the order of each level, are kept by an interval and by the arrivals of an instant.
--- A bit slot moves the head of a level to the wire and from there to those that have left. Assumes nothing.
+-- A slot moves the head of a level to the wire and from there to those that have left; a best-effort frame touches neither. Assumes nothing.
 use Prim.Native.Nat.{ℕ, zero, suc, _≤_}
 use mathlib.Core.Path.{_≡_, refl, ap}
 use mathlib.Core.List.{List, [], _∷_, _++_}
@@ -8,7 +8,7 @@ use native.Mathlib.Omega.{arith}
 use lib.ListN.{length}
 use Rattle.model.specs.Words.{All}
 use Rattle.model.specs.QueueTable.{Queue, Link}
-use Rattle.model.specs.Run.{Frame, Wire, idle, sending, LinkState, Pick, pastEmpty, pick, start, take, send, interval, append, enter, emptyLevels, emptyLink}
+use Rattle.model.specs.Run.{Frame, Wire, idle, sending, sendingBestEffort, LinkState, Pick, pastEmpty, pick, startBestEffort, start, take, send, interval, append, enter, emptyLevels, emptyLink}
 use Rattle.model.specs.Laws.All.{all-append, all-imp, all-imp₂}
 use Rattle.model.specs.Laws.Run.OneLink.{EachLevel, OnWire, Each, Rising, link, interval-keeps}
 
@@ -27,24 +27,30 @@ module _ (P : ℕ → Frame → Type 0) where
       go (some p) h = (h .0, (tt, h .1))
   pick-each n ((f ∷ q) ∷ qs) h = (h .0 .0, (h .0 .1, h .1))
 
-  pub take-each : (w : Wire) (qs : List (List Frame)) (d : List Frame) → Each P (link w qs d) → Each P (take (link w qs d))
-  unfolding take start
-  take-each idle qs d h = go (pick 1 qs) (pick-each 1 qs (h .levels))
-    where
-      go : (o : Option Pick) → PickEach 1 o → Each P (start o (link idle qs d))
-      go none k = h
-      go (some p) k = record { wire = k .0; levels = k .1; left = h .left }
-  take-each (sending n f more) qs d h = h
-
   pub send-each : (w : Wire) (qs : List (List Frame)) (d : List Frame) → Each P (link w qs d) → Each P (send (link w qs d))
   unfolding send
   send-each idle qs d h = h
   send-each (sending n f zero) qs d h =
       record { wire = tt; levels = h .levels; left = all-append (λ f. (n : ℕ) × P n f) d (f ∷ []) (h .left) ((n, h .wire), tt) }
   send-each (sending n f (suc more)) qs d h = record { wire = h .wire; levels = h .levels; left = h .left }
+  send-each (sendingBestEffort zero) qs d h = record { wire = tt; levels = h .levels; left = h .left }
+  send-each (sendingBestEffort (suc more)) qs d h = record { wire = tt; levels = h .levels; left = h .left }
 
-  pub interval-each : (n : ℕ) (l : LinkState) → Each P l → Each P (interval n l)
-  interval-each = interval-keeps (Each P) (λ k. take-each (k .wire) (k .levels) (k .left)) (λ k. send-each (k .wire) (k .levels) (k .left))
+  module _ (grain : ℕ) (offered : ℕ → ℕ) where
+    pub take-each : (slot : ℕ) (w : Wire) (qs : List (List Frame)) (d : List Frame) → Each P (link w qs d) → Each P (take grain (offered slot) (link w qs d))
+    unfolding take start startBestEffort
+    take-each slot idle qs d h = go (pick 1 qs) (offered slot) (pick-each 1 qs (h .levels))
+      where
+        go : (o : Option Pick) (bytes : ℕ) → PickEach 1 o → Each P (start grain bytes o (link idle qs d))
+        go none zero k = h
+        go none (suc b) k = record { wire = tt; levels = h .levels; left = h .left }
+        go (some p) b k = record { wire = k .0; levels = k .1; left = h .left }
+    take-each slot (sending n f more) qs d h = h
+    take-each slot (sendingBestEffort more) qs d h = h
+
+    pub interval-each : (n : ℕ) (l : LinkState) → Each P l → Each P (interval grain offered n l)
+    interval-each =
+        interval-keeps (Each P) grain offered (λ slot k. take-each slot (k .wire) (k .levels) (k .left)) (λ k. send-each (k .wire) (k .levels) (k .left))
 
   append-each : (new : ℕ → List Frame) → ((n : ℕ) → All (P n) (new n)) →
       (n : ℕ) (qs : List (List Frame)) → EachLevel P n qs → EachLevel P n (append new n qs)
@@ -75,6 +81,7 @@ module _ (P Q : ℕ → Frame → Type 0) (up : (n : ℕ) (f : Frame) → P n f 
   wire-up : (w : Wire) → OnWire P w → OnWire Q w
   wire-up idle h = tt
   wire-up (sending n f more) h = up n f h
+  wire-up (sendingBestEffort more) h = tt
 
   pub each-up : (l : LinkState) → Each P l → Each Q l
   each-up l h =
@@ -92,31 +99,37 @@ module _ (P Q R : ℕ → Frame → Type 0) (both : (n : ℕ) (f : Frame) → P 
   pub wire-both : (w : Wire) → OnWire P w → OnWire Q w → OnWire R w
   wire-both idle h k = tt
   wire-both (sending n f more) h k = both n f h k
+  wire-both (sendingBestEffort more) h k = tt
 
 -- What the levels have whichever frame is picked, an interval keeps.
 abbrev PickKeeps : (List (List Frame) → Type 0) → Option Pick → Type 0
 PickKeeps K none = Unit {0}
 PickKeeps K (some p) = K (p .rest)
 
-module _ (K : List (List Frame) → Type 0) (picks : (qs : List (List Frame)) → K qs → PickKeeps K (pick 1 qs)) where
-  take-levels : (w : Wire) (qs : List (List Frame)) (d : List Frame) → K qs → K (take (link w qs d) .levels)
-  unfolding take start
-  take-levels idle qs d h = go (pick 1 qs) (picks qs h)
+module _ (K : List (List Frame) → Type 0) (picks : (qs : List (List Frame)) → K qs → PickKeeps K (pick 1 qs)) (grain : ℕ) (offered : ℕ → ℕ) where
+  take-levels : (slot : ℕ) (w : Wire) (qs : List (List Frame)) (d : List Frame) → K qs → K (take grain (offered slot) (link w qs d) .levels)
+  unfolding take start startBestEffort
+  take-levels slot idle qs d h = go (pick 1 qs) (offered slot) (picks qs h)
     where
-      go : (o : Option Pick) → PickKeeps K o → K (start o (link idle qs d) .levels)
-      go none k = h
-      go (some p) k = k
-  take-levels (sending n f more) qs d h = h
+      go : (o : Option Pick) (bytes : ℕ) → PickKeeps K o → K (start grain bytes o (link idle qs d) .levels)
+      go none zero k = h
+      go none (suc b) k = h
+      go (some p) b k = k
+  take-levels slot (sending n f more) qs d h = h
+  take-levels slot (sendingBestEffort more) qs d h = h
 
   send-levels : (w : Wire) (qs : List (List Frame)) (d : List Frame) → K qs → K (send (link w qs d) .levels)
   unfolding send
   send-levels idle qs d h = h
   send-levels (sending n f zero) qs d h = h
   send-levels (sending n f (suc more)) qs d h = h
+  send-levels (sendingBestEffort zero) qs d h = h
+  send-levels (sendingBestEffort (suc more)) qs d h = h
 
-  interval-levels : (n : ℕ) (l : LinkState) → K (l .levels) → K (interval n l .levels)
+  interval-levels : (n : ℕ) (l : LinkState) → K (l .levels) → K (interval grain offered n l .levels)
   interval-levels =
-      interval-keeps (λ k. K (k .levels)) (λ k. take-levels (k .wire) (k .levels) (k .left)) (λ k. send-levels (k .wire) (k .levels) (k .left))
+      interval-keeps (λ k. K (k .levels)) grain offered (λ slot k. take-levels slot (k .wire) (k .levels) (k .left))
+      (λ k. send-levels (k .wire) (k .levels) (k .left))
 
 -- The number of levels.
 pick-count : (c n : ℕ) (qs : List (List Frame)) → length qs ≡ c → PickKeeps (λ l. length l ≡ c) (pick n qs)
@@ -129,7 +142,7 @@ pick-count c n ([] ∷ qs) e = go (pick (suc n) qs) (pick-count (length qs) (suc
     go (some p) h = omega (arith, h, e)
 pick-count c n ((f ∷ q) ∷ qs) e = e
 
-pub interval-count : (c n : ℕ) (l : LinkState) → length (l .levels) ≡ c → length (interval n l .levels) ≡ c
+pub interval-count : (c grain : ℕ) (offered : ℕ → ℕ) (n : ℕ) (l : LinkState) → length (l .levels) ≡ c → length (interval grain offered n l .levels) ≡ c
 interval-count c = interval-levels (λ l. length l ≡ c) (pick-count c 1)
 
 pub append-count : (new : ℕ → List Frame) (n : ℕ) (qs : List (List Frame)) → length (append new n qs) ≡ length qs
@@ -148,7 +161,7 @@ pick-rising n ([] ∷ qs) h = go (pick (suc n) qs) (pick-rising (suc n) qs (h .1
     go (some p) h = (tt, h)
 pick-rising n ((f ∷ q) ∷ qs) h = (h .0 .1, h .1)
 
-pub interval-rising : (n : ℕ) (l : LinkState) → All Rising (l .levels) → All Rising (interval n l .levels)
+pub interval-rising : (grain : ℕ) (offered : ℕ → ℕ) (n : ℕ) (l : LinkState) → All Rising (l .levels) → All Rising (interval grain offered n l .levels)
 interval-rising = interval-levels (All Rising) (pick-rising 1)
 
 rising-append : (x : ℕ) (q new : List Frame) → Rising q → All (λ f. f .since ≤ x) q → All (λ f. f .since ≡ x) new → Rising new → Rising (q ++ new)

@@ -10,7 +10,7 @@ use lib.Dec.{eqb, leb}
 use borrow.Author.Tests.{eqb-true, eqb-false, eq-eqb, ne-eqb, leb-false}
 use Rattle.model.specs.Words.{All, nth}
 use Rattle.model.specs.Total.{total}
-use Rattle.model.specs.Run.{Frame, Wire, idle, sending, LinkState, onWire, orEmpty, inQueue}
+use Rattle.model.specs.Run.{Frame, Wire, idle, sending, sendingBestEffort, LinkState, onWire, orEmpty, inQueue}
 use Rattle.model.specs.Laws.All.{all-append, append-all}
 use Rattle.model.specs.Laws.Total.{total-append, total-cond}
 use Rattle.model.specs.Laws.Run.OneLink.{waiting, underWay, held, EachLevel, OnWire, Each, waiting-zero}
@@ -44,6 +44,7 @@ module _ (m : Frame → ℕ) (p : ℕ) where
       go false e =
           let d = eqb-false p n e in
           omega (arith, ap (λ b. cond b (m f) 0) (ne-eqb n p (λ k. omega (arith, k, d))))
+  wire-weight (sendingBestEffort more) = refl
 
 pub queue-weight : (m : Frame → ℕ) (q : ℕ) (l : LinkState) → total m (inQueue (suc q) l) ≡ held (λ n f. cond (eqb n (suc q)) (m f) 0) l
 unfolding inQueue held nth
@@ -69,6 +70,7 @@ module _ (P : ℕ → Frame → Type 0) where
       go : (b : Bool) → eqb p n ≡ b → All (P p) (cond b (f ∷ []) [])
       go true e = (subst (λ k. P k f) (omega (arith, eqb-true p n e)) h, tt)
       go false e = tt
+  wire-each p (sendingBestEffort more) h = tt
 
   pub queue-each : (p : ℕ) (l : LinkState) → Each P l → All (P p) (inQueue p l)
   unfolding inQueue nth
@@ -93,6 +95,7 @@ module _ (P : ℕ → Frame → Type 0) where
       go : (b : Bool) → b ≡ true → All (P n) (cond b (f ∷ []) []) → P n f
       go true e k = k .0
       go false e k = absurd (false≢true e)
+  each-wire (sendingBestEffort more) h = tt
 
   pub each-queue : (l : LinkState) → ((p : ℕ) → All (P p) (inQueue p l)) → OnWire P (l .wire) × EachLevel P 1 (l .levels)
   unfolding inQueue nth

@@ -1,6 +1,6 @@
 -- The network: while no frame has been late, a frame reaches a hop at most the thresholds of the earlier hops later than the cables alone make it.
 -- Induction over all earlier instants, not over paths, so that cycles of links do no harm. Assumes nothing.
-use Prim.Native.Nat.{ℕ, zero, suc, _+_, _≤_, _<_}
+use Prim.Native.Nat.{ℕ, zero, suc, _+_, _*_, _≤_, _<_}
 use mathlib.Core.Path.{_≡_, refl, sym, ap, _∙_}
 use mathlib.Core.List.{List, [], _∷_}
 use mathlib.Core.Option.{some, Option·none-ne-some}
@@ -156,7 +156,7 @@ module _ (t : Table) (fs : List Flow) (sch : Schedulable t fs) (r : Run t fs) wh
       step zero before ok n = rw (r .starts n) (empty-each (Placed t fs 0 n) (linkAt t n))
       step (suc x) before ok n =
           rw (r .serves x n)
-          (interval-each (Placed t fs (suc x) n) (speedOf (linkAt t n)) (r .after x n)
+          (interval-each (Placed t fs (suc x) n) (r .grain) (r .offered x n) (r .grain * speedOf (linkAt t n)) (r .after x n)
           (after-placed x (ok x (omega arith)) (λ y u. before y (omega arith) (λ m v. ok m (omega arith))) n))
 
   -- All that moves up to the instant after those with no late frame is on time.

@@ -12,6 +12,7 @@ use lib.Dec.{eqb}
 use borrow.Author.Tests.{eqb-true, eqb-false}
 use Rattle.model.specs.Words.{nth}
 use Rattle.model.specs.Total.{total, largest}
+use Rattle.model.specs.Formula as formula
 use Rattle.model.specs.Formula.{Aggregate, residual, delayBound, backlogBound, interference, levelResidual, delay, backlog}
 use Rattle.model.specs.QueueTable.{Queue, Link, Table}
 use Rattle.model.specs.Orders.{Flow}
@@ -52,23 +53,25 @@ module _ (t : Table) (fs : List Flow) (link : ℕ) where
   rateAbove i = window (λ k. at k .rate) 1 i
 
   -- A level that passes the check, by its number `suc i`.
-  pub record Passes (speed : ℕ) (q : Queue) (i last : ℕ) : Type 0 where
+  pub record Passes (speed bestEffort : ℕ) (q : Queue) (i last : ℕ) : Type 0 where
     pub rates : rateAbove i + at (suc i) .rate < 1000 * speed
     pub blocking : ℕ
     pub blocked : (k : ℕ) → suc i < k → k ≤ last → at k .frame ≤ blocking
+    pub alone : bestEffort ≤ blocking
     pub delays : 1 ≤ at (suc i) .frame →
         delayBound (burstAbove i + blocking + at (suc i) .frame) (at (suc i) .burst) (residual speed (rateAbove i)) ≤ q .threshold
     pub backlogs : 1 ≤ at (suc i) .frame →
         backlogBound (at (suc i) .rate) (at (suc i) .burst) (burstAbove i + blocking + at (suc i) .frame) (residual speed (rateAbove i)) ≤ q .buffer
 
-  pub passes : (k : Link) → linkFinding (k .speed) (k .levels) (levelAggregates t fs link 1 (k .levels)) .code ≡ 0 →
-      (i : ℕ) (q : Queue) → getElem? (k .levels) i ≡ some q → Passes (k .speed) q i (length (k .levels))
-  unfolding delay backlog interference levelResidual above own below nth
+  pub passes : (k : Link) → linkFinding (k .speed) (k .bestEffort) (k .levels) (levelAggregates t fs link 1 (k .levels)) .code ≡ 0 →
+      (i : ℕ) (q : Queue) → getElem? (k .levels) i ≡ some q → Passes (k .speed) (k .bestEffort) q i (length (k .levels))
+  unfolding delay backlog interference formula.blocking levelResidual above own below nth
   passes k h i q e =
       record {
         rates = omega (arith, meets .0, levels-total (λ a. a .rate) 1 (k .levels), rate-in);
-        blocking = largest (λ a. a .frame) (below t fs link k (suc i));
-        blocked = λ m a b. levels-largest (λ a. a .frame) (suc (suc i)) (drop (suc i) (k .levels)) m a (simp length-drop (omega arith));
+        blocking = formula.blocking (k .bestEffort) (below t fs link k (suc i));
+        blocked = λ m a b. omega (arith, levels-largest (λ a. a .frame) (suc (suc i)) (drop (suc i) (k .levels)) m a (simp length-drop (omega arith)));
+        alone = omega arith;
         delays = λ f. rw (sum (λ a. a .burst), sum (λ a. a .rate)) (admits f .threshold);
         backlogs = λ f. rw (sum (λ a. a .burst), sum (λ a. a .rate)) (admits f .buffer);
       }
@@ -76,8 +79,8 @@ module _ (t : Table) (fs : List Flow) (link : ℕ) where
       aggregates : List Aggregate
       aggregates = levelAggregates t fs link 1 (k .levels)
 
-      meets : (total (λ a. a .rate) aggregates < 1000 * k .speed) × LevelsMeet (k .speed) [] (k .levels) aggregates
-      meets = link-meets (k .speed) (k .levels) aggregates h
+      meets : (total (λ a. a .rate) aggregates < 1000 * k .speed) × LevelsMeet (k .speed) (k .bestEffort) [] (k .levels) aggregates
+      meets = link-meets (k .speed) (k .bestEffort) (k .levels) aggregates h
 
       admits : 1 ≤ at (suc i) .frame → LevelAdmits t fs link k (suc i) q
       admits = level-admits t fs link k (meets .1) (suc i) q e

@@ -13,7 +13,7 @@ use Rattle.model.specs.Words.{All, nth}
 use Rattle.model.specs.Total.{total}
 use Rattle.model.specs.QueueTable.{Queue, Link, Table}
 use Rattle.model.specs.Orders.{Hop, Flow}
-use Rattle.model.specs.Aggregates.{linkAt, queueAt, thresholdOf, aggregateAt}
+use Rattle.model.specs.Aggregates.{linkAt, queueAt, thresholdOf, bestEffortOf, aggregateAt}
 use Rattle.model.specs.Laws.Test.{and-then}
 use Rattle.model.specs.Laws.Carries.{flow-frame}
 use Rattle.model.specs.Schedulable.{LinkMeets, Schedulable}
@@ -66,7 +66,7 @@ module _ (t : Table) (fs : List Flow) (sch : Schedulable t fs) (r : Run t fs) (c
       omega (arith, o .short, flow-frame t h (o .flow) (member-at fs (f .flow) (o .known)) (member-at (o .flow .path) (f .hop) (sym (known-hop fs f (o .flow) (o .known)) ∙ e)))
 
   checked : (n i : ℕ) (f : Frame) (o : OnTime t fs f) → hopOf fs f ≡ some (hop n (suc i)) → (k : Found t n i) →
-      Passes t fs n (k .of .speed) (k .queue) i (length (k .of .levels))
+      Passes t fs n (k .of .speed) (k .of .bestEffort) (k .queue) i (length (k .of .levels))
   checked n i f o e k =
       passes t fs n (k .of)
       (all-at (λ h. LinkMeets t fs (h .link)) (o .flow .path) (f .hop) (hop n (suc i)) (meets t fs sch r f o .links)
@@ -98,10 +98,13 @@ module _ (t : Table) (fs : List Flow) (sch : Schedulable t fs) (r : Run t fs) (c
     before-ok y u m v = ok m (omega arith)
 
     served : (n : ℕ) (l : Link) → linkAt t n ≡ some l →
-        Served (l .speed) x (lim n (length (l .levels))) (λ y. r .before y n) (λ y. r .after y n) (λ y. r .arrivals y n)
-    unfolding speedOf
+        Served (r .grain) (l .speed) (l .bestEffort) x (lim n (length (l .levels))) (λ y. r .before y n) (λ y. r .after y n) (λ y. r .arrivals y n)
+    unfolding speedOf bestEffortOf
     served n l e =
         record {
+          divided = r .divided;
+          offered = λ y. r .offered y n;
+          offers = λ y slot. rw e at (r .offers y n slot);
           link = some l;
           starts = rw e at (r .starts n);
           enters = λ y. r .enters y n;
@@ -124,7 +127,7 @@ module _ (t : Table) (fs : List Flow) (sch : Schedulable t fs) (r : Run t fs) (c
       abbrev last : ℕ
       last = length (k .of .levels)
 
-      abbrev c : Passes t fs n (k .of .speed) (k .queue) i last
+      abbrev c : Passes t fs n (k .of .speed) (k .of .bestEffort) (k .queue) i last
       c = checked n i f o e k
 
       carries : 1 ≤ at t fs n (suc i) .frame
@@ -143,7 +146,7 @@ module _ (t : Table) (fs : List Flow) (sch : Schedulable t fs) (r : Run t fs) (c
       level-not-late : All (λ g. x < g .since + k .queue .threshold) (inQueue (suc i) (r .before x n))
       level-not-late =
           not-late (served n (k .of) (k .isLink)) (λ m. at t fs n m .burst) (λ m. at t fs n m .rate) (λ m. queue-curve t fs sch r conforming x ok (hop n m))
-          i (c .blocking) blocked (c .rates) (k .queue .threshold) (sch .thresholds (hop n (suc i)) (k .queue) (k .isFound))
+          i (c .blocking) blocked (c .alone) (c .rates) (k .queue .threshold) (sch .thresholds (hop n (suc i)) (k .queue) (k .isFound))
           (rw own-lim (c .delays carries))
           x
           (omega arith)
@@ -151,7 +154,7 @@ module _ (t : Table) (fs : List Flow) (sch : Schedulable t fs) (r : Run t fs) (c
       level-fits : total (λ g. g .length) (inQueue (suc i) (r .after x n)) ≤ k .queue .buffer
       level-fits =
           let b = fits (served n (k .of) (k .isLink)) (λ m. at t fs n m .burst) (λ m. at t fs n m .rate) (λ m. queue-curve t fs sch r conforming x ok (hop n m))
-          i (c .blocking) blocked (c .rates) x (omega arith) in
+          i (c .blocking) blocked (c .alone) (c .rates) x (omega arith) in
           omega (arith, rw own-lim at b, c .backlogs carries)
 
     -- A queue without a frame has nothing to show.

@@ -1,5 +1,5 @@
--- One link: what a bit slot, an interval and the arrivals of an instant do to the weight of its frames, to what holds of each of them, and to their order.
--- Each law is shown for taking a frame and for sending a bit, for any weight and any property. Assumes nothing.
+-- One link: what a slot, an interval and the arrivals of an instant do to the weight of its frames, to what holds of each of them, and to their order.
+-- Each law is shown for taking a frame and for sending, for any weight, any property and whatever is offered. A best-effort frame weighs nothing. Assumes nothing.
 use Prim.Native.Nat.{ℕ, zero, suc, _+_, _≤_}
 use mathlib.Core.Path.{_≡_, refl, ap}
 use mathlib.Core.List.{List, [], _∷_}
@@ -9,7 +9,7 @@ use lib.ListN.{length}
 use Rattle.model.specs.Words.{All}
 use Rattle.model.specs.Total.{total}
 use Rattle.model.specs.QueueTable.{Queue, Link}
-use Rattle.model.specs.Run.{Frame, Wire, idle, sending, LinkState, Pick, pastEmpty, pick, start, take, send, bitSlot, interval, append, enter, emptyLevels, emptyLink, window}
+use Rattle.model.specs.Run.{Frame, Wire, idle, sending, sendingBestEffort, LinkState, Pick, pastEmpty, pick, startBestEffort, start, take, send, timeSlot, interval, append, enter, emptyLevels, emptyLink, window}
 use Rattle.model.specs.Laws.All.{member-all}
 use Rattle.model.specs.Laws.Total.{total-append, total-zero, total-each}
 use Rattle.model.specs.Laws.Run.Windows.{window-front}
@@ -22,6 +22,7 @@ waiting m n (q ∷ qs) = total (m n) q + waiting m (suc n) qs
 unfoldable pub underWay : (ℕ → Frame → ℕ) → Wire → ℕ
 underWay m idle = 0
 underWay m (sending n f more) = m n f
+underWay m (sendingBestEffort more) = 0
 
 -- What is in the queues of a link, waiting or under way.
 unfoldable pub held : (ℕ → Frame → ℕ) → LinkState → ℕ
@@ -34,6 +35,7 @@ EachLevel P n (q ∷ qs) = All (P n) q × EachLevel P (suc n) qs
 abbrev pub OnWire : (ℕ → Frame → Type 0) → Wire → Type 0
 OnWire P idle = Unit {0}
 OnWire P (sending n f more) = P n f
+OnWire P (sendingBestEffort more) = Unit {0}
 
 -- What holds of each frame of a link and its level, of those that have left too.
 pub record Each (P : ℕ → Frame → Type 0) (l : LinkState) : Type 0 where
@@ -53,12 +55,13 @@ Rising (f ∷ q) = All (λ g. f .since ≤ g .since) q × Rising q
 abbrev pub link : Wire → List (List Frame) → List Frame → LinkState
 link w qs d = record { wire = w; levels = qs; left = d }
 
--- What taking a frame and sending a bit keep, an interval keeps.
-pub interval-keeps : (K : LinkState → Type 0) → ((l : LinkState) → K l → K (take l)) → ((l : LinkState) → K l → K (send l)) →
-    (n : ℕ) (l : LinkState) → K l → K (interval n l)
-unfolding interval bitSlot
-interval-keeps K t s zero l h = h
-interval-keeps K t s (suc n) l h = s (take (interval n l)) (t (interval n l) (interval-keeps K t s n l h))
+-- What taking a frame and sending keep in each slot, an interval keeps.
+module _ (K : LinkState → Type 0) (grain : ℕ) (offered : ℕ → ℕ) (takes : (slot : ℕ) (l : LinkState) → K l → K (take grain (offered slot) l))
+    (sends : (l : LinkState) → K l → K (send l)) where
+  pub interval-keeps : (n : ℕ) (l : LinkState) → K l → K (interval grain offered n l)
+  unfolding interval timeSlot
+  interval-keeps zero l h = h
+  interval-keeps (suc n) l h = let i = interval grain offered n l in sends (take grain (offered n) i) (takes n i (interval-keeps n l h))
 
 -- The weight of the frames.
 module _ (m : ℕ → Frame → ℕ) where
@@ -76,31 +79,37 @@ module _ (m : ℕ → Frame → ℕ) where
       go (some p) h = omega arith
   pick-weighs n ((f ∷ q) ∷ qs) = omega arith
 
-  take-held : (w : Wire) (qs : List (List Frame)) (d : List Frame) → held m (take (link w qs d)) ≡ held m (link w qs d)
-  unfolding take start held underWay
-  take-held idle qs d = go (pick 1 qs) (pick-weighs 1 qs)
-    where
-      go : (o : Option Pick) → PickWeighs 1 qs o → held m (start o (link idle qs d)) ≡ held m (link idle qs d)
-      go none h = refl
-      go (some p) h = omega arith
-  take-held (sending n f more) qs d = refl
-
   send-held : (w : Wire) (qs : List (List Frame)) (d : List Frame) → held m (send (link w qs d)) ≤ held m (link w qs d)
   unfolding send held underWay
   send-held idle qs d = omega arith
   send-held (sending n f zero) qs d = omega arith
   send-held (sending n f (suc more)) qs d = omega arith
+  send-held (sendingBestEffort zero) qs d = omega arith
+  send-held (sendingBestEffort (suc more)) qs d = omega arith
 
-  pub slot-held : (l : LinkState) → held m (bitSlot l) ≤ held m l
-  unfolding bitSlot
-  slot-held l =
-      let k = take l in
-      omega (arith, take-held (l .wire) (l .levels) (l .left), send-held (k .wire) (k .levels) (k .left))
+  module _ (grain : ℕ) (offered : ℕ → ℕ) where
+    take-held : (slot : ℕ) (w : Wire) (qs : List (List Frame)) (d : List Frame) → held m (take grain (offered slot) (link w qs d)) ≡ held m (link w qs d)
+    unfolding take start startBestEffort held underWay
+    take-held slot idle qs d = go (pick 1 qs) (offered slot) (pick-weighs 1 qs)
+      where
+        go : (o : Option Pick) (bytes : ℕ) → PickWeighs 1 qs o → held m (start grain bytes o (link idle qs d)) ≡ held m (link idle qs d)
+        go none zero h = refl
+        go none (suc b) h = refl
+        go (some p) b h = omega arith
+    take-held slot (sending n f more) qs d = refl
+    take-held slot (sendingBestEffort more) qs d = refl
 
-  pub interval-held : (n : ℕ) (l : LinkState) → held m (interval n l) ≤ held m l
-  interval-held n l =
-      interval-keeps (λ k. held m k ≤ held m l) (λ k h. omega (arith, take-held (k .wire) (k .levels) (k .left)))
-      (λ k h. omega (arith, send-held (k .wire) (k .levels) (k .left))) n l (omega arith)
+    pub slot-held : (slot : ℕ) (l : LinkState) → held m (timeSlot grain (offered slot) l) ≤ held m l
+    unfolding timeSlot
+    slot-held slot l =
+        let k = take grain (offered slot) l in
+        omega (arith, take-held slot (l .wire) (l .levels) (l .left), send-held (k .wire) (k .levels) (k .left))
+
+    pub interval-held : (n : ℕ) (l : LinkState) → held m (interval grain offered n l) ≤ held m l
+    interval-held n l =
+        interval-keeps (λ k. held m k ≤ held m l) grain offered
+        (λ slot k h. omega (arith, take-held slot (k .wire) (k .levels) (k .left)))
+        (λ k h. omega (arith, send-held (k .wire) (k .levels) (k .left))) n l (omega arith)
 
   -- Arrivals add their own weight.
   pub append-waiting : (new : ℕ → List Frame) (n : ℕ) (qs : List (List Frame)) →
@@ -147,6 +156,7 @@ module _ (P : ℕ → Frame → Type 0) (m k : ℕ → Frame → ℕ) (le : (n :
   unfolding underWay
   wire-each idle h = omega arith
   wire-each (sending n f more) h = le n f h
+  wire-each (sendingBestEffort more) h = omega arith
 
   pub held-each : (l : LinkState) → OnWire P (l .wire) → EachLevel P 1 (l .levels) → held m l ≤ held k l
   unfolding held
@@ -162,6 +172,7 @@ any-level n (q ∷ qs) = (member-all (Any n) q (λ f m. tt), any-level (suc n) q
 any-wire : (w : Wire) → OnWire Any w
 any-wire idle = tt
 any-wire (sending n f more) = tt
+any-wire (sendingBestEffort more) = tt
 
 module _ (m k : ℕ → Frame → ℕ) (le : (n : ℕ) (f : Frame) → m n f ≤ k n f) where
   pub waiting-le : (n : ℕ) (qs : List (List Frame)) → waiting m n qs ≤ waiting k n qs
@@ -175,24 +186,34 @@ module _ (m : Frame → ℕ) where
   unfoldable pub all : LinkState → ℕ
   all l = held (λ n. m) l + total m (l .left)
 
-  take-left : (w : Wire) (qs : List (List Frame)) (d : List Frame) → take (link w qs d) .left ≡ d
-  unfolding take start
-  take-left idle qs d = go (pick 1 qs)
-    where
-      go : (o : Option Pick) → start o (link idle qs d) .left ≡ d
-      go none = refl
-      go (some p) = refl
-  take-left (sending n f more) qs d = refl
-
   send-all : (w : Wire) (qs : List (List Frame)) (d : List Frame) → all (send (link w qs d)) ≡ all (link w qs d)
   unfolding send all held underWay total
   send-all idle qs d = refl
   send-all (sending n f zero) qs d = omega (arith, total-append m d (f ∷ []))
   send-all (sending n f (suc more)) qs d = refl
+  send-all (sendingBestEffort zero) qs d = refl
+  send-all (sendingBestEffort (suc more)) qs d = refl
 
-  pub interval-all : (n : ℕ) (l : LinkState) → all (interval n l) ≡ all l
-  unfolding all
-  interval-all n l =
-      interval-keeps (λ k. all k ≡ all l)
-      (λ k h. omega (arith, take-held (λ n. m) (k .wire) (k .levels) (k .left), ap (total m) (take-left (k .wire) (k .levels) (k .left))))
-      (λ k h. omega (arith, send-all (k .wire) (k .levels) (k .left))) n l refl
+  module _ (grain : ℕ) (offered : ℕ → ℕ) where
+    take-left : (slot : ℕ) (w : Wire) (qs : List (List Frame)) (d : List Frame) → take grain (offered slot) (link w qs d) .left ≡ d
+    unfolding take start startBestEffort
+    take-left slot idle qs d = go (pick 1 qs) (offered slot)
+      where
+        go : (o : Option Pick) (bytes : ℕ) → start grain bytes o (link idle qs d) .left ≡ d
+        go none zero = refl
+        go none (suc b) = refl
+        go (some p) b = refl
+    take-left slot (sending n f more) qs d = refl
+    take-left slot (sendingBestEffort more) qs d = refl
+
+    pub interval-all : (n : ℕ) (l : LinkState) → all (interval grain offered n l) ≡ all l
+    unfolding all
+    interval-all n l =
+        interval-keeps (λ k. all k ≡ all l) grain offered
+        (λ slot k h.
+        omega (
+          arith,
+          take-held (λ n. m) grain offered slot (k .wire) (k .levels) (k .left),
+          ap (total m) (take-left slot (k .wire) (k .levels) (k .left)),
+        ))
+        (λ k h. omega (arith, send-all (k .wire) (k .levels) (k .left))) n l refl

@@ -1,6 +1,6 @@
 -- The network: in every run, whatever its sources send, each frame stands in the queue of its own hop or on the cable behind it, and each link keeps the number of its levels.
 -- A queue takes in only what reaches it, a cable what has left its link. Induction over instants. Assumes nothing.
-use Prim.Native.Nat.{ℕ, zero, suc, _+_}
+use Prim.Native.Nat.{ℕ, zero, suc, _+_, _*_}
 use mathlib.Core.Path.{_≡_, sym, ap, _∙_}
 use mathlib.Core.Bool.{true, false≢true}
 use mathlib.Core.List.{List, map}
@@ -68,7 +68,7 @@ module _ (t : Table) (fs : List Flow) (r : Run t fs) where
   pub stands-before : (x n : ℕ) → Each (Stands n) (r .before x n)
   stands-before zero n = rw (r .starts n) (empty-each (Stands n) (linkAt t n))
   stands-before (suc x) n =
-      rw (r .serves x n) (interval-each (Stands n) (speedOf (linkAt t n)) (r .after x n) (after-stands x n (stands-before x n)))
+      rw (r .serves x n) (interval-each (Stands n) (r .grain) (r .offered x n) (r .grain * speedOf (linkAt t n)) (r .after x n) (after-stands x n (stands-before x n)))
 
   pub stands : (x n : ℕ) → Each (Stands n) (r .after x n)
   stands x n = after-stands x n (stands-before x n)
@@ -84,5 +84,5 @@ module _ (t : Table) (fs : List Flow) (r : Run t fs) where
   level-count zero n = ap (λ l. length (l .levels)) (r .starts n)
   level-count (suc x) n =
       rw (r .serves x n)
-      (interval-count (length (emptyLink (linkAt t n) .levels)) (speedOf (linkAt t n)) (r .after x n)
+      (interval-count (length (emptyLink (linkAt t n) .levels)) (r .grain) (r .offered x n) (r .grain * speedOf (linkAt t n)) (r .after x n)
       (rw (r .enters x n) (append-count (r .arrivals x n) 1 (r .before x n .levels) ∙ level-count x n)))
