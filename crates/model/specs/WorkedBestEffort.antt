@@ -71,8 +71,8 @@ sends (suc (suc x)) = tt
 abbrev pub worked : Run table flows
 worked = runOf table flows 2 offered sent (λ x q l. l) (omega arith) offers sends (λ x q l. Permᴰ·refl l)
 
--- The first best-effort frame has begun with a slot of its first bit, and is in no queue when the flow's frame comes. That one begins in the middle of a bit as
--- well; the second best-effort frame isn't sent. The flow's frame has left when instant 3 comes, without best effort it would have at 2.
+-- Before the arrivals of instant 1 one slot of the best-effort frame is sent. It is in no queue when the flow's frame comes, which then begins in mid-bit too;
+-- the second best-effort frame isn't sent. The flow's frame has left when instant 3 comes, and nothing else is under way. Without best effort it would have left at 2.
 pub the-run : (worked .before 1 1 ≡ record { wire = run.sendingBestEffort 1342; levels = [] ∷ []; left = [] })
     × (run.inQueue 1 (worked .after 1 1) ≡ frame 0 1 ∷ [])
     × (worked .before 2 1 ≡ record { wire = run.sending 1 (frame 0 1) 1342; levels = [] ∷ []; left = [] })
