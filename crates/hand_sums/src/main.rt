@@ -10,6 +10,17 @@ fn show(n: u64) {
     io::write_all(STDOUT_FILENO, &line);
 }
 
+// With a best-effort frame of 1,542: level 1 alone, level 1 with level 2 below it, level 2.
+fn with_best_effort() {
+    let res = units::residual_rate(100, Rate(0));
+    let below = units::residual_rate(100, Rate(1000));
+    let alone = units::larger(Bytes(0), Bytes(1542));
+    let beside = units::larger(Bytes(1542), Bytes(1542));
+    show(units::delay_bound(Bytes(alone.0 + 1542), Bytes(1542), res).0);
+    show(units::delay_bound(Bytes(beside.0 + 1542), Bytes(1542), res).0);
+    show(units::delay_bound(Bytes(1542 + alone.0 + 1542), Bytes(1542), below).0);
+}
+
 fn main() {
     // Level 1 alone, then level 2 below it, then level 1 with level 2 below it.
     let res = units::residual_rate(100, Rate(0));
@@ -20,12 +31,7 @@ fn main() {
     show(units::backlog_bound(Rate(1000), Bytes(1542), Bytes(3084), below).0);
     show(units::delay_bound(Bytes(3084), Bytes(1542), res).0);
     show(units::backlog_bound(Rate(1000), Bytes(1542), Bytes(3084), res).0);
-    // With a best-effort frame of 1,542: level 1 alone, level 1 with level 2 below it, level 2.
-    let alone = units::larger(Bytes(0), Bytes(1542));
-    let beside = units::larger(Bytes(1542), Bytes(1542));
-    show(units::delay_bound(Bytes(alone.0 + 1542), Bytes(1542), res).0);
-    show(units::delay_bound(Bytes(beside.0 + 1542), Bytes(1542), res).0);
-    show(units::delay_bound(Bytes(1542 + alone.0 + 1542), Bytes(1542), below).0);
+    with_best_effort();
     // Bursts after one threshold of 371 and after two.
     show(units::burst_at_hop(Rate(1000), Bytes(1542), Micros(371)).0);
     show(units::burst_at_hop(Rate(1000), Bytes(1542), Micros(742)).0);
