@@ -2,7 +2,7 @@
 //! where bounds don't count them.
 
 use checker::sim::{Arrivals, Fault, Free, Laptops, Network, Observer, Seen, Start};
-use checker::simulate::{left_out, run_by, Trial};
+use checker::simulate::{left_out, run_by, Laptop, Site, Trial};
 use halls::rng::Rng;
 use halls::sources::Send;
 use halls::tables::Bounds;
@@ -206,6 +206,25 @@ fn none_longer_than_the_field() {
         Some(Start { after, bytes })
     };
     let _ = run(&[queue(1)], 1, &[(5, 1, 84)], longer, &mut ());
+}
+
+/// A frame that reaches the link at 5, and one after it has been idle, beside one of the search's laptops: the longer stay,
+/// the best-effort frames, and those that started a slot before a frame came.
+fn beside(laptop: Laptop) -> (u64, u64, u64) {
+    let laptops = [laptop];
+    let mut site = Site::new(&laptops, Rng::new(1, 1));
+    let list = [(5, 1, 1_250), (950, 1, 1_250)];
+    let start = |free: &Free| site.start(free);
+    let seen = run(&[queue(1)], 64, &list, start, &mut ()).unwrap();
+    (seen[0].stay, site.started, site.just_before)
+}
+
+#[test]
+fn the_laptops_of_the_search() {
+    assert_eq!(beside(Laptop::Quiet), (100, 0, 0));
+    assert_eq!(beside(Laptop::JustBefore(1)), (200, 2, 2));
+    // From 0 on, and from 200 on when the first frame has left: 95 and 50 µs of a frame are still to come.
+    assert_eq!(beside(Laptop::Endless), (195, 2, 0));
 }
 
 /// The mistake of leaving it out where there is no level below.
