@@ -21,6 +21,7 @@ pub struct Hall {
 }
 
 /// Why a search ended.
+#[derive(Debug)]
 pub enum Failure {
     /// A frame late in a queue, or a buffer exceeded; and where.
     Limit { fault: Fault, place: String },
@@ -55,9 +56,9 @@ const GRAINS: [u64; 4] = [1, 2, 3, 64];
 impl Hall {
     /// Flows admitted on a loose table, which is then tightened; none if no flow was admitted or a
     /// queue is too slow to be run in short.
-    pub fn random(rng: &mut Rng) -> Result<Option<Hall>, Failure> {
+    pub fn random(rng: &mut Rng) -> Result<Option<Hall>, String> {
         let hall = Hall::by(rng, Bounds::RIGHT);
-        hall.admitted().map_err(Failure::Other)?;
+        hall.admitted()?;
         Ok(Some(hall).filter(Hall::is_short))
     }
 

@@ -147,16 +147,12 @@ pub fn run(seed: u64, count: u64) -> Result<Report, String> {
     let mut report = Report::default();
     for index in 0..count {
         let mut rng = Rng::new(seed, index);
-        let told = |failure: Failure| format!("seed {seed} hall {index}: {failure}");
+        let told = |what: String| format!("seed {seed} hall {index}: {what}");
         if let Some(hall) = Hall::random(&mut rng).map_err(told)? {
             report.halls += 1;
-            climb(
-                &mut rng,
-                &hall,
-                |trial| trial,
-                |seen| report.add(&hall, index, seen),
-            )
-            .map_err(told)?;
+            let add = |seen: &Traffic| report.add(&hall, index, seen);
+            let ran = climb(&mut rng, &hall, |trial| trial, add);
+            ran.map_err(|failure| told(failure.to_string()))?;
         }
     }
     Ok(report)
