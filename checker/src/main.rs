@@ -115,7 +115,7 @@ fn run_simulate(options: &[&str]) -> Option<bool> {
     let count = number(options, "--count")?;
     let outcome = simulate::run(seed, count).and_then(|report| {
         report.print();
-        let sent = report.halls > 0 && report.just_before > 0;
+        let sent = report.halls > 0 && report.best_effort[1] > 0;
         Ok(sent && catches_mistakes(seed)?)
     });
     Some(outcome.unwrap_or_else(|what| {

@@ -1,11 +1,12 @@
 //! W-202's rules by hand, put to all versions: table lines, the levels, and 42.
 
+mod common;
+
 use checker::calls::Calls;
-use checker::versions::versions;
 use checker::{book, fast};
+use common::printed;
 use plain::consistency::consistent;
 use plain::formula::Aggregate;
-use plain::programs::{admit, admit_by};
 use plain::registry::Registry;
 
 /// A level of link 1 at 100 Mbit/s with a best-effort frame.
@@ -16,20 +17,6 @@ fn level(level: u32, threshold: u32, buffer: u32, frame: u32) -> String {
 /// Document 01's flow at a level of link 1.
 fn registration(number: u32, level: u32) -> String {
     format!(" 1{number:>6}     1000    1542 1542  100000  1   1{level:>2}\n")
-}
-
-/// What is printed for a table and orders, the same by all versions.
-fn printed(table: &str, orders: &str) -> String {
-    let (table, orders) = (table.as_bytes(), orders.as_bytes());
-    let known = admit(table, orders);
-    for (name, batch) in versions() {
-        let batch = |table: &[u8], orders: &[u8], answers: &mut [u8]| {
-            let (code, line) = batch(table, orders, answers);
-            (u64::from(code), u64::from(line))
-        };
-        assert_eq!(admit_by(batch, table, orders), known, "{name}");
-    }
-    String::from_utf8(known).unwrap()
 }
 
 #[test]

@@ -1,10 +1,12 @@
 //! W-201's rules by hand, put to all versions: the deadline, the figures, and 42.
 
+mod common;
+
 use checker::calls::Calls;
 use checker::lists::REPLAYS;
-use checker::versions::versions;
 use checker::{book, fast};
-use plain::programs::{admit, admit_by, replay, write_call};
+use common::printed;
+use plain::programs::{replay, write_call};
 
 /// Links in a row at 100 Mbit/s with a threshold of 371 and these fixed delays.
 fn row(fixed_delays: &[u32]) -> String {
@@ -19,20 +21,6 @@ fn row(fixed_delays: &[u32]) -> String {
 fn registration(links: usize, deadline: u32) -> String {
     let hops: String = (1..=links).map(|link| format!("{link:>4} 1")).collect();
     format!(" 1     7     1000    1542 1542{deadline:>8}{links:>3}{hops}\n")
-}
-
-/// What is printed for a table and one order, the same by all versions.
-fn printed(table: &str, order: &str) -> String {
-    let (table, order) = (table.as_bytes(), order.as_bytes());
-    let known = admit(table, order);
-    for (name, batch) in versions() {
-        let batch = |table: &[u8], orders: &[u8], answers: &mut [u8]| {
-            let (code, line) = batch(table, orders, answers);
-            (u64::from(code), u64::from(line))
-        };
-        assert_eq!(admit_by(batch, table, order), known, "{name}");
-    }
-    String::from_utf8(known).unwrap()
 }
 
 /// 3 × 371 and 10,005 µs of cable are met exactly; one µs more of any cable, the last one's too, is 20.

@@ -27,17 +27,17 @@ pub struct Free {
     pub due: bool,
 }
 
+/// The sources of best-effort frames.
+pub trait Laptops {
+    /// What starts next in the free slots; none where the link stays idle up to the instant.
+    fn start(&mut self, free: &Free) -> Option<Start>;
+}
+
 /// A best-effort frame that starts after so many of the free slots.
 #[derive(Clone, Copy, Debug, PartialEq)]
 pub struct Start {
     pub after: u64,
     pub bytes: u64,
-}
-
-/// The sources of best-effort frames.
-pub trait Laptops {
-    /// What starts next in the free slots; none where the link stays idle up to the instant.
-    fn start(&mut self, free: &Free) -> Option<Start>;
 }
 
 /// None.

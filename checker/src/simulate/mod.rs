@@ -45,25 +45,31 @@ impl Worst {
     }
 }
 
+/// The worst of some queues.
+#[derive(Default)]
+pub struct Extremes {
+    pub stay: Worst,
+    pub backlog: Worst,
+}
+
+/// Which queues: all, those that every flow reaches after an earlier hop, those of links with a best-effort frame.
+const SOME: [&str; 3] = [
+    "of all queues",
+    "fed by links alone",
+    "beside best-effort frames",
+];
+
 #[derive(Default)]
 pub struct Report {
     pub halls: u64,
     pub runs: u64,
     pub frames: u64,
     /// Best-effort frames, and those that started a slot before frames reached their link.
-    pub best_effort: u64,
-    pub just_before: u64,
-    pub stay: Worst,
-    pub backlog: Worst,
-    /// The same for queues that every flow reaches after an earlier hop.
-    pub later_stay: Worst,
-    pub later_backlog: Worst,
-    /// The same for queues of links with a best-effort frame.
-    pub beside_stay: Worst,
-    pub beside_backlog: Worst,
-    /// What a stay took of the µs that the best-effort frame adds to its threshold.
+    pub best_effort: [u64; 2],
+    pub extremes: [Extremes; SOME.len()],
+    /// What a stay took of the µs that the best-effort frame adds to its threshold; and of the ways that have a fixed
+    /// delay, what they took beside it, against their thresholds.
     pub added: Worst,
-    /// Of the ways that have a fixed delay, what they took beside it, against their thresholds.
     pub journey: Worst,
 }
 
@@ -73,19 +79,12 @@ impl Report {
             "halls: {}, runs: {}, frames: {}",
             self.halls, self.runs, self.frames
         );
-        println!(
-            "best-effort frames: {}, a slot before an arrival: {}",
-            self.best_effort, self.just_before
-        );
-        self.stay.print("longest stay against threshold");
-        self.backlog.print("greatest backlog against buffer");
-        self.later_stay.print("longest stay fed by links alone");
-        self.later_backlog
-            .print("greatest backlog fed by links alone");
-        self.beside_stay
-            .print("longest stay beside best-effort frames");
-        self.beside_backlog
-            .print("greatest backlog beside best-effort frames");
+        let [started, just_before] = self.best_effort;
+        println!("best-effort frames: {started}, a slot before an arrival: {just_before}");
+        for (queues, worst) in SOME.iter().zip(&self.extremes) {
+            worst.stay.print(&format!("longest stay {queues}"));
+            worst.backlog.print(&format!("greatest backlog {queues}"));
+        }
         self.added
             .print("of what the best-effort frame adds to a threshold");
         self.journey
@@ -95,8 +94,8 @@ impl Report {
     fn add(&mut self, hall: &Hall, index: u64, seen: &Traffic) {
         self.runs += 1;
         self.frames += seen.frames as u64;
-        self.best_effort += seen.best_effort;
-        self.just_before += seen.just_before;
+        self.best_effort[0] += seen.best_effort;
+        self.best_effort[1] += seen.just_before;
         self.add_queues(hall, index, &seen.queues);
         for (flow, &longest) in hall.flows.iter().zip(&seen.journeys) {
             let fixed = path_fixed_delays(&hall.queues, &flow.hops) as u64;
@@ -113,18 +112,15 @@ impl Report {
         for (at, most) in seen.iter().enumerate().filter(|&(at, _)| hall.carries(at)) {
             let queue = &hall.queues[at];
             let place = || format!("hall {index} link {} level {}", queue.link, queue.level);
-            let met = |stay: &mut Worst, backlog: &mut Worst| {
-                backlog.meet(most.backlog, queue.buffer, place);
+            let beside = queue.best_effort_frame > 0;
+            let counts = [true, hall.fed_by_links(at), beside];
+            for (worst, _) in self.extremes.iter_mut().zip(counts).filter(|&(_, it)| it) {
+                worst.backlog.meet(most.backlog, queue.buffer, place);
                 if queue.threshold >= TELLING_THRESHOLD {
-                    stay.meet(most.stay, queue.threshold, place);
+                    worst.stay.meet(most.stay, queue.threshold, place);
                 }
-            };
-            met(&mut self.stay, &mut self.backlog);
-            if hall.fed_by_links(at) {
-                met(&mut self.later_stay, &mut self.later_backlog);
             }
-            if queue.best_effort_frame > 0 {
-                met(&mut self.beside_stay, &mut self.beside_backlog);
+            if beside {
                 let alone = hall.delay_by(at, left_out);
                 let added = queue.threshold - alone;
                 if added >= TELLING_THRESHOLD {

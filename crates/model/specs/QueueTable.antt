@@ -15,15 +15,15 @@ pub record Queue : Type 0 where
   pub threshold : ℕ
   pub buffer : ℕ
 
--- A link: its nodes, its speed in Mbit/s, the fixed delay of its cable and switch in µs, the bytes of the longest best-effort frame that shares it (0: none
--- does), and its queues, level 1 first.
+-- A link: its nodes, its speed in Mbit/s, its queues, level 1 first, the fixed delay of its cable and switch in µs, and the bytes of the longest best-effort
+-- frame that shares it, 0 where none does.
 pub record Link : Type 0 where
   pub from : ℕ
   pub to : ℕ
   pub speed : ℕ
+  pub levels : List Queue
   pub fixedDelay : ℕ
   pub bestEffort : ℕ
-  pub levels : List Queue
 
 -- The queue table, link 1 first.
 abbrev pub Table : Type 0
