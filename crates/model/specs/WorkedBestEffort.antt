@@ -71,14 +71,19 @@ sends (suc (suc x)) = tt
 abbrev pub worked : Run table flows
 worked = runOf table flows 2 offered sent (λ x q l. l) (omega arith) offers sends (λ x q l. Permᴰ·refl l)
 
+-- The same without best effort.
+abbrev pub alone : Run table flows
+alone = runOf table flows 2 (λ x n slot. 0) sent (λ x q l. l) (omega arith) (λ x n slot. omega arith) sends (λ x q l. Permᴰ·refl l)
+
 -- Before the arrivals of instant 1 one slot of the best-effort frame is sent. It is in no queue when the flow's frame comes, which then begins in mid-bit too;
--- the second best-effort frame isn't sent. The flow's frame has left when instant 3 comes, and nothing else is under way. Without best effort it would have left at 2.
+-- the second best-effort frame isn't sent. The flow's frame has left when instant 3 comes, and nothing else is under way. Without best effort it has left at 2.
 pub the-run : (worked .before 1 1 ≡ record { wire = run.sendingBestEffort 1342; levels = [] ∷ []; left = [] })
     × (run.inQueue 1 (worked .after 1 1) ≡ frame 0 1 ∷ [])
     × (worked .before 2 1 ≡ record { wire = run.sending 1 (frame 0 1) 1342; levels = [] ∷ []; left = [] })
     × (worked .before 3 1 ≡ record { wire = run.idle; levels = [] ∷ []; left = frame 0 1 ∷ [] })
+    × (alone .before 2 1 ≡ record { wire = run.idle; levels = [] ∷ []; left = frame 0 1 ∷ [] })
 unfolding run.onWire run.inQueue runOf states goesOn upTo coming run.pastEmpty run.pick run.sendingTime run.startBestEffort run.start run.take run.send run.timeSlot run.interval run.hopOf run.next run.leftAgo run.handedOn run.moving run.reaching run.append run.enter run.emptyLevels run.emptyLink run.speedOf filter nth linkAt fixedDelayOf sameHop
-the-run = (refl, refl, refl, refl)
+the-run = (refl, refl, refl, refl, refl)
 
 pub conforming : Conforming flows sent
 unfolding window bytesOf total
