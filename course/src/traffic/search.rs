@@ -1,10 +1,12 @@
 //! Looks for the longest stay: takes one queue after the other, lets conforming sources meet there,
-//! and changes one source after the other.
+//! and changes one source after the other, or when a laptop sends.
 
 use super::figures::{greater_share, Figures};
+use super::frames::{Laptop, Send, Sends, Stay};
 use super::hall::Hall;
 use super::network::Network;
-use super::run::{run, Arrivals, Send, Stay};
+use super::run::{run, Arrivals};
+use super::slots::THOUSAND;
 use crate::numbers::{commas, counted};
 use halls::rng::Rng;
 use halls::sources::{sends, Pace, Pattern, Sizes};
@@ -23,13 +25,18 @@ struct Source {
     seed: u64,
 }
 
-/// A source for each flow, or none that sends.
-type Sources = Vec<Option<Source>>;
+/// What is tried: for each flow how its source sends, or that it doesn't, and for each link the
+/// instant just before which a laptop's longest frame is ready, or none.
+#[derive(Clone)]
+struct Tried {
+    sources: Vec<Option<Source>>,
+    laptops: Vec<Option<u64>>,
+}
 
 /// The longest stay found so far, and the frames that led to it.
 pub struct Best {
     pub stay: Stay,
-    pub sends: Vec<Send>,
+    pub sends: Sends,
 }
 
 /// How long to go on.
@@ -45,12 +52,15 @@ pub struct Search<'a> {
     rng: Rng,
     /// The queues that are looked at.
     targets: Vec<usize>,
+    /// Each link's longest best-effort frame, and the links that have one.
+    longest: Vec<u64>,
+    ports: Vec<usize>,
     pub tries: u64,
     pub best: Option<Best>,
 }
 
 /// The frames of these sources by instant; each keeps to its bucket by how it is made.
-fn frames(hall: &Hall, sources: &Sources) -> Vec<Send> {
+fn frames(hall: &Hall, sources: &[Option<Source>]) -> Vec<Send> {
     let started = sources.iter().flatten().map(|source| source.pattern.start);
     let until = started.max().unwrap_or(0) + (2 * hall.span()).min(longest_run(hall));
     let mut all = Vec::new();
@@ -85,7 +95,13 @@ impl<'a> Search<'a> {
     ) -> Search<'a> {
         let carries = |&queue: &usize| hall.bounds[queue].is_some();
         let all = (0..hall.queues.len()).filter(carries).collect();
+        let of_links = hall.queues.iter().filter(|queue| queue.level == 1);
+        let longest: Vec<u64> = of_links.map(|queue| queue.best_effort_frame).collect();
         Search {
+            ports: (0..longest.len())
+                .filter(|&link| longest[link] > 0)
+                .collect(),
+            longest,
             targets: only.map_or(all, |queue| vec![queue]),
             hall,
             network: Network::new(&hall.queues, &hall.flows),
@@ -99,14 +115,14 @@ impl<'a> Search<'a> {
     /// Climbs at one queue after the other until the limits are met; `tell` hears of each climb.
     pub fn climb_all(&mut self, limits: &Limits, mut tell: impl FnMut(&Search)) {
         let targets = self.targets.clone();
-        let mut known: Vec<Option<Sources>> = vec![None; self.hall.queues.len()];
+        let mut known: Vec<Option<Tried>> = vec![None; self.hall.queues.len()];
         while !targets.is_empty() && !self.over(limits) {
             for &queue in &targets {
                 if self.best.is_some() && self.over(limits) {
                     break;
                 }
                 let start = match known[queue].take() {
-                    Some(sources) if !self.rng.once_in(3) => sources,
+                    Some(tried) if !self.rng.once_in(3) => tried,
                     _ => self.aligned(queue),
                 };
                 known[queue] = Some(self.climb(queue, start, limits));
@@ -120,9 +136,12 @@ impl<'a> Search<'a> {
     }
 
     /// One run; what is longest of all is kept.
-    fn stay_at(&mut self, queue: usize, sources: &Sources) -> u64 {
+    fn stay_at(&mut self, queue: usize, tried: &Tried) -> u64 {
         self.tries += 1;
-        let list = frames(self.hall, sources);
+        let list = Sends {
+            frames: frames(self.hall, &tried.sources),
+            laptops: self.laptops(tried),
+        };
         let mut figures = Figures::new(&self.hall.queues);
         run(&self.network, &list, self.arrivals.clone(), &mut figures);
         let threshold = |stay: &Stay| self.hall.queues[stay.queue].threshold;
@@ -140,29 +159,71 @@ impl<'a> Search<'a> {
         figures.seen[queue].stay()
     }
 
-    fn climb(&mut self, queue: usize, mut sources: Sources, limits: &Limits) -> Sources {
+    /// The laptops' frames by their time.
+    fn laptops(&self, tried: &Tried) -> Vec<Laptop> {
+        let of_link = |(link, before): (usize, &Option<u64>)| {
+            let ready = (before.as_ref()? * THOUSAND).checked_sub(1)?;
+            Some(Laptop {
+                link,
+                ready,
+                bytes: self.longest[link],
+                line: 0,
+            })
+        };
+        let all = tried.laptops.iter().enumerate();
+        let mut list: Vec<Laptop> = all.filter_map(of_link).collect();
+        list.sort_by_key(|laptop| laptop.ready);
+        list
+    }
+
+    fn climb(&mut self, queue: usize, mut best: Tried, limits: &Limits) -> Tried {
         let link = self.hall.queues[queue].link;
         let crosses = |flow: &Flow| flow.hops.iter().any(|hop| hop.link == link);
-        let near: Vec<usize> = (0..sources.len())
+        let near: Vec<usize> = (0..best.sources.len())
             .filter(|&flow| crosses(&self.hall.flows[flow]))
             .collect();
-        let mut longest = self.stay_at(queue, &sources);
+        let mut longest = self.stay_at(queue, &best);
         let mut since = 0;
         while since < PATIENCE && !self.over(limits) {
-            let tried = self.changed(&sources, &near);
+            let tried = match !self.ports.is_empty() && self.rng.once_in(4) {
+                true => self.laptop_changed(&best, link),
+                false => self.changed(&best, &near),
+            };
             let stay = self.stay_at(queue, &tried);
             since = if stay > longest { 0 } else { since + 1 };
             if stay >= longest {
                 longest = stay;
-                sources = tried;
+                best = tried;
             }
         }
-        sources
+        best
+    }
+
+    /// The same but for one laptop, most often the link's own.
+    fn laptop_changed(&mut self, best: &Tried, link: u64) -> Tried {
+        let mut changed = best.clone();
+        let span = self.hall.span();
+        let rng = &mut self.rng;
+        let own = link as usize - 1;
+        let port = match self.ports.contains(&own) && !rng.once_in(4) {
+            true => own,
+            false => rng.pick(&self.ports),
+        };
+        changed.laptops[port] = match changed.laptops[port] {
+            Some(before) if !rng.once_in(4) => {
+                let reach = rng.pick(&[2, 10, 100, span / 4]).max(1);
+                Some((before + rng.between(0, 2 * reach)).saturating_sub(reach))
+            }
+            Some(_) if rng.once_in(4) => None,
+            _ => Some(rng.between(0, 2 * span)),
+        };
+        changed
     }
 
     /// The same sources but one, most often one of a flow that crosses the link.
-    fn changed(&mut self, sources: &Sources, near: &[usize]) -> Sources {
-        let mut changed = sources.clone();
+    fn changed(&mut self, best: &Tried, near: &[usize]) -> Tried {
+        let mut tried = best.clone();
+        let changed = &mut tried.sources;
         let span = self.hall.span();
         let rng = &mut self.rng;
         let index = match rng.once_in(4) {
@@ -183,29 +244,40 @@ impl<'a> Search<'a> {
                 seed: rng.draw(),
             }),
         };
-        changed
+        tried
     }
 
-    /// Sources that meet at one queue: greedy ones, those of levels below a µs before, so that a
-    /// frame of theirs is under way.
-    fn aligned(&mut self, queue: usize) -> Sources {
+    /// Sources that meet at one queue: greedy ones, so that a frame is under way that isn't broken
+    /// off. A laptop's where it is as long as any of the levels below, else those of these levels a
+    /// µs before.
+    fn aligned(&mut self, queue: usize) -> Tried {
         let target = &self.hall.queues[queue];
-        let base = self.hall.span();
+        let below = |flow: &Flow| {
+            let mut hops = flow.hops.iter();
+            hops.any(|hop| hop.link == target.link && hop.level > target.level)
+        };
         let flows = self.hall.flows.iter();
-        flows
-            .map(|flow| {
-                let below =
-                    |hop: &plain::orders::Hop| hop.link == target.link && hop.level > target.level;
-                let before =
-                    self.travel(flow, target.link) + u64::from(flow.hops.iter().any(below));
-                let pattern = Pattern {
-                    start: (base + 1).saturating_sub(before),
-                    sizes: Sizes::Largest,
-                    pace: Pace::Greedy,
-                };
-                Some(Source { pattern, seed: 0 })
-            })
-            .collect()
+        let frames = flows.clone().filter(|flow| below(flow));
+        let longest = frames.map(|flow| flow.frame).max().unwrap_or(0);
+        let laptop = target.best_effort_frame > 0 && target.best_effort_frame >= longest;
+        let meet = self.hall.span() + 1;
+        let source = |flow: &Flow| {
+            let before = self.travel(flow, target.link) + u64::from(below(flow) && !laptop);
+            let pattern = Pattern {
+                start: meet.saturating_sub(before),
+                sizes: Sizes::Largest,
+                pace: Pace::Greedy,
+            };
+            Some(Source { pattern, seed: 0 })
+        };
+        let mut laptops = vec![None; self.longest.len()];
+        if laptop {
+            laptops[target.link as usize - 1] = Some(meet);
+        }
+        Tried {
+            sources: flows.map(source).collect(),
+            laptops,
+        }
     }
 
     /// The µs that a lone frame takes to a link.
