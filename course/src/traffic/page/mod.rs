@@ -12,7 +12,7 @@ mod svg;
 
 use super::figures::{Seen, Verdict};
 use super::hall::Hall;
-use super::report::{rows, HEADINGS};
+use super::report::{delayed, rows, HEADINGS};
 use crate::numbers::commas;
 use plain::orders::Flow;
 use stretch::{Recorder, Stretch};
@@ -54,6 +54,9 @@ pub fn page(
     html += &map::map(hall, seen);
     html += "</section>\n<section>\n<h2>Every queue that carries a flow</h2>\n";
     html += &table(hall, seen, verdict);
+    for line in delayed(hall, seen).lines() {
+        html += &format!("<p class=\"delayed\">{}</p>\n", escape(&capital(line)));
+    }
     html += "</section>\n";
     html += &drawings(hall, seen, verdict, recorder);
     html + "</body>\n</html>\n"
