@@ -119,7 +119,25 @@ fn run_simulate(options: &[&str]) -> Option<bool> {
         }
         Ok(report) => {
             report.print();
-            Some(report.halls > 0)
+            let sent = report.halls > 0 && report.just_before > 0;
+            Some(sent && catches_a_mistake(seed, count))
+        }
+    }
+}
+
+/// Whether the search finds frames late where the best-effort frame is left out of the bounds.
+fn catches_a_mistake(seed: u64, count: u64) -> bool {
+    match simulate::run_mistaken(seed, count, simulate::left_out, |trial| trial) {
+        Err(what) => {
+            println!("failed: {what}");
+            false
+        }
+        Ok(caught) => {
+            println!(
+                "best-effort frame left out of the bounds: {} of {} halls late, {} over",
+                caught.late, caught.halls, caught.over
+            );
+            caught.late > 0
         }
     }
 }

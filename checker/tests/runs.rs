@@ -57,6 +57,7 @@ fn queue(link: u64, level: u64, threshold: u64, buffer: u64) -> Queue {
         threshold,
         buffer,
         fixed_delay: 0,
+        best_effort_frame: 0,
     }
 }
 

@@ -1,8 +1,8 @@
-//! Document 01, "Sums to check by hand": all at 100 Mbit/s, flows of rate 1,000, burst and frame
-//! 1,542. Each is worked out by the formulas or put to all versions as a batch.
+//! Document 01, "Sums to check by hand", and those of W-202: all at 100 Mbit/s, flows of rate 1,000,
+//! burst and frame 1,542. Each is worked out by the formulas or put to all versions as a batch.
 
 use checker::versions::versions;
-use plain::formula::{backlog, burst_at_hop, delay, rate_passes, Aggregate};
+use plain::formula::{backlog, burst_at_hop, delay, rate_passes, Aggregate, Link};
 
 const FLOW: Aggregate = Aggregate {
     rate: 1_000,
@@ -14,6 +14,22 @@ const NONE: Aggregate = Aggregate {
     burst: 0,
     frame: 0,
 };
+
+/// A link that carries registered frames alone.
+const LINK: Link = Link {
+    speed: 100,
+    best_effort_frame: 0,
+};
+/// One with the longest best-effort frame.
+const SHARED: Link = Link {
+    best_effort_frame: 1_542,
+    ..LINK
+};
+
+/// Delay and backlog of the level with index `p`.
+fn bounds(link: Link, levels: &[Aggregate], p: usize) -> (u128, u128) {
+    (delay(link, levels, p), backlog(link, levels, p))
+}
 
 /// The answers of a batch, the same from all versions.
 fn answers(table: &str, orders: &str) -> String {
@@ -43,6 +59,12 @@ fn table_line(link: u32, level: u32, threshold: u32, buffer: u32) -> String {
     )
 }
 
+/// The same with a best-effort frame.
+fn shared_line(level: u32, threshold: u32, buffer: u32, frame: u32) -> String {
+    let line = table_line(1, level, threshold, buffer);
+    format!("{}      0{frame:>5}\n", line.trim_end())
+}
+
 /// A registration over the first levels of so many links from link 1 on.
 fn registration(number: u32, rate: u32, burst: u32, frame: u32, hops: u32) -> String {
     let path: String = (1..=hops)
@@ -56,8 +78,7 @@ fn registration(number: u32, rate: u32, burst: u32, frame: u32, hops: u32) -> St
 
 #[test]
 fn one_flow() {
-    assert_eq!(delay(100, &[FLOW], 0), 247);
-    assert_eq!(backlog(100, &[FLOW], 0), 1_558);
+    assert_eq!(bounds(LINK, &[FLOW], 0), (247, 1_558));
     let line = registration(7, 1_000, 1_542, 1_542, 1);
     assert_eq!(last(&table_line(1, 1, 247, 1_558), &line), "  0   1   0 0");
     assert_eq!(last(&table_line(1, 1, 246, 1_558), &line), " 22   0   1 1");
@@ -67,14 +88,40 @@ fn one_flow() {
 #[test]
 fn a_second_flow_below() {
     let levels = [FLOW, FLOW];
-    assert_eq!(
-        (delay(100, &levels, 1), backlog(100, &levels, 1)),
-        (374, 1_574)
-    );
-    assert_eq!(
-        (delay(100, &levels, 0), backlog(100, &levels, 0)),
-        (371, 1_573)
-    );
+    assert_eq!(bounds(LINK, &levels, 1), (374, 1_574));
+    assert_eq!(bounds(LINK, &levels, 0), (371, 1_573));
+}
+
+#[test]
+fn one_flow_beside_a_laptop() {
+    assert_eq!(bounds(SHARED, &[FLOW], 0), (371, 1_573));
+    let line = registration(7, 1_000, 1_542, 1_542, 1);
+    let answer = |threshold, buffer, frame| {
+        let table = shared_line(1, threshold, buffer, frame);
+        last(&table, &line)
+    };
+    assert_eq!(answer(371, 1_573, 1_542), "  0   1   0 0");
+    assert_eq!(answer(370, 1_573, 1_542), " 22   0   1 1");
+    assert_eq!(answer(371, 1_572, 1_542), " 23   0   1 1");
+    assert_eq!(answer(247, 1_558, 0), "  0   1   0 0");
+    assert_eq!(answer(247, 1_558, 84), " 22   0   1 1");
+}
+
+/// A sum of the field and the frame below would give 494 at level 1; the last level counts the field too.
+#[test]
+fn two_levels_beside_a_laptop() {
+    let levels = [FLOW, FLOW];
+    assert_eq!(bounds(SHARED, &levels, 0), (371, 1_573));
+    assert_eq!(bounds(SHARED, &levels, 1), (499, 1_589));
+    let first = registration(7, 1_000, 1_542, 1_542, 1);
+    let second = registration(8, 1_000, 1_542, 1_542, 1).replace("   1 1\n", "   1 2\n");
+    let answer = |one: (u32, u32), other: (u32, u32)| {
+        let table = shared_line(1, one.0, one.1, 1_542) + &shared_line(2, other.0, other.1, 1_542);
+        last(&table, &(first.clone() + &second))
+    };
+    assert_eq!(answer((371, 1_573), (499, 1_589)), "  0   2   0 0");
+    assert_eq!(answer((371, 1_573), (498, 1_589)), " 22   0   1 2");
+    assert_eq!(answer((371, 1_573), (499, 1_588)), " 23   0   1 2");
 }
 
 #[test]

@@ -2,7 +2,7 @@
 
 use crate::orders::{flow, order_lines, walk, Demand, Mix, SMALL, WIDE};
 use crate::rng::Rng;
-use crate::tables::{fixed_delays, full_ring, loose, Shape, MOST_BUFFER, MOST_THRESHOLD};
+use crate::tables::{full_ring, link_fields, loose, Shape, MOST_BUFFER, MOST_THRESHOLD};
 use plain::orders::{write_registration, Flow, Hop};
 use plain::table::Queue;
 
@@ -26,7 +26,7 @@ fn unhurried(
 /// pool as well.
 pub fn full_slots(rng: &mut Rng) -> (Vec<Queue>, Vec<Vec<u8>>) {
     let mut queues = full_ring(10_000, MOST_THRESHOLD, MOST_BUFFER);
-    fixed_delays(rng, &mut queues);
+    link_fields(rng, &mut queues);
     let hops = if rng.once_in(2) { 4 } else { rng.between(1, 3) };
     let mut lines = Vec::new();
     for number in 1..=rng.between(256, 300) {
@@ -49,7 +49,7 @@ pub fn full_slots(rng: &mut Rng) -> (Vec<Queue>, Vec<Vec<u8>>) {
 pub fn full_hops(rng: &mut Rng) -> (Vec<Queue>, Vec<Vec<u8>>) {
     let links = rng.between(12, 16);
     let mut queues = loose(rng, Shape::Chain, links, 2, &[10_000]);
-    fixed_delays(rng, &mut queues);
+    link_fields(rng, &mut queues);
     let demand = Demand {
         rates: &[1],
         bursts: &[84, 90],

@@ -9,12 +9,12 @@ pub mod tables;
 
 use full::{full_hops, full_slots};
 use orders::{flow, one_byte, order_lines, Demand, Mix, LIKE_THE_SUMS, SMALL, WIDE};
-use plain::orders::{write_registration, Flow};
+use plain::orders::{write_registration, Flow, LARGEST_FRAME, SMALLEST_FRAME};
 use plain::programs::ANSWER_BYTES;
 use plain::registry::Registry;
 use plain::table::{write_queue, Queue, LENGTHS, MOST_TABLE_BYTES};
 use rng::Rng;
-use tables::{drawn_text, fixed_delays, full_ring, loose, random_limits, table_text, Shape};
+use tables::{drawn_text, full_ring, link_fields, loose, random_limits, table_text, Shape};
 
 /// A batch's three areas; of the answer area only the length counts.
 pub struct Input {
@@ -26,23 +26,36 @@ pub struct Input {
 }
 
 /// The kinds that every run must have met.
-pub const KINDS: [&str; 15] = [
+pub const KINDS: [&str; 19] = [
     "full slots",
     "full hops",
     "at the limits",
     "tight",
     "like the sums",
     "mixed",
-    "short lines",
-    "long lines",
-    "both lengths",
+    NO_LINES,
+    LINES_TO[0],
+    LINES_TO[1],
+    LINES_TO[2],
+    SEVERAL_LENGTHS,
     "as made",
     "odd length",
     "delay above its range",
     "delays differ",
+    "best-effort frame out of range",
+    "best-effort frames differ",
     "one byte",
     "cut",
 ];
+
+/// How long the lines of a table are, by their last field where all are alike.
+const LINES_TO: [&str; LENGTHS.len()] = [
+    "lines to the buffer",
+    "lines to the delay",
+    "lines to the best-effort frame",
+];
+const SEVERAL_LENGTHS: &str = "several lengths";
+const NO_LINES: &str = "no line of a right length";
 
 const SPEEDS: [u64; 5] = [1, 10, 100, 1_000, 10_000];
 
@@ -80,11 +93,11 @@ pub fn input(rng: &mut Rng, long: bool) -> Input {
     }
 }
 
-/// Now and then some faults in the table's numbers, or one of its fixed delays alone, which is told.
+/// Now and then some faults in the table's numbers, or in a link's further numbers alone, which is told.
 fn spoil(rng: &mut Rng, queues: &mut Vec<Queue>) -> Option<&'static str> {
     match rng.between(0, 23) {
         0..=3 => faults::line_faults(rng, queues),
-        4 => return Some(faults::delay_fault(rng, queues)),
+        4 | 5 => return Some(faults::link_fault(rng, queues)),
         _ => {}
     }
     None
@@ -92,12 +105,12 @@ fn spoil(rng: &mut Rng, queues: &mut Vec<Queue>) -> Option<&'static str> {
 
 fn line_lengths(table: &[u8]) -> &'static str {
     let lines = plain::columns::lines(table);
-    let of = |length| lines.iter().any(|line| line.bytes.len() == length);
-    let longest = LENGTHS[LENGTHS.len() - 1];
-    match (of(LENGTHS[0]), of(longest)) {
-        (true, true) => "both lengths",
-        (false, true) => "long lines",
-        _ => "short lines",
+    let of = |length: usize| lines.iter().any(|line| line.bytes.len() == length);
+    let mut met = (0..LENGTHS.len()).filter(|&index| of(LENGTHS[index]));
+    match (met.next(), met.next()) {
+        (None, _) => NO_LINES,
+        (Some(only), None) => LINES_TO[only],
+        _ => SEVERAL_LENGTHS,
     }
 }
 
@@ -110,7 +123,7 @@ fn network(rng: &mut Rng) -> Vec<Queue> {
     if rng.once_in(2) {
         random_limits(rng, &mut queues);
     }
-    fixed_delays(rng, &mut queues);
+    link_fields(rng, &mut queues);
     queues
 }
 
@@ -118,10 +131,10 @@ fn network(rng: &mut Rng) -> Vec<Queue> {
 fn sums_network(rng: &mut Rng) -> Vec<Queue> {
     let mut queues = loose(rng, Shape::Chain, 3, 3, &[100]);
     for queue in &mut queues {
-        queue.threshold = rng.pick(&[246, 247, 370, 371, 374, 495, 1_000, 100_000]);
-        queue.buffer = rng.pick(&[1_557, 1_558, 1_573, 1_574, 2_000, 3_200, 100_000]);
+        queue.threshold = rng.pick(&[246, 247, 370, 371, 374, 495, 498, 499, 1_000, 100_000]);
+        queue.buffer = rng.pick(&[1_557, 1_558, 1_573, 1_574, 1_589, 2_000, 3_200, 100_000]);
     }
-    fixed_delays(rng, &mut queues);
+    link_fields(rng, &mut queues);
     queues
 }
 
@@ -138,7 +151,7 @@ fn mixed_lines(rng: &mut Rng, queues: &[Queue], demand: Demand, most: u64) -> Ve
 fn tight(rng: &mut Rng) -> (Vec<Queue>, Vec<Vec<u8>>) {
     let links = rng.between(1, 6);
     let mut queues = loose(rng, Shape::Mesh, links, 4, &[10, 100, 1_000]);
-    fixed_delays(rng, &mut queues);
+    link_fields(rng, &mut queues);
     let mut registry = Registry::over(queues.clone());
     let count = rng.between(1, 25);
     for _ in 0..count {
@@ -168,16 +181,23 @@ fn tight(rng: &mut Rng) -> (Vec<Queue>, Vec<Vec<u8>>) {
     (queues, lines)
 }
 
-/// One limit lower by one, or one link's fixed delay higher by one.
+/// One limit lower by one, or one link's fixed delay or best-effort frame higher by one.
 fn one_short(rng: &mut Rng, queues: &mut [Queue]) {
     let at = rng.index(queues.len());
     let Queue { link, .. } = queues[at];
-    match rng.between(0, 2) {
+    let of_link = |queue: &&mut Queue| queue.link == link;
+    match rng.between(0, 3) {
         0 => queues[at].threshold = (queues[at].threshold - 1).max(1),
         1 => queues[at].buffer = (queues[at].buffer - 1).max(1),
-        _ => {
-            for queue in queues.iter_mut().filter(|queue| queue.link == link) {
+        2 => {
+            for queue in queues.iter_mut().filter(of_link) {
                 queue.fixed_delay = (queue.fixed_delay + 1).min(tables::MOST_FIXED_DELAY);
+            }
+        }
+        _ => {
+            for queue in queues.iter_mut().filter(of_link) {
+                let longer = queue.best_effort_frame + 1;
+                queue.best_effort_frame = longer.clamp(SMALLEST_FRAME, LARGEST_FRAME);
             }
         }
     }

@@ -1,8 +1,8 @@
-//! Queue tables: networks that have paths, limits from loose to tight, fixed delays.
+//! Queue tables: networks that have paths, limits from loose to tight, fixed delays, best-effort frames.
 
 use crate::rng::Rng;
-use plain::formula::{backlog, delay, Aggregate};
-use plain::orders::{Flow, Hop};
+use plain::formula::{backlog, delay, Aggregate, Link};
+use plain::orders::{Flow, Hop, LARGEST_FRAME, SMALLEST_FRAME};
 use plain::registry::{aggregate, path_fixed_delays, path_thresholds};
 use plain::table::{write_queue, write_queue_in, Queue, LENGTHS};
 
@@ -12,17 +12,18 @@ pub fn table_text(queues: &[Queue]) -> Vec<u8> {
     queues.iter().flat_map(write_queue).collect()
 }
 
-/// The same table with its lines as short as their numbers allow, as long as a line may be, or either.
+/// The same table with its lines as short as their numbers allow, all in one length that holds them, or each in any.
 pub fn drawn_text(rng: &mut Rng, queues: &[Queue]) -> Vec<u8> {
-    let form = rng.between(0, 2);
+    let least = |queue: &Queue| write_queue(queue).len() - 1;
+    let from = |least: usize| LENGTHS.into_iter().filter(move |&length| length >= least);
+    let of_all = from(queues.iter().map(least).max().unwrap_or(0)).collect::<Vec<usize>>();
+    let (form, one) = (rng.between(0, 2), rng.pick(&of_all));
     let mut text = Vec::new();
     for queue in queues {
-        let least = write_queue(queue).len() - 1;
-        let lengths: Vec<usize> = LENGTHS.into_iter().filter(|&n| n >= least).collect();
         let length = match form {
-            0 => least,
-            1 => lengths[lengths.len() - 1],
-            _ => rng.pick(&lengths),
+            0 => least(queue),
+            1 => one,
+            _ => rng.pick(&from(least(queue)).collect::<Vec<usize>>()),
         };
         text.extend(write_queue_in(queue, length));
     }
@@ -69,7 +70,7 @@ pub fn loose(rng: &mut Rng, shape: Shape, links: u64, levels: u64, speeds: &[u64
                 level,
                 threshold: MOST_THRESHOLD,
                 buffer: MOST_BUFFER,
-                fixed_delay: 0,
+                ..Queue::default()
             });
         }
     }
@@ -90,7 +91,7 @@ pub fn full_ring(speed: u64, threshold: u64, buffer: u64) -> Vec<Queue> {
                 level,
                 threshold,
                 buffer,
-                fixed_delay: 0,
+                ..Queue::default()
             });
         }
     }
@@ -143,6 +144,30 @@ pub fn fixed_delays(rng: &mut Rng, queues: &mut [Queue]) {
     }
 }
 
+/// Gives half of the links a best-effort frame, or now and then none of them.
+pub fn best_effort_frames(rng: &mut Rng, queues: &mut [Queue]) {
+    if rng.once_in(4) {
+        return;
+    }
+    for link in queues.chunk_by_mut(|one, other| one.link == other.link) {
+        let frame = match rng.between(0, 7) {
+            0 => SMALLEST_FRAME,
+            1 | 2 => LARGEST_FRAME,
+            3 => rng.between(SMALLEST_FRAME, LARGEST_FRAME),
+            _ => 0,
+        };
+        for queue in link {
+            queue.best_effort_frame = frame;
+        }
+    }
+}
+
+/// What W-201 and W-202 add to a link.
+pub fn link_fields(rng: &mut Rng, queues: &mut [Queue]) {
+    fixed_delays(rng, queues);
+    best_effort_frames(rng, queues);
+}
+
 /// The levels' aggregates of a link over these flows.
 pub fn link_levels(queues: &[Queue], flows: &[&Flow], link: u64) -> Vec<Aggregate> {
     let of_link = queues.iter().filter(|queue| queue.link == link);
@@ -155,6 +180,15 @@ pub fn link_levels(queues: &[Queue], flows: &[&Flow], link: u64) -> Vec<Aggregat
 /// buffer to the backlog bound. Lower thresholds make smaller bursts and so smaller bounds: the
 /// flows stay admitted at every step.
 pub fn tighten(queues: &mut [Queue], flows: &[&Flow]) {
+    tighten_by(queues, flows, |queue, _| queue.of_link());
+}
+
+/// What the bounds of a queue count of its link; said of the queue and the one after it in the table.
+pub type Counted = fn(&Queue, Option<&Queue>) -> Link;
+
+/// The same with bounds that count this, right or wrong.
+pub fn tighten_by(queues: &mut [Queue], flows: &[&Flow], counted: Counted) {
+    let link_at = |queues: &[Queue], i: usize| counted(&queues[i], queues.get(i + 1));
     loop {
         let mut moved = false;
         for i in 0..queues.len() {
@@ -163,7 +197,7 @@ pub fn tighten(queues: &mut [Queue], flows: &[&Flow]) {
             if levels[p].rate == 0 {
                 continue;
             }
-            let bound = delay(u128::from(queues[i].speed), &levels, p) as u64;
+            let bound = delay(link_at(queues, i), &levels, p) as u64;
             moved |= bound != queues[i].threshold;
             queues[i].threshold = bound;
         }
@@ -175,7 +209,7 @@ pub fn tighten(queues: &mut [Queue], flows: &[&Flow]) {
         let levels = link_levels(queues, flows, queues[i].link);
         let p = queues[i].level as usize - 1;
         if levels[p].rate > 0 {
-            queues[i].buffer = backlog(u128::from(queues[i].speed), &levels, p) as u64;
+            queues[i].buffer = backlog(link_at(queues, i), &levels, p) as u64;
         }
     }
 }

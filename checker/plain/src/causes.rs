@@ -14,7 +14,7 @@ codes! {
     TABLE_COLUMNS = 1, "a table line's columns are wrong";
     TABLE_RANGE = 2, "a number of a table line is out of range";
     TABLE_TURN = 3, "link or level out of turn";
-    TABLE_ENDS = 4, "a link's ends, speed or fixed delay don't fit";
+    TABLE_ENDS = 4, "a link's ends, speed, fixed delay or best-effort frame don't fit";
     TABLE_SIZE = 5, "the table is too long";
     COLUMNS = 10, "columns wrong";
     RANGE = 11, "out of range";

@@ -1,4 +1,4 @@
-//! Document 01's formulas, in its whole units. Wide numbers, so that no product has to be thought about.
+//! Document 01's formulas, in its whole units, with W-202's best-effort frame in Y. Wide numbers, so that no product has to be thought about.
 
 /// What document 01 calls the figures of a queue; also what one flow adds to them.
 #[derive(Clone, Copy, Debug, Default, PartialEq)]
@@ -55,6 +55,15 @@ pub fn burst_at_hop(burst: u128, rate: u128, earlier: u128) -> u128 {
     burst + growth(rate, earlier).ceiling()
 }
 
+/// What the formulas ask of a link.
+#[derive(Clone, Copy, Debug, Default, PartialEq)]
+pub struct Link {
+    /// Mbit/s.
+    pub speed: u128,
+    /// The longest best-effort frame that it may carry, bytes; 0 where it carries none.
+    pub best_effort_frame: u128,
+}
+
 /// The sum of a link's rates, kbit/s.
 pub fn rate_sum(levels: &[Aggregate]) -> u128 {
     levels.iter().map(|level| level.rate).sum()
@@ -79,24 +88,32 @@ pub struct Sums {
     pub above: u128,
     /// The largest frame of all levels below.
     pub below: u128,
+    /// The link's longest best-effort frame.
+    pub best_effort_frame: u128,
     pub own: Aggregate,
 }
 
 impl Sums {
     /// Of the level with index `p` (0 for level 1). Asks for the rate rule.
-    pub fn of(speed: u128, levels: &[Aggregate], p: usize) -> Sums {
+    pub fn of(link: Link, levels: &[Aggregate], p: usize) -> Sums {
         let below = levels[p + 1..].iter().map(|level| level.frame).max();
         Sums {
-            residual: rate_limit(speed) - rate_sum(&levels[..p]),
+            residual: rate_limit(link.speed) - rate_sum(&levels[..p]),
             above: levels[..p].iter().map(|level| level.burst).sum(),
             below: below.unwrap_or(0),
+            best_effort_frame: link.best_effort_frame,
             own: levels[p],
         }
     }
 
+    /// What can be under way when the queue's frames come: one frame, of a level below or a best-effort one.
+    pub fn under_way(&self) -> u128 {
+        self.below.max(self.best_effort_frame)
+    }
+
     /// Y: what can stand before the queue's own burst, bytes.
     pub fn ahead(&self) -> u128 {
-        self.above + self.below + self.own.frame
+        self.above + self.under_way() + self.own.frame
     }
 
     /// Eq. 12 before it is rounded, µs.
@@ -117,11 +134,11 @@ impl Sums {
 }
 
 /// Eq. 12, µs, for the level with index `p`.
-pub fn delay(speed: u128, levels: &[Aggregate], p: usize) -> u128 {
-    Sums::of(speed, levels, p).delay().ceiling()
+pub fn delay(link: Link, levels: &[Aggregate], p: usize) -> u128 {
+    Sums::of(link, levels, p).delay().ceiling()
 }
 
 /// Eq. 13, bytes.
-pub fn backlog(speed: u128, levels: &[Aggregate], p: usize) -> u128 {
-    levels[p].burst + Sums::of(speed, levels, p).rise().ceiling()
+pub fn backlog(link: Link, levels: &[Aggregate], p: usize) -> u128 {
+    levels[p].burst + Sums::of(link, levels, p).rise().ceiling()
 }

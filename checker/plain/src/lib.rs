@@ -1,6 +1,6 @@
-//! The reference model: document 01, with W-201 of document 02, in the plainest way, worked out anew for each order. Every
-//! number and rule of the papers stands here once: fields and ranges in `table` and `orders`, sizes beside what they limit,
-//! the order of causes in `causes`, the formulas in `formula`.
+//! The reference model: document 01, with W-201 and W-202 of document 02, in the plainest way, worked out anew for each
+//! order. Every number and rule of the papers stands here once: fields and ranges in `table` and `orders`, sizes beside
+//! what they limit, the order of causes in `causes`, the formulas in `formula`.
 
 mod calls;
 pub mod causes;

@@ -1,9 +1,11 @@
-//! Document 01's queue table, with W-201's fixed delay: what a table text says, or the code and line of its first fault.
+//! Document 01's queue table, with W-201's fixed delay and W-202's best-effort frame: what a table text says, or the code
+//! and line of its first fault.
 
 use crate::causes;
 use crate::columns::{lines, Field, Line};
 use crate::faults::{first_class, Class, Fault, What};
-use crate::orders::Hop;
+use crate::formula::Link;
+use crate::orders::{Hop, LARGEST_FRAME, SMALLEST_FRAME};
 
 pub const MOST_LINKS: u64 = 64;
 pub const MOST_LEVELS: u64 = 8;
@@ -26,9 +28,19 @@ pub struct Queue {
     pub buffer: u64,
     /// What the link's cable and switch take after the queue, µs.
     pub fixed_delay: u64,
+    /// The longest frame that a laptop may send on the link, bytes; 0 where none does.
+    pub best_effort_frame: u64,
 }
 
 impl Queue {
+    /// What the formulas ask of its link.
+    pub fn of_link(&self) -> Link {
+        Link {
+            speed: u128::from(self.speed),
+            best_effort_frame: u128::from(self.best_effort_frame),
+        }
+    }
+
     /// The hop that names it.
     pub fn hop(&self) -> Hop {
         Hop {
@@ -67,9 +79,12 @@ macro_rules! entry {
     };
 }
 
+/// A link without laptops, or the lengths that a frame may have.
+const BEST_EFFORT_RANGES: &[(u64, u64)] = &[(0, 0), (SMALLEST_FRAME, LARGEST_FRAME)];
+
 /// The fields of a table line, in their columns.
 #[rustfmt::skip]
-pub const ENTRIES: [Entry; 8] = [
+pub const ENTRIES: [Entry; 9] = [
     entry!(Of::Turn, link, "link", "", (1, 4), &[]),
     entry!(Of::Link, from, "from node", "", (5, 8), &[(1, 9_999)]),
     entry!(Of::Link, to, "to node", "", (9, 12), &[(1, 9_999)]),
@@ -78,10 +93,11 @@ pub const ENTRIES: [Entry; 8] = [
     entry!(Of::Queue, threshold, "threshold", "µs", (21, 27), &[(1, MOST_THRESHOLD)]),
     entry!(Of::Queue, buffer, "buffer", "bytes", (28, 36), &[(1, MOST_BUFFER)]),
     entry!(Of::Link, fixed_delay, "fixed delay", "µs", (37, 43), &[(0, MOST_FIXED_DELAY)]),
+    entry!(Of::Link, best_effort_frame, "best-effort frame", "bytes", (44, 48), BEST_EFFORT_RANGES),
 ];
 
 /// The lengths that a table line may have, shortest first; a field past its end is 0.
-pub const LENGTHS: [usize; 2] = [36, 43];
+pub const LENGTHS: [usize; 3] = [36, 43, 48];
 
 const LONGEST: usize = LENGTHS[LENGTHS.len() - 1];
 

@@ -96,15 +96,15 @@ impl LinkWork {
     /// A link's levels with these figures. A slip may round a bound.
     pub fn of(levels: Vec<(Queue, Aggregate)>, slips: &Slips) -> LinkWork {
         let figures: Vec<Aggregate> = levels.iter().map(|(_, figures)| *figures).collect();
-        let (link, speed) = levels
+        let (number, link) = levels
             .first()
-            .map_or((0, 0), |(queue, _)| (queue.link, u128::from(queue.speed)));
-        let (sum, limit) = (rate_sum(&figures), rate_limit(speed));
+            .map_or_else(Default::default, |(queue, _)| (queue.link, queue.of_link()));
+        let (sum, limit) = (rate_sum(&figures), rate_limit(link.speed));
         let bounds = |p: usize| {
             if figures[p].is_empty() || sum >= limit {
                 return None;
             }
-            let sums = Sums::of(speed, &figures, p);
+            let sums = Sums::of(link, &figures, p);
             Some(Bounds {
                 sums,
                 delay: slips.delay(&sums),
@@ -117,7 +117,7 @@ impl LinkWork {
             bounds: bounds(p),
         };
         LinkWork {
-            link,
+            link: number,
             rate_sum: sum,
             rate_limit: limit,
             levels: levels.into_iter().enumerate().map(level).collect(),

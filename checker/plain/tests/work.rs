@@ -23,6 +23,7 @@ fn row(links: u64, levels: &[(u64, u64)]) -> Vec<Queue> {
                 threshold,
                 buffer,
                 fixed_delay: 0,
+                best_effort_frame: 0,
             });
         }
     }
@@ -64,6 +65,50 @@ fn the_sums_of_document_01() {
         (99_000, 1_542, 0)
     );
     assert_eq!(second.deciding().unwrap().queue.level, 2);
+}
+
+/// W-202's sums: what is under way is one frame, so the field stands beside the greatest admitted frame below, not on top
+/// of it; at the last level it counts too.
+#[test]
+fn the_sums_with_a_best_effort_frame() {
+    let mut queues = row(1, &[(500, 2_000), (500, 2_000)]);
+    for queue in &mut queues {
+        queue.best_effort_frame = 1_542;
+    }
+    let mut registry = Registry::over(queues);
+    let first = registry.judge(&flow(7, 1, 1));
+    assert_eq!(bounds(&first, 1, 1), (371, 1_573));
+    registry.put_in(&flow(7, 1, 1));
+    let second = registry.judge(&flow(8, 1, 2));
+    assert_eq!(bounds(&second, 1, 1), (371, 1_573));
+    assert_eq!(bounds(&second, 1, 2), (499, 1_589));
+    let last = second.links[0].levels[1].bounds.unwrap().sums;
+    assert_eq!((last.below, last.best_effort_frame), (0, 1_542));
+    let upper = second.links[0].levels[0].bounds.unwrap().sums;
+    assert_eq!((upper.below, upper.under_way()), (1_542, 1_542));
+}
+
+/// The larger of the two frames counts, whichever it is.
+#[test]
+fn the_larger_frame_is_under_way() {
+    for (below, field, delay) in [
+        (84, 1_542, 371),
+        (1_542, 84, 371),
+        (84, 0, 254),
+        (84, 100, 255),
+    ] {
+        let mut queues = row(1, &[(1_000, 5_000), (1_000, 5_000)]);
+        for queue in &mut queues {
+            queue.best_effort_frame = field;
+        }
+        let mut registry = Registry::over(queues);
+        registry.put_in(&flow(7, 1, 1));
+        let new = Flow {
+            frame: below,
+            ..flow(8, 1, 2)
+        };
+        assert_eq!(bounds(&registry.judge(&new), 1, 1).0, delay);
+    }
 }
 
 fn bursts(slips: Slips) -> Vec<u128> {

@@ -4,7 +4,7 @@
 //! sums and Y together stay below 2^40; a rate sum that passed 21 is at most 10,000,000. Then
 //! 8000 × (Y + burst sum) and rate sum × Y are below 2^64.
 
-use super::{Queue, Slot, Table, LEVELS, QUEUES};
+use super::{Link, Queue, Slot, Table, LEVELS, QUEUES};
 use crate::answer::Answer;
 
 /// Rate sum, burst sum and largest frame of a queue; all 0 where it carries no flow.
@@ -51,15 +51,16 @@ fn bursts<'a>(
 /// 21, 22 or 23 at a link with these figures, and the level named.
 #[inline]
 fn check_link(
-    speed: u32,
+    link: &Link,
     queues: &[Queue],
     levels: &[Aggregate; LEVELS],
 ) -> Result<(), (u32, u32)> {
-    let mut residual = 1000 * u64::from(speed);
+    let mut residual = 1000 * u64::from(link.speed);
     if residual <= levels.iter().map(|level| level.rate).sum() {
         return Err((21, 0));
     }
-    let mut below = [0; LEVELS];
+    // A best-effort frame is below every level, the last one too.
+    let mut below = [u64::from(link.best_effort_frame); LEVELS];
     for p in (1..LEVELS).rev() {
         below[p - 1] = below[p].max(levels[p].frame);
     }
@@ -97,7 +98,7 @@ pub fn check_links(
         let mut levels = links[link];
         levels[level] = levels[level].with_flow(flow, burst);
         let queues = &table.queues[LEVELS * link..LEVELS * (link + 1)];
-        match check_link(table.links[link].speed, queues, &levels) {
+        match check_link(&table.links[link], queues, &levels) {
             Ok(()) => {}
             Err((code, level)) => return Err(Answer::at(code, link as u32 + 1, level)),
         }
@@ -160,5 +161,5 @@ pub fn links_meet(table: &Table, sums: &[Aggregate; QUEUES]) -> bool {
         .iter()
         .zip(table.queues.chunks_exact(LEVELS))
         .zip(levels)
-        .all(|((link, queues), levels)| check_link(link.speed, queues, levels).is_ok())
+        .all(|((link, queues), levels)| check_link(link, queues, levels).is_ok())
 }

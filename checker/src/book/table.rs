@@ -5,10 +5,11 @@ use super::orders::Hop;
 use super::{LEVELS, LINKS, QUEUES};
 use crate::answer::Answer;
 
-/// The columns of a line; a short one means a fixed delay of 0.
-const SHORT_LINE: usize = 36;
-const LONG_LINE: usize = 43;
-const MOST_TABLE_BYTES: usize = QUEUES * (LONG_LINE + 1);
+/// The columns of a line by its last field; a field past its end is 0.
+const BUFFER_LINE: usize = 36;
+const DELAY_LINE: usize = 43;
+const BEST_EFFORT_LINE: usize = 48;
+const MOST_TABLE_BYTES: usize = QUEUES * (BEST_EFFORT_LINE + 1);
 
 #[derive(Clone, Copy, PartialEq)]
 pub struct Link {
@@ -18,6 +19,8 @@ pub struct Link {
     pub levels: u32,
     /// µs.
     pub fixed_delay: u32,
+    /// Bytes; 0 where none is sent.
+    pub best_effort_frame: u32,
 }
 
 #[derive(Clone, Copy)]
@@ -42,9 +45,10 @@ struct Row {
 }
 
 fn read_row(line: &[u8]) -> Option<Row> {
-    let fixed_delay = match line.len() {
-        SHORT_LINE => 0,
-        LONG_LINE => field::<37, 43>(line)?,
+    let (fixed_delay, best_effort_frame) = match line.len() {
+        BUFFER_LINE => (0, 0),
+        DELAY_LINE => (field::<37, 43>(line)?, 0),
+        BEST_EFFORT_LINE => (field::<37, 43>(line)?, field::<44, 48>(line)?),
         _ => return None,
     };
     Some(Row {
@@ -55,6 +59,7 @@ fn read_row(line: &[u8]) -> Option<Row> {
             speed: field::<13, 18>(line)?,
             levels: field::<19, 20>(line)?,
             fixed_delay,
+            best_effort_frame,
         },
         queue: Queue {
             threshold: field::<21, 27>(line)?,
@@ -70,6 +75,7 @@ impl Link {
             && (1..=9_999).contains(&self.to)
             && (1..=10_000).contains(&self.speed)
             && self.fixed_delay <= 10_000
+            && (self.best_effort_frame == 0 || (84..=1_542).contains(&self.best_effort_frame))
     }
 }
 
@@ -89,6 +95,7 @@ impl Table {
             speed: 0,
             levels: 0,
             fixed_delay: 0,
+            best_effort_frame: 0,
         }; LINKS],
         queues: [Queue {
             threshold: 0,

@@ -7,9 +7,9 @@ use crate::versions::versions;
 use direct::Counts;
 use halls::rng::Rng;
 use halls::{input, Input, KINDS};
-use plain::causes::{DEADLINE, DONE};
+use plain::causes::{BACKLOG, DEADLINE, DELAY, DONE};
 use plain::columns::lines;
-use plain::orders::{read_order, Order};
+use plain::orders::{read_order, Flow, Order};
 use plain::registry::{path_thresholds, Registry};
 use std::collections::BTreeMap;
 use std::fmt::Display;
@@ -32,6 +32,8 @@ pub struct Report {
     pub released: u64,
     /// Registrations answered 20 whose thresholds alone meet the deadline.
     pub by_fixed_delay: u64,
+    /// Registrations answered 22 or 23 that would be admitted on links without best-effort frames.
+    pub by_best_effort: u64,
 }
 
 impl Report {
@@ -56,6 +58,9 @@ impl Report {
         if self.by_fixed_delay == 0 {
             missing.push("20 by a fixed delay");
         }
+        if self.by_best_effort == 0 {
+            missing.push("22 or 23 by a best-effort frame");
+        }
         missing
     }
 
@@ -69,6 +74,7 @@ impl Report {
         print_counts("inputs", &self.kinds);
         println!("releases done: {}", self.released);
         println!("20 by a fixed delay: {}", self.by_fixed_delay);
+        println!("22 or 23 by a best-effort frame: {}", self.by_best_effort);
         print_counts("refused batches", &self.refused);
         print_counts("answer lines", &self.answers);
         print_counts("direct calls", &self.calls);
@@ -93,6 +99,7 @@ pub fn run(seed: u64, count: u64, long: bool) -> Result<Report, String> {
         kinds: BTreeMap::new(),
         released: 0,
         by_fixed_delay: 0,
+        by_best_effort: 0,
     };
     for index in 0..count {
         let mut rng = Rng::new(seed, index);
@@ -139,22 +146,38 @@ fn one_batch(given: &Input, report: &mut Report) -> Result<(), String> {
     count_answers(given, &expected, report)
 }
 
-/// Counts the answers of a batch that was done.
+/// Counts the answers of a batch that was done. The registry follows them without judging again.
 fn count_answers(given: &Input, answers: &[u8], report: &mut Report) -> Result<(), String> {
-    let (registry, _) = Registry::open(&given.table);
+    let (mut registry, _) = Registry::open(&given.table);
     for (answer, line) in answers.chunks_exact(20).zip(lines(&given.orders)) {
         let Some(found) = plain::columns::field(answer, 7, 9) else {
             return Err("plain: an answer without a code".to_string());
         };
         *report.answers.entry(found).or_default() += 1;
-        match read_order(&line) {
-            Ok(Order::Release(_)) => report.released += u64::from(found == DONE),
-            Ok(Order::Register(flow)) if found == DEADLINE => {
+        match (read_order(&line), found) {
+            (Ok(Order::Release(number)), DONE) => {
+                report.released += 1;
+                registry.take_out(number);
+            }
+            (Ok(Order::Register(flow)), DONE) => registry.put_in(&flow),
+            (Ok(Order::Register(flow)), DEADLINE) => {
                 let thresholds = path_thresholds(&registry.queues, &flow.hops);
                 report.by_fixed_delay += u64::from(thresholds <= u128::from(flow.deadline));
+            }
+            (Ok(Order::Register(flow)), DELAY | BACKLOG) => {
+                report.by_best_effort += u64::from(admitted_alone(&registry, &flow));
             }
             _ => {}
         }
     }
     Ok(())
+}
+
+/// Whether a flow would be admitted on links without best-effort frames.
+fn admitted_alone(registry: &Registry, flow: &Flow) -> bool {
+    let mut alone = registry.clone();
+    for queue in &mut alone.queues {
+        queue.best_effort_frame = 0;
+    }
+    alone.judge(flow).refused.is_none()
 }

@@ -1,7 +1,7 @@
 //! Code 42: whether any registry at all is in order. Nothing in it is trusted: an index is tested
 //! before use and sums are made in wide numbers.
 
-use super::read::{flow_in_range, limits_in_range, link_in_range};
+use super::read::{ends_in_range, extras_in_range, flow_in_range, limits_in_range};
 use super::{burst_at_hop, Registry, HOPS, HOP_POOL, LEVELS, LINKS, SLOTS, WORDS};
 
 /// What the held flows make of the queues. Rates of 256 flows in range fit 32 bits.
@@ -59,7 +59,8 @@ impl Registry {
         for link in 0..self.links as usize {
             let (from, to, speed) = (self.from[link], self.to[link], self.speed[link]);
             let levels = self.levels[link];
-            right &= link_in_range(from, to, speed, self.fixed_delay[link]) & (from != to);
+            right &= ends_in_range(from, to, speed) & (from != to);
+            right &= extras_in_range(self.fixed_delay[link], self.best_effort_frame[link]);
             right &= levels.wrapping_sub(1) < LEVELS as u32;
             for level in 0..LEVELS {
                 let (threshold, buffer) = (self.threshold[link][level], self.buffer[link][level]);

@@ -36,7 +36,8 @@ impl Registry {
         if rates.iter().sum::<u32>() >= speed {
             return (21, 0);
         }
-        let mut below = [0u32; LEVELS];
+        // A best-effort frame is below every level, the last one too.
+        let mut below = [self.best_effort_frame[link]; LEVELS];
         for p in (0..LEVELS - 1).rev() {
             below[p] = below[p + 1].max(frames[p + 1]);
         }

@@ -58,6 +58,7 @@ pub struct Registry {
     pub to: [u32; LINKS],
     pub speed: [u32; LINKS],
     pub fixed_delay: [u32; LINKS],
+    pub best_effort_frame: [u32; LINKS],
     pub threshold: Column,
     pub buffer: Column,
     /// The figures: rate sum, burst sum, largest frame.
@@ -89,6 +90,7 @@ impl Calls for Registry {
         to: [0; LINKS],
         speed: [0; LINKS],
         fixed_delay: [0; LINKS],
+        best_effort_frame: [0; LINKS],
         threshold: [[0; LEVELS]; LINKS],
         buffer: [[0; LEVELS]; LINKS],
         rate: [[0; LEVELS]; LINKS],

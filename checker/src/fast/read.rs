@@ -53,10 +53,11 @@ pub fn line_ends(text: &[u8]) -> usize {
     found
 }
 
-/// Where the LF of a line stands that has no fixed delay, and of one that has.
-const SHORT_END: usize = 36;
-const LONG_END: usize = 43;
-const MOST_TABLE_BYTES: usize = LINKS * LEVELS * (LONG_END + 1);
+/// Where the LF of a line stands that ends with its buffer, its fixed delay, its best-effort frame.
+const BUFFER_END: usize = 36;
+const DELAY_END: usize = 43;
+const BEST_EFFORT_END: usize = 48;
+const MOST_TABLE_BYTES: usize = LINKS * LEVELS * (BEST_EFFORT_END + 1);
 
 /// Reads the table into a registry without queues; code and line of the first fault, or 0 and 0.
 pub fn table(registry: &mut Registry, text: &[u8]) -> (u32, u32) {
@@ -89,16 +90,19 @@ struct Row {
     threshold: u32,
     buffer: u32,
     fixed_delay: u32,
+    best_effort_frame: u32,
 }
 
 impl Row {
     /// The first line of a text and its length with LF; none where it is malformed.
     fn first(text: &[u8]) -> Option<(Row, usize)> {
         let ends = |at: usize| text.get(at) == Some(&b'\n');
-        let (fixed_delay, end) = if ends(SHORT_END) {
-            (0, SHORT_END)
-        } else if ends(LONG_END) {
-            (field::<7>(text, 36), LONG_END)
+        let (fixed_delay, best_effort_frame, end) = if ends(BUFFER_END) {
+            (0, 0, BUFFER_END)
+        } else if ends(DELAY_END) {
+            (field::<7>(text, 36), 0, DELAY_END)
+        } else if ends(BEST_EFFORT_END) {
+            (field::<7>(text, 36), field::<5>(text, 43), BEST_EFFORT_END)
         } else {
             return None;
         };
@@ -111,17 +115,20 @@ impl Row {
             threshold: field::<7>(text, 20),
             buffer: field::<9>(text, 27),
             fixed_delay,
+            best_effort_frame,
         };
         // Only MALFORMED has the highest bit.
         let of_link = row.link | row.from | row.to | row.speed | row.fixed_delay;
-        let together = of_link | row.level | row.threshold | row.buffer;
+        let of_queue = row.level | row.threshold | row.buffer;
+        let together = of_link | row.best_effort_frame | of_queue;
         (together >> 31 == 0).then_some((row, end + 1))
     }
 
     /// Adds the line to the table, or says which of 2 to 4 is against it.
     fn add(self, registry: &mut Registry) -> u32 {
         let (link, level) = (self.link, self.level);
-        if !link_in_range(self.from, self.to, self.speed, self.fixed_delay)
+        if !ends_in_range(self.from, self.to, self.speed)
+            || !extras_in_range(self.fixed_delay, self.best_effort_frame)
             || !limits_in_range(self.threshold, self.buffer)
         {
             return 2;
@@ -141,11 +148,13 @@ impl Row {
             registry.to[at] = self.to;
             registry.speed[at] = self.speed;
             registry.fixed_delay[at] = self.fixed_delay;
+            registry.best_effort_frame[at] = self.best_effort_frame;
         }
         let differs = (registry.from[at] ^ self.from)
             | (registry.to[at] ^ self.to)
             | (registry.speed[at] ^ self.speed)
-            | (registry.fixed_delay[at] ^ self.fixed_delay);
+            | (registry.fixed_delay[at] ^ self.fixed_delay)
+            | (registry.best_effort_frame[at] ^ self.best_effort_frame);
         if self.from == self.to || differs != 0 {
             return 4;
         }
@@ -157,13 +166,17 @@ impl Row {
     }
 }
 
-/// Code 2's ranges of a link.
+/// Code 2's ranges of a link's ends and speed.
 #[inline(always)]
-pub fn link_in_range(from: u32, to: u32, speed: u32, fixed_delay: u32) -> bool {
-    (from.wrapping_sub(1) < 9_999)
-        & (to.wrapping_sub(1) < 9_999)
-        & (speed.wrapping_sub(1) < 10_000)
-        & (fixed_delay <= 10_000)
+pub fn ends_in_range(from: u32, to: u32, speed: u32) -> bool {
+    (from.wrapping_sub(1) < 9_999) & (to.wrapping_sub(1) < 9_999) & (speed.wrapping_sub(1) < 10_000)
+}
+
+/// Code 2's ranges of a link's numbers that a short line leaves out.
+#[inline(always)]
+pub fn extras_in_range(fixed_delay: u32, best_effort_frame: u32) -> bool {
+    (fixed_delay <= 10_000)
+        & ((best_effort_frame == 0) | (best_effort_frame.wrapping_sub(84) <= 1_542 - 84))
 }
 
 /// Code 2's ranges of a level.

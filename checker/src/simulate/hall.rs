@@ -1,19 +1,39 @@
 //! A hall whose limits are the bounds of its flows, and one run of it.
 
+use super::laptops::Site;
+use super::trial::Trial;
 use crate::sim::{Arrivals, Fault, Network, Observer, Seen};
 use halls::orders::{flow, Demand};
 use halls::rng::Rng;
-use halls::sources::{conforms, sends, Pace, Pattern, Send, Sizes};
-use halls::tables::{fixed_delays, least_deadline, loose, table_text, tighten};
-use halls::tables::{tighten_deadlines, Shape};
+use halls::sources::{conforms, sends, Send};
+use halls::tables::{least_deadline, link_fields, loose, table_text, tighten_by};
+use halls::tables::{tighten_deadlines, Counted, Shape};
 use plain::orders::{write_registration, Flow, Hop};
 use plain::registry::Registry;
 use plain::table::Queue;
+use std::fmt;
 
 /// A table and flows that the reference model admits on it.
 pub struct Hall {
     pub queues: Vec<Queue>,
     pub flows: Vec<Flow>,
+}
+
+/// Why a search ended.
+pub enum Failure {
+    /// A frame late in a queue, or a buffer exceeded; and where.
+    Limit { fault: Fault, place: String },
+    /// A frame late on its whole way, or a hall or source that isn't what it should be.
+    Other(String),
+}
+
+impl fmt::Display for Failure {
+    fn fmt(&self, out: &mut fmt::Formatter) -> fmt::Result {
+        match self {
+            Failure::Limit { fault, place } => write!(out, "{place}: {fault:?}"),
+            Failure::Other(what) => write!(out, "{what}"),
+        }
+    }
 }
 
 const DEMAND: Demand = Demand {
@@ -26,11 +46,20 @@ const DEMAND: Demand = Demand {
 };
 /// No run goes on longer after the last first frame, µs.
 const MOST_SPAN: u64 = 20_000;
+/// Slots to a bit: a best-effort frame may start between two bits.
+const GRAINS: [u64; 4] = [1, 2, 3, 64];
 
 impl Hall {
     /// Flows admitted on a loose table, which is then tightened; none if no flow was admitted or a
     /// queue is too slow to be run in short.
-    pub fn random(rng: &mut Rng) -> Result<Option<Hall>, String> {
+    pub fn random(rng: &mut Rng) -> Result<Option<Hall>, Failure> {
+        let hall = Hall::by(rng, |queue, _| queue.of_link());
+        hall.admitted().map_err(Failure::Other)?;
+        Ok(Some(hall).filter(Hall::is_short))
+    }
+
+    /// The same with bounds that count this of a link, right or wrong.
+    pub fn by(rng: &mut Rng, counted: Counted) -> Hall {
         let shape = rng.pick(&[Shape::Mesh, Shape::Chain, Shape::FanIn, Shape::FanIn]);
         let links = rng.between(2, 6);
         let speeds = rng.pick(&[
@@ -45,39 +74,47 @@ impl Hall {
         ]);
         let levels = rng.between(1, 4);
         let mut queues = loose(rng, shape, links, levels, speeds);
-        fixed_delays(rng, &mut queues);
+        link_fields(rng, &mut queues);
         let mut loosely = Registry::over(queues.clone());
         for _ in 0..rng.between(1, 24) {
             loosely.register(&write_registration(&flow(rng, &queues, DEMAND)));
         }
         let mut flows: Vec<Flow> = loosely.held().into_iter().cloned().collect();
-        tighten(&mut queues, &flows.iter().collect::<Vec<_>>());
+        tighten_by(&mut queues, &flows.iter().collect::<Vec<_>>(), counted);
         tighten_deadlines(&queues, &mut flows);
         rng.shuffle(&mut flows);
-        let (mut tight, refused) = Registry::open(&table_text(&queues));
+        Hall { queues, flows }
+    }
+
+    /// The reference model reads the table and admits the flows, in their order.
+    fn admitted(&self) -> Result<(), String> {
+        let (mut tight, refused) = Registry::open(&table_text(&self.queues));
         if refused.is_some() {
             return Err("a tightened table is refused".to_string());
         }
-        for new in &flows {
+        for new in &self.flows {
             let answer = tight.register(&write_registration(new));
             if answer.code != 0 {
-                return Err(format!(
-                    "flow {} on the tight table: {answer:?}",
-                    new.number
-                ));
+                let number = new.number;
+                return Err(format!("flow {number} on the tight table: {answer:?}"));
             }
         }
-        let hall = Hall { queues, flows };
-        Ok((!hall.flows.is_empty() && hall.span() <= MOST_SPAN).then_some(hall))
+        Ok(())
+    }
+
+    /// Whether it has flows and can be run in short.
+    pub fn is_short(&self) -> bool {
+        !self.flows.is_empty() && self.span() <= MOST_SPAN
     }
 
     /// The longest sum of thresholds and fixed delays along a path.
     pub fn span(&self) -> u64 {
-        self.flows
-            .iter()
-            .map(|flow| flow.deadline)
-            .max()
-            .unwrap_or(0)
+        let deadlines = self.flows.iter().map(|flow| flow.deadline);
+        deadlines.max().unwrap_or(0)
+    }
+
+    pub fn links(&self) -> usize {
+        self.queues.last().map_or(0, |queue| queue.link as usize)
     }
 
     pub fn carries(&self, queue: usize) -> bool {
@@ -94,96 +131,69 @@ impl Hall {
     }
 
     fn hop_at(&self, queue: usize) -> Hop {
-        Hop {
-            link: self.queues[queue].link,
-            level: self.queues[queue].level,
-        }
+        self.queues[queue].hop()
     }
 
-    /// One run of these sources.
-    pub fn run(&self, patterns: &[Pattern], seed: u64) -> Result<Traffic, String> {
+    /// One run of these sources and laptops.
+    pub fn run(&self, trial: &Trial, seed: u64) -> Result<Traffic, Failure> {
         let mut rng = Rng::new(seed, 0);
-        let latest = patterns
-            .iter()
-            .map(|pattern| pattern.start)
-            .max()
-            .unwrap_or(0);
-        let until = latest + 2 * self.span();
-        let mut all: Vec<Send> = Vec::new();
-        for (index, flow) in self.flows.iter().enumerate() {
-            let list = sends(&mut rng, index, flow, patterns[index], until);
-            if !conforms(flow, &list) {
-                return Err(format!(
-                    "the source of flow {} doesn't conform",
-                    flow.number
-                ));
-            }
-            all.extend(list);
-        }
-        all.sort_by_key(|send| send.instant);
+        let all = self.sends(trial, &mut rng)?;
         let arrivals = rng.pick(&[
             Arrivals::SourcesFirst,
             Arrivals::SourcesLast,
             Arrivals::Shuffled,
         ]);
-        let network = Network::new(&self.queues, &self.flows);
+        let network = Network::with_grain(&self.queues, &self.flows, rng.pick(&GRAINS));
+        let mut site = Site::new(&trial.laptops, Rng::new(seed, 1));
         let mut longest = Journeys(vec![0; self.flows.len()]);
-        match network.run_before(&all, arrivals, &mut rng, &mut longest) {
-            Ok(queues) => self.in_time(Traffic {
-                queues,
-                journeys: longest.0,
-                frames: all.len(),
-            }),
-            Err(Fault::Late { queue, instant }) => Err(self.fault("late", queue, instant)),
-            Err(Fault::Over { queue, instant }) => Err(self.fault("over", queue, instant)),
+        let ran = network.run_beside(&all, arrivals, &mut rng, &mut site, &mut longest);
+        let queues = ran.map_err(|fault| self.limit(fault))?;
+        self.in_time(Traffic {
+            queues,
+            journeys: longest.0,
+            frames: all.len(),
+            best_effort: site.started,
+            just_before: site.just_before,
+        })
+    }
+
+    /// What the sources send, by instant.
+    fn sends(&self, trial: &Trial, rng: &mut Rng) -> Result<Vec<Send>, Failure> {
+        let starts = trial.patterns.iter().map(|pattern| pattern.start);
+        let until = starts.max().unwrap_or(0) + 2 * self.span();
+        let mut all: Vec<Send> = Vec::new();
+        for (index, flow) in self.flows.iter().enumerate() {
+            let list = sends(rng, index, flow, trial.patterns[index], until);
+            if !conforms(flow, &list) {
+                let number = flow.number;
+                let what = format!("the source of flow {number} doesn't conform");
+                return Err(Failure::Other(what));
+            }
+            all.extend(list);
         }
+        all.sort_by_key(|send| send.instant);
+        Ok(all)
     }
 
     /// Every frame's way was at most its thresholds and fixed delays, and these its deadline.
-    fn in_time(&self, seen: Traffic) -> Result<Traffic, String> {
+    fn in_time(&self, seen: Traffic) -> Result<Traffic, Failure> {
         for (flow, &longest) in self.flows.iter().zip(&seen.journeys) {
             let limit = least_deadline(&self.queues, &flow.hops);
             if longest > limit || limit > flow.deadline {
-                return Err(format!(
+                return Err(Failure::Other(format!(
                     "flow {} is {longest} µs on its way, {limit} by its limits, {} by its deadline",
                     flow.number, flow.deadline
-                ));
+                )));
             }
         }
         Ok(seen)
     }
 
-    fn fault(&self, what: &str, queue: usize, instant: u64) -> String {
+    fn limit(&self, fault: Fault) -> Failure {
+        let (Fault::Late { queue, .. } | Fault::Over { queue, .. }) = fault;
         let Queue { link, level, .. } = self.queues[queue];
-        format!("link {link} level {level} is {what} at instant {instant}")
-    }
-
-    /// Sources that meet at one queue: lower levels a µs before, so that a frame is under way.
-    pub fn aligned(&self, rng: &mut Rng, target: &Queue) -> Vec<Pattern> {
-        let base = self.span();
-        self.flows
-            .iter()
-            .map(|flow| {
-                let mut travel = 0;
-                for hop in flow.hops.iter().take_while(|hop| hop.link != target.link) {
-                    let of_link = self.queues.iter().find(|queue| queue.link == hop.link);
-                    travel += of_link.map_or(0, |queue| {
-                        (8 * flow.frame).div_ceil(queue.speed) + queue.fixed_delay
-                    });
-                }
-                let below = flow
-                    .hops
-                    .iter()
-                    .any(|hop| hop.link == target.link && hop.level > target.level);
-                let start = (base + 1 - u64::from(below)).saturating_sub(travel);
-                let sizes = rng.pick(&[Sizes::Largest, Sizes::Largest, Sizes::Random]);
-                Pattern {
-                    start,
-                    sizes,
-                    pace: Pace::Greedy,
-                }
-            })
-            .collect()
+        let place = format!("link {link} level {level}");
+        Failure::Limit { fault, place }
     }
 }
 
@@ -193,6 +203,9 @@ pub struct Traffic {
     /// Each flow's longest way, from its source to its destination, µs.
     pub journeys: Vec<u64>,
     pub frames: usize,
+    /// Best-effort frames, and those that started a slot before frames reached their link.
+    pub best_effort: u64,
+    pub just_before: u64,
 }
 
 /// The longest way of each flow so far.

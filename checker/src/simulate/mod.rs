@@ -1,14 +1,19 @@
 //! Sets traffic on admitted flows over tables whose thresholds and buffers are the bounds, and
-//! looks for the longest stay and the greatest backlog by changing one source after the other.
+//! looks for the longest stay and the greatest backlog by changing one source or laptop after the other.
 
 mod hall;
+mod laptops;
+mod trial;
 
-use crate::sim::Seen;
-pub use hall::{Hall, Traffic};
+use crate::sim::{Fault, Seen};
+pub use hall::{Failure, Hall, Traffic};
 use halls::rng::Rng;
-use halls::sources::Pattern;
+use halls::tables::Counted;
+pub use laptops::{Laptop, Site};
+use plain::formula::Link;
 use plain::registry::path_fixed_delays;
 use plain::table::Queue;
+pub use trial::Trial;
 
 /// The worst of a measure against its limit.
 #[derive(Clone, Default)]
@@ -45,11 +50,17 @@ pub struct Report {
     pub halls: u64,
     pub runs: u64,
     pub frames: u64,
+    /// Best-effort frames, and those that started a slot before frames reached their link.
+    pub best_effort: u64,
+    pub just_before: u64,
     pub stay: Worst,
     pub backlog: Worst,
     /// The same for queues that every flow reaches after an earlier hop.
     pub later_stay: Worst,
     pub later_backlog: Worst,
+    /// The same for queues of links with a best-effort frame.
+    pub beside_stay: Worst,
+    pub beside_backlog: Worst,
     /// Of the ways that have a fixed delay, what they took beside it, against their thresholds.
     pub journey: Worst,
 }
@@ -60,11 +71,19 @@ impl Report {
             "halls: {}, runs: {}, frames: {}",
             self.halls, self.runs, self.frames
         );
+        println!(
+            "best-effort frames: {}, a slot before an arrival: {}",
+            self.best_effort, self.just_before
+        );
         self.stay.print("longest stay against threshold");
         self.backlog.print("greatest backlog against buffer");
         self.later_stay.print("longest stay fed by links alone");
         self.later_backlog
             .print("greatest backlog fed by links alone");
+        self.beside_stay
+            .print("longest stay beside best-effort frames");
+        self.beside_backlog
+            .print("greatest backlog beside best-effort frames");
         self.journey
             .print("longest way less its fixed delays against thresholds");
     }
@@ -72,6 +91,8 @@ impl Report {
     fn add(&mut self, hall: &Hall, index: u64, seen: &Traffic) {
         self.runs += 1;
         self.frames += seen.frames as u64;
+        self.best_effort += seen.best_effort;
+        self.just_before += seen.just_before;
         self.add_queues(hall, index, &seen.queues);
         for (flow, &longest) in hall.flows.iter().zip(&seen.journeys) {
             let fixed = path_fixed_delays(&hall.queues, &flow.hops) as u64;
@@ -85,28 +106,21 @@ impl Report {
     }
 
     fn add_queues(&mut self, hall: &Hall, index: u64, seen: &[Seen]) {
-        for (queue, most) in seen.iter().enumerate() {
-            if !hall.carries(queue) {
-                continue;
-            }
-            let Queue {
-                link,
-                level,
-                threshold,
-                buffer,
-                ..
-            } = hall.queues[queue];
-            let place = || format!("hall {index} link {link} level {level}");
-            let stay_tells = threshold >= TELLING_THRESHOLD;
-            self.backlog.meet(most.backlog, buffer, place);
-            if stay_tells {
-                self.stay.meet(most.stay, threshold, place);
-            }
-            if hall.fed_by_links(queue) {
-                self.later_backlog.meet(most.backlog, buffer, place);
-                if stay_tells {
-                    self.later_stay.meet(most.stay, threshold, place);
+        for (at, most) in seen.iter().enumerate().filter(|&(at, _)| hall.carries(at)) {
+            let queue = &hall.queues[at];
+            let place = || format!("hall {index} link {} level {}", queue.link, queue.level);
+            let met = |stay: &mut Worst, backlog: &mut Worst| {
+                backlog.meet(most.backlog, queue.buffer, place);
+                if queue.threshold >= TELLING_THRESHOLD {
+                    stay.meet(most.stay, queue.threshold, place);
                 }
+            };
+            met(&mut self.stay, &mut self.backlog);
+            if hall.fed_by_links(at) {
+                met(&mut self.later_stay, &mut self.later_backlog);
+            }
+            if queue.best_effort_frame > 0 {
+                met(&mut self.beside_stay, &mut self.beside_backlog);
             }
         }
     }
@@ -115,7 +129,7 @@ impl Report {
 /// Below this many µs, rounding makes a stay as long as its threshold nothing special.
 const TELLING_THRESHOLD: u64 = 100;
 
-/// Tries so many changes of one source for the longest stay, or the greatest backlog, at a queue.
+/// Tries so many changes of one source or laptop for the longest stay, or the greatest backlog, at a queue.
 const CLIMB: usize = 30;
 
 /// So many halls; a frame late, in a queue or on its whole way, or a buffer exceeded ends the run.
@@ -123,51 +137,97 @@ pub fn run(seed: u64, count: u64) -> Result<Report, String> {
     let mut report = Report::default();
     for index in 0..count {
         let mut rng = Rng::new(seed, index);
-        if let Some(hall) =
-            Hall::random(&mut rng).map_err(|what| format!("hall {index}: {what}"))?
-        {
+        let told = |failure: Failure| format!("seed {seed} hall {index}: {failure}");
+        if let Some(hall) = Hall::random(&mut rng).map_err(told)? {
             report.halls += 1;
-            climb(&mut rng, &hall, index, &mut report)
-                .map_err(|what| format!("seed {seed} hall {index}: {what}"))?;
+            climb(
+                &mut rng,
+                &hall,
+                |trial| trial,
+                |seen| report.add(&hall, index, seen),
+            )
+            .map_err(told)?;
         }
     }
     Ok(report)
 }
 
-fn climb(rng: &mut Rng, hall: &Hall, index: u64, report: &mut Report) -> Result<(), String> {
+/// What a search shows of halls whose bounds are worked out wrong.
+#[derive(Debug, Default)]
+pub struct Caught {
+    pub halls: u64,
+    /// Halls with a frame late, and with a buffer exceeded.
+    pub late: u64,
+    pub over: u64,
+}
+
+/// The mistake of leaving the best-effort frame out of Y.
+pub fn left_out(queue: &Queue, _next: Option<&Queue>) -> Link {
+    Link {
+        best_effort_frame: 0,
+        ..queue.of_link()
+    }
+}
+
+/// The same search over halls whose bounds count this of a link: it must find what is missing. `sent` may take something
+/// out of what is sent.
+pub fn run_mistaken(
+    seed: u64,
+    count: u64,
+    counted: Counted,
+    sent: impl Fn(Trial) -> Trial,
+) -> Result<Caught, String> {
+    let mut caught = Caught::default();
+    for index in 0..count {
+        let mut rng = Rng::new(seed, index);
+        let hall = Hall::by(&mut rng, counted);
+        if !hall.is_short() {
+            continue;
+        }
+        caught.halls += 1;
+        match climb(&mut rng, &hall, &sent, |_| ()) {
+            Ok(()) => {}
+            Err(Failure::Limit { fault, .. }) => match fault {
+                Fault::Late { .. } => caught.late += 1,
+                Fault::Over { .. } => caught.over += 1,
+            },
+            Err(other) => return Err(format!("seed {seed} hall {index}: {other}")),
+        }
+    }
+    Ok(caught)
+}
+
+fn climb(
+    rng: &mut Rng,
+    hall: &Hall,
+    sent: impl Fn(Trial) -> Trial,
+    mut showed: impl FnMut(&Traffic),
+) -> Result<(), Failure> {
     let loaded: Vec<usize> = (0..hall.queues.len())
         .filter(|&queue| hall.carries(queue))
         .collect();
     let target = rng.pick(&loaded);
     let by_stay = !rng.once_in(3);
-    let span = hall.span();
-    let mut patterns = if rng.once_in(2) {
-        hall.aligned(rng, &hall.queues[target])
+    let mut best_trial = if rng.once_in(2) {
+        Trial::aligned(rng, hall, &hall.queues[target])
     } else {
-        hall.flows
-            .iter()
-            .map(|_| Pattern::random(rng, span))
-            .collect()
+        Trial::random(rng, hall)
     };
     let mut best = 0;
     for _ in 0..CLIMB {
-        let mut tried = patterns.clone();
-        let changed = rng.index(tried.len());
-        if best > 0 {
-            let shift = rng.between(0, 20);
-            if rng.once_in(2) {
-                tried[changed].start = (tried[changed].start + shift).saturating_sub(10);
-            } else {
-                tried[changed] = Pattern::random(rng, span);
-            }
-        }
-        let seen = hall.run(&tried, rng.draw())?;
-        report.add(hall, index, &seen);
+        let trial = if best > 0 {
+            best_trial.changed(rng, hall)
+        } else {
+            best_trial.clone()
+        };
+        let trial = sent(trial);
+        let seen = hall.run(&trial, rng.draw())?;
+        showed(&seen);
         let Seen { stay, backlog } = seen.queues[target];
         let reached = if by_stay { stay } else { backlog };
         if reached >= best {
             best = reached;
-            patterns = tried;
+            best_trial = trial;
         }
     }
     Ok(())

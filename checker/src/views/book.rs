@@ -1,6 +1,6 @@
 //! The proved registry's book in plain Rust, as the runs see and damage it.
 
-use super::{near, Version, View};
+use super::{near, near_frame, Version, View};
 use crate::book::{Registry, LEVELS, POOL, SLOTS};
 use crate::versions::BOOK;
 use halls::rng::Rng;
@@ -57,6 +57,7 @@ fn queues(registry: &Registry) -> (Vec<Queue>, Vec<Aggregate>) {
                 threshold: u64::from(queue.threshold),
                 buffer: u64::from(queue.buffer),
                 fixed_delay: u64::from(link.fixed_delay),
+                best_effort_frame: u64::from(link.best_effort_frame),
             });
             stored.push(Aggregate {
                 rate: u128::from(sums.rate),
@@ -127,7 +128,7 @@ fn damage_link(rng: &mut Rng, registry: &mut Registry) {
     let link = &mut registry.table.links[index];
     let at = LEVELS * index + rng.index(link.levels as usize);
     let sums = &mut registry.sums[at];
-    let value = match rng.between(0, 9) {
+    let value = match rng.between(0, 10) {
         0 => &mut link.from,
         1 => &mut link.to,
         2 => &mut link.speed,
@@ -138,10 +139,14 @@ fn damage_link(rng: &mut Rng, registry: &mut Registry) {
         4 => &mut registry.table.queues[at].threshold,
         5 => &mut registry.table.queues[at].buffer,
         6 => &mut link.fixed_delay,
+        7 => {
+            link.best_effort_frame = near_frame(rng, link.best_effort_frame);
+            return;
+        }
         figure => {
             let value = match figure {
-                7 => &mut sums.rate,
-                8 => &mut sums.burst,
+                8 => &mut sums.rate,
+                9 => &mut sums.burst,
                 _ => &mut sums.frame,
             };
             *value = u64::from(near(rng, *value as u32));

@@ -1,6 +1,6 @@
 //! The fast registry, as the runs see and damage it.
 
-use super::{near, Version, View};
+use super::{near, near_frame, Version, View};
 use crate::fast;
 use crate::versions::FAST;
 use halls::rng::Rng;
@@ -39,6 +39,7 @@ fn view(registry: &fast::Registry) -> View {
                 threshold: u64::from(registry.threshold[link][level]),
                 buffer: u64::from(registry.buffer[link][level]),
                 fixed_delay: u64::from(registry.fixed_delay[link]),
+                best_effort_frame: u64::from(registry.best_effort_frame[link]),
             });
             stored.push(Aggregate {
                 rate: u128::from(registry.rate[link][level]),
@@ -108,7 +109,7 @@ fn damage(rng: &mut Rng, registry: &mut fast::Registry) {
     }
     let link = rng.index(registry.links as usize);
     let level = rng.index(registry.levels[link] as usize);
-    let value = match rng.between(0, 9) {
+    let value = match rng.between(0, 10) {
         0 => &mut registry.from[link],
         1 => &mut registry.to[link],
         2 => &mut registry.speed[link],
@@ -121,6 +122,11 @@ fn damage(rng: &mut Rng, registry: &mut fast::Registry) {
         6 => &mut registry.rate[link][level],
         7 => &mut registry.burst[link][level],
         8 => &mut registry.fixed_delay[link],
+        9 => {
+            let value = &mut registry.best_effort_frame[link];
+            *value = near_frame(rng, *value);
+            return;
+        }
         _ => &mut registry.frame[link][level],
     };
     *value = near(rng, *value);

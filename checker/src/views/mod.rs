@@ -6,7 +6,7 @@ mod fast;
 use crate::calls::Calls;
 use halls::rng::Rng;
 use plain::formula::Aggregate;
-use plain::orders::Flow;
+use plain::orders::{Flow, LARGEST_FRAME, SMALLEST_FRAME};
 use plain::table::Queue;
 
 /// What document 01 lets count of a registry: table, the flow or none at each slot, figures.
@@ -34,4 +34,12 @@ fn near(rng: &mut Rng, value: u32) -> u32 {
         3 => u32::MAX,
         _ => rng.draw() as u32,
     }
+}
+
+/// Another best-effort frame, in range about as often as not: the levels decide then.
+fn near_frame(rng: &mut Rng, frame: u32) -> u32 {
+    if rng.once_in(2) {
+        return near(rng, frame);
+    }
+    rng.pick(&[0, SMALLEST_FRAME, LARGEST_FRAME]) as u32
 }

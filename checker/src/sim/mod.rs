@@ -1,11 +1,17 @@
-//! Document 01's run, bit by bit: instants are whole µs, a link sends C bits between two of them,
-//! strict priority, first in first out, never idle while a frame waits, never breaking off a frame.
-//! A frame that has left a queue is on the link's cable for the link's fixed delay, and in no queue.
+//! Document 01's run: instants are whole µs, a link sends C bits between two of them, strict priority,
+//! first in first out, never idle while a frame waits, never breaking off a frame. W-201: a frame that
+//! has left a queue is on the link's cable for the link's fixed delay, and in no queue. W-202: a link
+//! that is free and on which nothing waits may send a best-effort frame, which is in no queue either.
+//! Time within a µs is counted in slots, so many to a bit.
+
+mod port;
 
 use halls::rng::Rng;
 use halls::sources::Send;
 use plain::orders::Flow;
 use plain::table::Queue;
+use port::Port;
+pub use port::{Free, Start};
 use std::collections::VecDeque;
 
 struct Frame {
@@ -27,18 +33,6 @@ impl Frame {
             reached: send.instant,
         }
     }
-}
-
-/// A link's sender; its queues have the indices from `first` on, level 1 first.
-struct Port {
-    speed: u64,
-    first: usize,
-    levels: usize,
-    /// The queue of the frame under way and its bits still to send.
-    under_way: Option<(usize, u64)>,
-    fixed_delay: u64,
-    /// The frames on the cable to a next queue, in the order in which they left.
-    cable: VecDeque<Frame>,
 }
 
 /// The most that was seen of a queue.
@@ -76,6 +70,19 @@ pub trait Observer {
 /// Nobody.
 impl Observer for () {}
 
+/// The sources of best-effort frames.
+pub trait Laptops {
+    /// What starts next in the free slots; none where the link stays idle up to the instant.
+    fn start(&mut self, free: &Free) -> Option<Start>;
+}
+
+/// None.
+impl Laptops for () {
+    fn start(&mut self, _free: &Free) -> Option<Start> {
+        None
+    }
+}
+
 pub struct Network<'a> {
     queues: &'a [Queue],
     ports: Vec<Port>,
@@ -87,19 +94,17 @@ pub struct Network<'a> {
 }
 
 impl<'a> Network<'a> {
-    /// Empty queues and cables. The flows' hops are queues of the table.
+    /// Empty queues and cables, one slot to a bit. The flows' hops are queues of the table.
     pub fn new(queues: &'a [Queue], flows: &[Flow]) -> Network<'a> {
+        Network::with_grain(queues, flows, 1)
+    }
+
+    /// The same with so many slots to a bit.
+    pub fn with_grain(queues: &'a [Queue], flows: &[Flow], grain: u64) -> Network<'a> {
         let mut ports: Vec<Port> = Vec::new();
         for (index, queue) in queues.iter().enumerate() {
             if queue.level == 1 {
-                ports.push(Port {
-                    speed: queue.speed,
-                    first: index,
-                    levels: 0,
-                    under_way: None,
-                    fixed_delay: queue.fixed_delay,
-                    cable: VecDeque::new(),
-                });
+                ports.push(Port::new(queue, index, grain));
             }
             if let Some(port) = ports.last_mut() {
                 port.levels += 1;
@@ -129,7 +134,7 @@ impl<'a> Network<'a> {
         }
     }
 
-    /// Runs until every frame has left its last queue; `sends` is sorted by instant.
+    /// Runs until every frame has left its last queue; `sends` is sorted by instant. No laptop, nobody looks on.
     pub fn run(
         self,
         sends: &[Send],
@@ -141,14 +146,26 @@ impl<'a> Network<'a> {
 
     /// The same run with somebody looking on.
     pub fn run_before(
-        mut self,
+        self,
         sends: &[Send],
         arrivals: Arrivals,
         rng: &mut Rng,
         observer: &mut impl Observer,
     ) -> Result<Vec<Seen>, Fault> {
+        self.run_beside(sends, arrivals, rng, &mut (), observer)
+    }
+
+    /// The same run beside laptops.
+    pub fn run_beside(
+        mut self,
+        sends: &[Send],
+        arrivals: Arrivals,
+        rng: &mut Rng,
+        laptops: &mut impl Laptops,
+        observer: &mut impl Observer,
+    ) -> Result<Vec<Seen>, Fault> {
         let mut unsent = sends;
-        let mut instant = sends.first().map_or(0, |send| send.instant);
+        let mut instant = 0;
         loop {
             let mut arriving = self.off_cables(instant);
             let transit = arriving.len();
@@ -166,18 +183,59 @@ impl<'a> Network<'a> {
                 self.waiting[queue].push_back(frame);
             }
             let busy = self.look(instant, observer)?;
-            if !busy {
-                match self.next_arrival(unsent) {
-                    None => return Ok(self.seen),
-                    Some(later) => instant = later,
-                }
-                continue;
-            }
-            for port in 0..self.ports.len() {
-                self.send_until(port, instant + 1, observer);
-            }
-            instant += 1;
+            // While nothing waits, nothing happens but on cables and by laptops.
+            let next = if busy {
+                Some(instant + 1)
+            } else {
+                self.next_arrival(unsent)
+            };
+            let Some(end) = next else {
+                return Ok(self.seen);
+            };
+            self.pass(instant, end, observer);
+            self.fill(end, unsent, laptops);
+            instant = end;
         }
+    }
+
+    /// Each link from one instant to another; only where nothing waits are they more than a µs apart.
+    fn pass(&mut self, instant: u64, end: u64, observer: &mut impl Observer) {
+        for port in 0..self.ports.len() {
+            self.ports[port].begin(end - instant);
+            while let Some(queue) = self.sent_queue(port) {
+                self.leave(port, queue, end, observer);
+            }
+        }
+    }
+
+    /// The queue whose frame a link has wholly sent before the next instant, if there is one.
+    fn sent_queue(&mut self, port: usize) -> Option<usize> {
+        let waiting = &self.waiting;
+        self.ports[port].send(|port| {
+            let mut queues = port.first..port.first + port.levels;
+            queues.find_map(|queue| Some((queue, waiting[queue].front()?.bytes)))
+        })
+    }
+
+    /// What links leave free goes to laptops. They are told what is to come: nothing they do can change it.
+    fn fill(&mut self, end: u64, unsent: &[Send], laptops: &mut impl Laptops) {
+        for link in 0..self.ports.len() {
+            if self.ports[link].is_open() {
+                let due = self.is_due(link, end, unsent);
+                self.ports[link].fill(link, due, laptops);
+            }
+        }
+    }
+
+    /// Whether a frame reaches a link's queues at the instant `end`, which comes next.
+    fn is_due(&self, link: usize, end: u64, unsent: &[Send]) -> bool {
+        let cables = self.ports.iter().flat_map(|port| {
+            let landing = port.cable.iter().take_while(|frame| frame.reached == end);
+            landing.map(|frame| self.routes[frame.flow][frame.hop])
+        });
+        let sent = unsent.iter().take_while(|send| send.instant == end);
+        let mut reached = cables.chain(sent.map(|send| self.routes[send.flow][0]));
+        reached.any(|queue| self.ports[link].has(queue))
     }
 
     /// The frames that reach their next queue at an instant, link by link.
@@ -220,44 +278,23 @@ impl<'a> Network<'a> {
         Ok(busy)
     }
 
-    /// One link from the instant before `end` to `end`; frames that wholly left are on its cable from `end` on.
-    fn send_until(&mut self, port: usize, end: u64, observer: &mut impl Observer) {
-        let port = &mut self.ports[port];
-        let mut left = port.speed;
-        while left > 0 {
-            let (queue, bits) = match port.under_way {
-                Some(frame) => frame,
-                None => {
-                    let mut queues = port.first..port.first + port.levels;
-                    let Some(queue) = queues.find(|&queue| !self.waiting[queue].is_empty()) else {
-                        break;
-                    };
-                    (queue, 8 * self.waiting[queue][0].bytes)
-                }
-            };
-            let sent = left.min(bits);
-            left -= sent;
-            if sent < bits {
-                port.under_way = Some((queue, bits - sent));
-                continue;
-            }
-            port.under_way = None;
-            let Some(frame) = self.waiting[queue].pop_front() else {
-                break;
-            };
-            self.backlog[queue] -= frame.bytes;
-            observer.left(queue, frame.flow, frame.reached, end);
-            self.seen[queue].stay = self.seen[queue].stay.max(end - frame.reached);
-            let reached = end + port.fixed_delay;
-            if frame.hop + 1 < self.routes[frame.flow].len() {
-                port.cable.push_back(Frame {
-                    hop: frame.hop + 1,
-                    reached,
-                    ..frame
-                });
-            } else {
-                observer.arrives(frame.flow, frame.sent, reached);
-            }
+    /// A queue's first frame has wholly left by `end` and is on the link's cable from then on.
+    fn leave(&mut self, port: usize, queue: usize, end: u64, observer: &mut impl Observer) {
+        let Some(frame) = self.waiting[queue].pop_front() else {
+            return;
+        };
+        self.backlog[queue] -= frame.bytes;
+        observer.left(queue, frame.flow, frame.reached, end);
+        self.seen[queue].stay = self.seen[queue].stay.max(end - frame.reached);
+        let reached = end + self.ports[port].fixed_delay;
+        if frame.hop + 1 < self.routes[frame.flow].len() {
+            self.ports[port].cable.push_back(Frame {
+                hop: frame.hop + 1,
+                reached,
+                ..frame
+            });
+        } else {
+            observer.arrives(frame.flow, frame.sent, reached);
         }
     }
 }
