@@ -129,17 +129,14 @@ impl<'a> Words<'a> {
     pub fn laptop_bytes(&mut self, queues: &[Queue], link: usize) -> Result<u64, Mistake> {
         let of_link = queues.iter().find(|queue| queue.link == link as u64 + 1);
         let most = of_link.map_or(0, |queue| queue.best_effort_frame);
-        let bytes = self.number("bytes", 1, u64::MAX)?;
-        if bytes <= most {
-            return Ok(bytes);
+        if self.peek().and_then(|word| word.parse().ok()) > Some(most) {
+            return self.mistake(format!(
+                "bytes: too long: the table gives link {} a best-effort frame of {}",
+                link + 1,
+                commas(most)
+            ));
         }
-        self.next -= 1;
-        self.mistake(format!(
-            "bytes: {} is too long: the table gives link {} a best-effort frame of {}",
-            commas(bytes),
-            link + 1,
-            commas(most)
-        ))
+        self.number("bytes", 1, most)
     }
 
     /// An instant in thousandths of a µs: digits, or up to three decimals behind a point.

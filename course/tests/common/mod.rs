@@ -2,6 +2,7 @@
 #![allow(dead_code)]
 
 pub mod pages;
+pub mod slow;
 pub mod tags;
 
 use checker::simulate;

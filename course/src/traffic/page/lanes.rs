@@ -10,7 +10,7 @@ use crate::traffic::figures::Seen;
 use crate::traffic::frames::Stay;
 use crate::traffic::hall::Hall;
 use crate::traffic::report::behind;
-use crate::traffic::slots::Slots;
+use crate::traffic::slots::{micros, Slots};
 use crate::traffic::trace;
 
 const ROW: f64 = 11.0;
@@ -157,26 +157,23 @@ impl Lanes<'_> {
             .map(|(name, value)| format!(" data-{name}=\"{value}\""))
             .collect();
         self.drawing.raw(&format!("<g class=\"frame\"{data}>"));
-        let sent = (
-            instant(stay.first, queue.speed),
-            instant(stay.end(), queue.speed),
-        );
+        let times = [stay.first, stay.end()];
+        let [first, end] = times.map(|time| micros(time, queue.speed));
         let laptop = behind(self.hall, stay).map_or(String::new(), |words| format!(", {words}"));
         let cable = match queue.fixed_delay {
             0 => String::new(),
             _ => format!(", on the cable to {}", commas(self.hall.reached(stay))),
         };
         self.drawing.raw(&format!(
-            "<title>flow {number} frame {}, {} bytes: came {}{laptop}, sent from {:.2} to {:.2}, stay {} of {} µs{cable}</title>",
+            "<title>flow {number} frame {}, {} bytes: came {}{laptop}, sent from {first} to {end}, stay {} of {} µs{cable}</title>",
             commas(stay.frame.number),
             commas(stay.frame.bytes),
             commas(stay.frame.came),
-            sent.0,
-            sent.1,
             commas(stay.length()),
             commas(queue.threshold)
         ));
-        self.bars(stay, sent, (y, height));
+        let [first, end] = times.map(|time| instant(time, queue.speed));
+        self.bars(stay, (first, end), (y, height));
         self.cable(stay, y + height / 2.0);
         self.drawing.raw("</g>");
     }
