@@ -1,83 +1,12 @@
-//! The run with laptops' frames: beside one that goes slot by slot, and against the bounds.
+//! The run with laptops' frames beside one that goes slot by slot, and in which order frames go.
 
 mod common;
 
+use common::runs::{flow, link, read, recorded, Record};
 use common::slow::{Slow, Started, Stayed};
-use common::tight_hall;
-use course::traffic::figures::{Figures, Verdict};
 use course::traffic::frames::{BestEffort, Laptop, Send, Sends, Stay};
 use course::traffic::hall::Hall;
-use course::traffic::network::Network;
-use course::traffic::run::{run, Arrivals};
-use course::traffic::sends;
-use course::traffic::watch::Watch;
 use halls::rng::Rng;
-use plain::orders::{Flow, Hop};
-use plain::table::Queue;
-
-/// All stays, laptops' frames and what the queues held.
-#[derive(Default)]
-struct Record {
-    stays: Vec<Stay>,
-    started: Vec<BestEffort>,
-    held: Vec<(usize, u64, u64)>,
-}
-
-impl Watch for Record {
-    fn stay(&mut self, stay: &Stay) {
-        self.stays.push(*stay);
-    }
-
-    fn best_effort(&mut self, frame: &BestEffort) {
-        self.started.push(*frame);
-    }
-
-    fn queue(&mut self, queue: usize, instant: u64, _frames: u64, bytes: u64) {
-        self.held.push((queue, instant, bytes));
-    }
-}
-
-fn recorded(hall: &Hall, list: &Sends) -> Record {
-    let mut record = Record::default();
-    let network = Network::new(&hall.queues, &hall.flows);
-    run(&network, list, Arrivals::ForwardedFirst, &mut record);
-    record
-}
-
-fn read(hall: &Hall, text: &str) -> Sends {
-    let lines = sends::read(text, &hall.flows, &hall.queues).unwrap();
-    sends::expand(&lines, &hall.flows, hall.span()).unwrap()
-}
-
-/// A link's queues; the limits play no part in a run.
-fn link(number: u64, speed: u64, levels: u64, fixed_delay: u64, laptop: u64) -> Vec<Queue> {
-    let queue = |level| Queue {
-        link: number,
-        from: number,
-        to: number + 1,
-        speed,
-        level,
-        threshold: 1_000,
-        buffer: 10_000,
-        fixed_delay,
-        best_effort_frame: laptop,
-    };
-    (1..=levels).map(queue).collect()
-}
-
-fn flow(number: u64, burst: u64, frame: u64, hops: &[(u64, u64)]) -> Flow {
-    Flow {
-        number,
-        rate: 1,
-        burst,
-        frame,
-        deadline: 10_000,
-        hops: hops
-            .iter()
-            .map(|&(link, level)| Hop { link, level })
-            .collect(),
-    }
-}
 
 /// Three slow links in a row, and flows over some of them.
 fn slow_hall(rng: &mut Rng) -> Hall {
@@ -148,28 +77,27 @@ fn left(stay: &Stay) -> u128 {
     stay.frame.behind.map_or(0, |behind| behind.left)
 }
 
-impl Record {
-    /// The stays and the laptops' frames as the slow run has them, both in order.
-    fn told(&self) -> (Vec<Stayed>, Vec<Started>) {
-        let stayed = |stay: &Stay| {
-            let frame = &stay.frame;
-            let (flow, number, came) = (frame.flow, frame.number, frame.came);
-            let (first, gone) = (stay.first, stay.gone);
-            (stay.queue, flow, number, came, first, gone, left(stay))
-        };
-        let started = |frame: &BestEffort| (frame.laptop.link, frame.laptop.bytes, frame.first);
-        let mut stays: Vec<Stayed> = self.stays.iter().map(stayed).collect();
-        let mut laptops: Vec<Started> = self.started.iter().map(started).collect();
-        stays.sort_unstable();
-        laptops.sort_unstable();
-        (stays, laptops)
-    }
+/// The stays and the laptops' frames as the slow run has them, both in order.
+fn told(record: &Record) -> (Vec<Stayed>, Vec<Started>) {
+    let stayed = |stay: &Stay| {
+        let frame = &stay.frame;
+        let (flow, number, came) = (frame.flow, frame.number, frame.came);
+        let (first, gone) = (stay.first, stay.gone);
+        (stay.queue, flow, number, came, first, gone, left(stay))
+    };
+    let started = |frame: &BestEffort| (frame.laptop.link, frame.laptop.bytes, frame.first);
+    let mut stays: Vec<Stayed> = record.stays.iter().map(stayed).collect();
+    let mut laptops: Vec<Started> = record.started.iter().map(started).collect();
+    stays.sort_unstable();
+    laptops.sort_unstable();
+    (stays, laptops)
+}
 
-    fn last(&self) -> u64 {
-        let stays = self.stays.iter().map(|stay| stay.gone);
-        let laptops = self.started.iter().map(|frame| frame.gone);
-        stays.chain(laptops).max().unwrap_or(0)
-    }
+/// The instant at which the last frame has left.
+fn last(record: &Record) -> u64 {
+    let stays = record.stays.iter().map(|stay| stay.gone);
+    let laptops = record.started.iter().map(|frame| frame.gone);
+    stays.chain(laptops).max().unwrap_or(0)
 }
 
 /// Every stay to the slot, and every laptop's frame.
@@ -181,8 +109,8 @@ fn equals_the_run_slot_by_slot() {
         let hall = slow_hall(&mut rng);
         let list = random_sends(&mut rng, &hall);
         let ours = recorded(&hall, &list);
-        let slow = Slow::run(&hall, &list, ours.last() + 1);
-        let (found, started) = ours.told();
+        let slow = Slow::run(&hall, &list, last(&ours) + 1);
+        let (found, started) = told(&ours);
         assert_eq!((&found, &started), (&slow.stays, &slow.started), "{index}");
         let hops = |send: &Send| hall.flows[send.flow].hops.len();
         assert_eq!(found.len(), list.frames.iter().map(hops).sum::<usize>());
@@ -276,84 +204,4 @@ fn in_no_queue() {
     let found = stay.frame.behind.unwrap();
     assert_eq!((found.left, found.whole), (11_386_000, 12_336_000));
     assert_eq!(stay.first, 12_386_000);
-}
-
-/// Just before each arrival at a link that laptops share, its longest frame.
-fn before_arrivals(hall: &Hall, record: &Record) -> Vec<Laptop> {
-    let mut list: Vec<Laptop> = Vec::new();
-    for stay in &record.stays {
-        let queue = &hall.queues[stay.queue];
-        let ready = (1000 * stay.frame.came).checked_sub(1);
-        let (Some(ready), 1..) = (ready, queue.best_effort_frame) else {
-            continue;
-        };
-        list.push(Laptop {
-            link: queue.link as usize - 1,
-            ready,
-            bytes: queue.best_effort_frame,
-            line: 1,
-        });
-    }
-    list.sort_by_key(|laptop| (laptop.ready, laptop.link));
-    list.dedup();
-    list
-}
-
-/// Tables whose limits are the very bounds, every source greedy, a laptop's frame before every arrival: none is late.
-#[test]
-fn laptops_make_no_frame_late() {
-    let (mut halls, mut behind) = (0, 0);
-    for index in 0..400 {
-        let mut rng = Rng::new(203, index);
-        let Some(drawn) = tight_hall(&mut rng) else {
-            continue;
-        };
-        let hall = Hall::new(drawn.queues, drawn.flows);
-        if !hall.has_laptops() {
-            continue;
-        }
-        let greedy = |flow: &Flow| format!("greedy {} from 1 to 1500\n", flow.number);
-        let mut list = read(&hall, &hall.flows.iter().map(greedy).collect::<String>());
-        list.laptops = before_arrivals(&hall, &recorded(&hall, &list));
-        let mut figures = Figures::new(&hall.queues);
-        let mut record = Record::default();
-        let network = Network::new(&hall.queues, &hall.flows);
-        run(
-            &network,
-            &list,
-            Arrivals::ForwardedFirst,
-            &mut (&mut figures, &mut record),
-        );
-        let verdict = Verdict::of(&hall.queues, &figures.seen);
-        assert!(
-            verdict.kept(),
-            "hall {index}: {}",
-            verdict.words(&hall, &figures.seen)
-        );
-        halls += 1;
-        let stays = record.stays.iter();
-        behind += stays.filter(|stay| stay.frame.behind.is_some()).count();
-    }
-    assert!(
-        halls > 60 && behind > 500,
-        "{halls} halls, {behind} behind laptops"
-    );
-}
-
-/// Where a threshold leaves the laptops out, a frame is late.
-#[test]
-fn a_bound_without_laptops_is_broken() {
-    // A burst of two frames: 24 µs without a laptop, of which it takes 123.36 more.
-    let flows = vec![flow(7, 200, 100, &[(1, 1)])];
-    let mut queues = link(1, 100, 1, 0, 0);
-    queues[0].threshold = Hall::new(queues.clone(), flows.clone()).bounds[0]
-        .unwrap()
-        .delay;
-    queues[0].best_effort_frame = 1_542;
-    let hall = Hall::new(queues, flows);
-    let mut figures = Figures::new(&hall.queues);
-    let network = Network::new(&hall.queues, &hall.flows);
-    let list = read(&hall, "laptop 1 0.999 1542\n1 7 100 x 2\n");
-    run(&network, &list, Arrivals::ForwardedFirst, &mut figures);
-    assert_eq!(Verdict::of(&hall.queues, &figures.seen).late, 2);
 }

@@ -17,6 +17,7 @@ mod search_command;
 pub mod sends;
 pub mod slots;
 pub mod trace;
+mod tried;
 pub mod watch;
 mod words;
 

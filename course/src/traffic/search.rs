@@ -2,36 +2,19 @@
 //! and changes one source after the other, or when a laptop sends.
 
 use super::figures::{greater_share, Figures};
-use super::frames::{Laptop, Send, Sends, Stay};
+use super::frames::{Sends, Stay};
 use super::hall::Hall;
 use super::network::Network;
 use super::run::{run, Arrivals};
-use super::slots::THOUSAND;
+use super::tried::{longest_frames, Source, Tried};
 use crate::numbers::{commas, counted};
 use halls::rng::Rng;
-use halls::sources::{sends, Pace, Pattern, Sizes};
-use plain::orders::{Flow, SMALLEST_FRAME};
+use halls::sources::Pattern;
+use plain::orders::Flow;
 use std::time::Instant;
 
 /// So many changes without a longer stay end a climb.
 const PATIENCE: u32 = 60;
-/// One run of fast sources on slow queues would else take all the time.
-const MOST_FRAMES: u64 = 100_000;
-
-/// How one source sends; the seed draws what the pattern leaves open.
-#[derive(Clone, Copy)]
-struct Source {
-    pattern: Pattern,
-    seed: u64,
-}
-
-/// What is tried: for each flow how its source sends, or that it doesn't, and for each link the
-/// instant just before which a laptop's longest frame is ready, or none.
-#[derive(Clone)]
-struct Tried {
-    sources: Vec<Option<Source>>,
-    laptops: Vec<Option<u64>>,
-}
 
 /// The longest stay found so far, and the frames that led to it.
 pub struct Best {
@@ -52,37 +35,10 @@ pub struct Search<'a> {
     rng: Rng,
     /// The queues that are looked at.
     targets: Vec<usize>,
-    /// Each link's longest best-effort frame, and the links that have one.
-    longest: Vec<u64>,
+    /// The links that laptops share.
     ports: Vec<usize>,
     pub tries: u64,
     pub best: Option<Best>,
-}
-
-/// The frames of these sources by instant; each keeps to its bucket by how it is made.
-fn frames(hall: &Hall, sources: &[Option<Source>]) -> Vec<Send> {
-    let started = sources.iter().flatten().map(|source| source.pattern.start);
-    let until = started.max().unwrap_or(0) + (2 * hall.span()).min(longest_run(hall));
-    let mut all = Vec::new();
-    for (index, source) in sources.iter().enumerate() {
-        let Some(source) = source else { continue };
-        let mut rng = Rng::new(source.seed, 0);
-        let list = sends(&mut rng, index, &hall.flows[index], source.pattern, until);
-        all.extend(list.iter().map(|send| Send {
-            instant: send.instant,
-            flow: index,
-            bytes: send.bytes,
-            line: 0,
-        }));
-    }
-    all.sort_by_key(|send| send.instant);
-    all
-}
-
-/// The µs in which all sources together send about so many frames at most, beside their bursts.
-fn longest_run(hall: &Hall) -> u64 {
-    let rates: u64 = hall.flows.iter().map(|flow| flow.rate).sum();
-    MOST_FRAMES * SMALLEST_FRAME * 8000 / rates.max(1)
 }
 
 impl<'a> Search<'a> {
@@ -95,13 +51,10 @@ impl<'a> Search<'a> {
     ) -> Search<'a> {
         let carries = |&queue: &usize| hall.bounds[queue].is_some();
         let all = (0..hall.queues.len()).filter(carries).collect();
-        let of_links = hall.queues.iter().filter(|queue| queue.level == 1);
-        let longest: Vec<u64> = of_links.map(|queue| queue.best_effort_frame).collect();
+        let longest = longest_frames(hall);
+        let shared = |&link: &usize| longest[link] > 0;
         Search {
-            ports: (0..longest.len())
-                .filter(|&link| longest[link] > 0)
-                .collect(),
-            longest,
+            ports: (0..longest.len()).filter(shared).collect(),
             targets: only.map_or(all, |queue| vec![queue]),
             hall,
             network: Network::new(&hall.queues, &hall.flows),
@@ -123,7 +76,7 @@ impl<'a> Search<'a> {
                 }
                 let start = match known[queue].take() {
                     Some(tried) if !self.rng.once_in(3) => tried,
-                    _ => self.aligned(queue),
+                    _ => Tried::aligned(self.hall, queue),
                 };
                 known[queue] = Some(self.climb(queue, start, limits));
                 tell(self);
@@ -138,10 +91,7 @@ impl<'a> Search<'a> {
     /// One run; what is longest of all is kept.
     fn stay_at(&mut self, queue: usize, tried: &Tried) -> u64 {
         self.tries += 1;
-        let list = Sends {
-            frames: frames(self.hall, &tried.sources),
-            laptops: self.laptops(tried),
-        };
+        let list = tried.sends(self.hall);
         let mut figures = Figures::new(&self.hall.queues);
         run(&self.network, &list, self.arrivals.clone(), &mut figures);
         let threshold = |stay: &Stay| self.hall.queues[stay.queue].threshold;
@@ -157,23 +107,6 @@ impl<'a> Search<'a> {
             }
         }
         figures.seen[queue].stay()
-    }
-
-    /// The laptops' frames by their time.
-    fn laptops(&self, tried: &Tried) -> Vec<Laptop> {
-        let of_link = |(link, before): (usize, &Option<u64>)| {
-            let ready = (before.as_ref()? * THOUSAND).checked_sub(1)?;
-            Some(Laptop {
-                link,
-                ready,
-                bytes: self.longest[link],
-                line: 0,
-            })
-        };
-        let all = tried.laptops.iter().enumerate();
-        let mut list: Vec<Laptop> = all.filter_map(of_link).collect();
-        list.sort_by_key(|laptop| laptop.ready);
-        list
     }
 
     fn climb(&mut self, queue: usize, mut best: Tried, limits: &Limits) -> Tried {
@@ -245,51 +178,6 @@ impl<'a> Search<'a> {
             }),
         };
         tried
-    }
-
-    /// Sources that meet at one queue: greedy ones, so that a frame is under way that isn't broken
-    /// off. A laptop's where it is as long as any of the levels below, else those of these levels a
-    /// µs before.
-    fn aligned(&mut self, queue: usize) -> Tried {
-        let target = &self.hall.queues[queue];
-        let below = |flow: &Flow| {
-            let mut hops = flow.hops.iter();
-            hops.any(|hop| hop.link == target.link && hop.level > target.level)
-        };
-        let flows = self.hall.flows.iter();
-        let frames = flows.clone().filter(|flow| below(flow));
-        let longest = frames.map(|flow| flow.frame).max().unwrap_or(0);
-        let laptop = target.best_effort_frame > 0 && target.best_effort_frame >= longest;
-        let meet = self.hall.span() + 1;
-        let source = |flow: &Flow| {
-            let before = self.travel(flow, target.link) + u64::from(below(flow) && !laptop);
-            let pattern = Pattern {
-                start: meet.saturating_sub(before),
-                sizes: Sizes::Largest,
-                pace: Pace::Greedy,
-            };
-            Some(Source { pattern, seed: 0 })
-        };
-        let mut laptops = vec![None; self.longest.len()];
-        if laptop {
-            laptops[target.link as usize - 1] = Some(meet);
-        }
-        Tried {
-            sources: flows.map(source).collect(),
-            laptops,
-        }
-    }
-
-    /// The µs that a lone frame takes to a link.
-    fn travel(&self, flow: &Flow, link: u64) -> u64 {
-        let mut micros = 0;
-        for hop in flow.hops.iter().take_while(|hop| hop.link != link) {
-            let of_link = self.hall.queues.iter().find(|queue| queue.link == hop.link);
-            micros += of_link.map_or(0, |queue| {
-                (8 * flow.frame).div_ceil(queue.speed) + queue.fixed_delay
-            });
-        }
-        micros
     }
 }
 

@@ -2,6 +2,8 @@
 #![allow(dead_code)]
 
 pub mod pages;
+pub mod ports;
+pub mod runs;
 pub mod slow;
 pub mod tags;
 

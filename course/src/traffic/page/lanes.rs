@@ -3,7 +3,7 @@
 use super::charts::{backlog, time, Scale, LEFT, RIGHT};
 use super::colours;
 use super::laptops;
-use super::stretch::{Recorder, Stretch};
+use super::stretch::Recorder;
 use super::svg::{Drawing, Rect};
 use crate::numbers::commas;
 use crate::traffic::figures::Seen;
@@ -61,21 +61,11 @@ pub fn link(
         let greatest = seen[queue].backlog;
         y = backlog(&mut lanes.drawing, scale, limits, shown, greatest, y + 5.0) + 12.0;
     }
-    y = laptops::lane(
-        &mut lanes.drawing,
-        scale,
-        &hall.queues[queues[0]],
-        recorder,
-        y,
-    );
+    let first = &hall.queues[queues[0]];
+    y = laptops::lane(&mut lanes.drawing, scale, first, recorder, y);
     y = time(&mut lanes.drawing, scale, y);
-    let Stretch { from, to } = scale.stretch;
-    let name = format!(
-        "link {}, instants {} to {}",
-        hall.queues[queues[0]].link,
-        commas(from),
-        commas(to)
-    );
+    let ends = [scale.stretch.from, scale.stretch.to].map(commas);
+    let name = format!("link {}, instants {}", first.link, ends.join(" to "));
     lanes.drawing.finish(y, &name)
 }
 

@@ -15,6 +15,7 @@ use super::hall::Hall;
 use super::report::{delayed, rows, HEADINGS};
 use crate::numbers::commas;
 use plain::orders::Flow;
+use plain::table::Queue;
 use stretch::{Recorder, Stretch};
 use svg::escape;
 
@@ -126,15 +127,7 @@ fn drawings(hall: &Hall, seen: &[Seen], verdict: &Verdict, recorder: &Recorder) 
             empty.push(first.link.to_string());
             continue;
         }
-        html += &format!(
-            "<section>\n<h2>Link {}, node {} to {}, {} Mbit/s{}{}</h2>\n",
-            first.link,
-            first.from,
-            first.to,
-            commas(first.speed),
-            map::cable(first).map_or(String::new(), |delay| format!(", cable {delay}")),
-            laptops::longest(first).map_or(String::new(), |bytes| format!(", laptops to {bytes}"))
-        );
+        html += &format!("<section>\n<h2>{}</h2>\n", heading(first));
         html += &lanes::link(hall, seen, recorder, verdict.closest.as_ref(), &queues);
         html += "</section>\n";
     }
@@ -143,6 +136,21 @@ fn drawings(hall: &Hall, seen: &[Seen], verdict: &Verdict, recorder: &Recorder) 
         [one] => html + &format!("<p>Link {one} carries no flow.</p>\n"),
         several => html + &format!("<p>Links {} carry no flow.</p>\n", several.join(", ")),
     }
+}
+
+/// `Link 5, node 4 to 6, 1,000 Mbit/s, cable 120 µs, laptops to 1,542 B`.
+fn heading(link: &Queue) -> String {
+    let cable = map::cable(link).map(|delay| format!(", cable {delay}"));
+    let laptops = laptops::longest(link).map(|bytes| format!(", laptops to {bytes}"));
+    format!(
+        "Link {}, node {} to {}, {} Mbit/s{}{}",
+        link.link,
+        link.from,
+        link.to,
+        commas(link.speed),
+        cable.unwrap_or_default(),
+        laptops.unwrap_or_default()
+    )
 }
 
 /// The flows that are seen in the stretch, and the laptops.
