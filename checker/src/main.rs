@@ -1,6 +1,7 @@
 //! The checker's commands.
 
 use checker::{bench, compare, lists, simulate, vectors};
+use halls::tables::Bounds;
 use std::io::Write;
 use std::path::Path;
 use std::process::ExitCode;
@@ -112,32 +113,42 @@ fn run_compare(options: &[&str]) -> Option<bool> {
 fn run_simulate(options: &[&str]) -> Option<bool> {
     let seed = number(options, "--seed")?;
     let count = number(options, "--count")?;
-    match simulate::run(seed, count) {
-        Err(what) => {
-            println!("failed: {what}");
-            Some(false)
-        }
-        Ok(report) => {
-            report.print();
-            let sent = report.halls > 0 && report.just_before > 0;
-            Some(sent && catches_a_mistake(seed, count))
-        }
-    }
+    let outcome = simulate::run(seed, count).and_then(|report| {
+        report.print();
+        let sent = report.halls > 0 && report.just_before > 0;
+        Ok(sent && catches_mistakes(seed)?)
+    });
+    Some(outcome.unwrap_or_else(|what| {
+        println!("failed: {what}");
+        false
+    }))
 }
 
-/// Whether the search finds frames late where the best-effort frame is left out of the bounds.
-fn catches_a_mistake(seed: u64, count: u64) -> bool {
-    match simulate::run_mistaken(seed, count, simulate::left_out, |trial| trial) {
-        Err(what) => {
-            println!("failed: {what}");
-            false
+/// A mistake shows in one of so many halls, mostly in one of the first.
+const MISTAKEN_HALLS: u64 = 1_000;
+
+/// Whether the search finds something where bounds leave the best-effort frame out.
+fn catches_mistakes(seed: u64) -> Result<bool, String> {
+    let (delays, backlogs) = (simulate::left_out, simulate::left_out);
+    let right = Bounds::RIGHT;
+    let mistakes = [
+        ("thresholds", Bounds { delays, ..right }),
+        ("buffers", Bounds { backlogs, ..right }),
+    ];
+    for (name, bounds) in mistakes {
+        let halls = simulate::run_by(seed, MISTAKEN_HALLS, bounds, |trial| trial);
+        let mut shown = None;
+        for (found, number) in halls.zip(1..) {
+            if let Some(fault) = found? {
+                shown = Some((fault, number));
+                break;
+            }
         }
-        Ok(caught) => {
-            println!(
-                "best-effort frame left out of the bounds: {} of {} halls late, {} over",
-                caught.late, caught.halls, caught.over
-            );
-            caught.late > 0
-        }
+        let Some((fault, number)) = shown else {
+            println!("best-effort frame left out of {name}: doesn't show");
+            return Ok(false);
+        };
+        println!("best-effort frame left out of {name}: shows in hall {number}, {fault:?}");
     }
+    Ok(true)
 }

@@ -45,6 +45,11 @@ fn no_frame_is_late() {
     let report = simulate::run(1, 40).unwrap();
     assert!(report.halls > 10);
     assert!(report.journey.limit > 0, "no way with a fixed delay");
+    assert!(report.just_before > 0, "no best-effort frame at an arrival");
+    assert!(
+        report.added.seen > 0,
+        "no stay that needs its best-effort frame"
+    );
 }
 
 fn queue(link: u64, level: u64, threshold: u64, buffer: u64) -> Queue {

@@ -97,7 +97,7 @@ pub fn input(rng: &mut Rng, long: bool) -> Input {
 fn spoil(rng: &mut Rng, queues: &mut Vec<Queue>) -> Option<&'static str> {
     match rng.between(0, 23) {
         0..=3 => faults::line_faults(rng, queues),
-        4 | 5 => return Some(faults::link_fault(rng, queues)),
+        4..=6 => return Some(faults::link_fault(rng, queues)),
         _ => {}
     }
     None

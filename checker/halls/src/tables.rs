@@ -176,19 +176,36 @@ pub fn link_levels(queues: &[Queue], flows: &[&Flow], link: u64) -> Vec<Aggregat
         .collect()
 }
 
+/// What a bound of a queue counts of its link; said of the queue and the one after it in the table.
+pub type Counted = fn(&Queue, Option<&Queue>) -> Link;
+
+/// What delays and backlogs count, right or wrong.
+#[derive(Clone, Copy)]
+pub struct Bounds {
+    pub delays: Counted,
+    pub backlogs: Counted,
+}
+
+impl Bounds {
+    pub const RIGHT: Bounds = Bounds {
+        delays: |queue, _| queue.of_link(),
+        backlogs: |queue, _| queue.of_link(),
+    };
+}
+
 /// Lowers each threshold to the delay bound over these admitted flows until none moves, then each
 /// buffer to the backlog bound. Lower thresholds make smaller bursts and so smaller bounds: the
 /// flows stay admitted at every step.
 pub fn tighten(queues: &mut [Queue], flows: &[&Flow]) {
-    tighten_by(queues, flows, |queue, _| queue.of_link());
+    tighten_by(queues, flows, Bounds::RIGHT);
 }
 
-/// What the bounds of a queue count of its link; said of the queue and the one after it in the table.
-pub type Counted = fn(&Queue, Option<&Queue>) -> Link;
-
-/// The same with bounds that count this, right or wrong.
-pub fn tighten_by(queues: &mut [Queue], flows: &[&Flow], counted: Counted) {
-    let link_at = |queues: &[Queue], i: usize| counted(&queues[i], queues.get(i + 1));
+/// The same by other bounds.
+pub fn tighten_by(queues: &mut [Queue], flows: &[&Flow], bounds: Bounds) {
+    let link_at = |queues: &[Queue], i: usize, counted: Counted| {
+        let next = queues.get(i + 1);
+        counted(&queues[i], next)
+    };
     loop {
         let mut moved = false;
         for i in 0..queues.len() {
@@ -197,7 +214,7 @@ pub fn tighten_by(queues: &mut [Queue], flows: &[&Flow], counted: Counted) {
             if levels[p].rate == 0 {
                 continue;
             }
-            let bound = delay(link_at(queues, i), &levels, p) as u64;
+            let bound = delay(link_at(queues, i, bounds.delays), &levels, p) as u64;
             moved |= bound != queues[i].threshold;
             queues[i].threshold = bound;
         }
@@ -209,7 +226,8 @@ pub fn tighten_by(queues: &mut [Queue], flows: &[&Flow], counted: Counted) {
         let levels = link_levels(queues, flows, queues[i].link);
         let p = queues[i].level as usize - 1;
         if levels[p].rate > 0 {
-            queues[i].buffer = backlog(link_at(queues, i), &levels, p) as u64;
+            let link = link_at(queues, i, bounds.backlogs);
+            queues[i].buffer = backlog(link, &levels, p) as u64;
         }
     }
 }

@@ -11,7 +11,7 @@ use halls::sources::Send;
 use plain::orders::Flow;
 use plain::table::Queue;
 use port::Port;
-pub use port::{Free, Start};
+pub use port::{Free, Laptops, Start};
 use std::collections::VecDeque;
 
 struct Frame {
@@ -69,19 +69,6 @@ pub trait Observer {
 
 /// Nobody.
 impl Observer for () {}
-
-/// The sources of best-effort frames.
-pub trait Laptops {
-    /// What starts next in the free slots; none where the link stays idle up to the instant.
-    fn start(&mut self, free: &Free) -> Option<Start>;
-}
-
-/// None.
-impl Laptops for () {
-    fn start(&mut self, _free: &Free) -> Option<Start> {
-        None
-    }
-}
 
 pub struct Network<'a> {
     queues: &'a [Queue],
@@ -167,21 +154,10 @@ impl<'a> Network<'a> {
         let mut unsent = sends;
         let mut instant = 0;
         loop {
-            let mut arriving = self.off_cables(instant);
-            let transit = arriving.len();
-            let due = unsent.iter().take_while(|send| send.instant == instant);
-            arriving.extend(due.map(Frame::new));
-            unsent = &unsent[arriving.len() - transit..];
-            match arrivals {
-                Arrivals::SourcesLast => {}
-                Arrivals::SourcesFirst => arriving.rotate_left(transit),
-                Arrivals::Shuffled => rng.shuffle(&mut arriving),
-            }
-            for frame in arriving {
-                let queue = self.routes[frame.flow][frame.hop];
-                self.backlog[queue] += frame.bytes;
-                self.waiting[queue].push_back(frame);
-            }
+            let sent = unsent.iter().take_while(|send| send.instant == instant);
+            let (sent, later) = unsent.split_at(sent.count());
+            self.arrive(instant, sent, arrivals, rng);
+            unsent = later;
             let busy = self.look(instant, observer)?;
             // While nothing waits, nothing happens but on cables and by laptops.
             let next = if busy {
@@ -195,6 +171,23 @@ impl<'a> Network<'a> {
             self.pass(instant, end, observer);
             self.fill(end, unsent, laptops);
             instant = end;
+        }
+    }
+
+    /// Frames reach their queues at an instant: from cables, and these from sources.
+    fn arrive(&mut self, instant: u64, sent: &[Send], arrivals: Arrivals, rng: &mut Rng) {
+        let mut arriving = self.off_cables(instant);
+        let transit = arriving.len();
+        arriving.extend(sent.iter().map(Frame::new));
+        match arrivals {
+            Arrivals::SourcesLast => {}
+            Arrivals::SourcesFirst => arriving.rotate_left(transit),
+            Arrivals::Shuffled => rng.shuffle(&mut arriving),
+        }
+        for frame in arriving {
+            let queue = self.routes[frame.flow][frame.hop];
+            self.backlog[queue] += frame.bytes;
+            self.waiting[queue].push_back(frame);
         }
     }
 
@@ -219,9 +212,10 @@ impl<'a> Network<'a> {
 
     /// What links leave free goes to laptops. They are told what is to come: nothing they do can change it.
     fn fill(&mut self, end: u64, unsent: &[Send], laptops: &mut impl Laptops) {
+        let arrival = self.next_arrival(unsent) == Some(end);
         for link in 0..self.ports.len() {
             if self.ports[link].is_open() {
-                let due = self.is_due(link, end, unsent);
+                let due = arrival && self.is_due(link, end, unsent);
                 self.ports[link].fill(link, due, laptops);
             }
         }

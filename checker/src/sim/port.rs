@@ -1,6 +1,6 @@
-//! A link's sender: what it has under way and how long it is free.
+//! A link's sender: what it has under way, how long it is free, and what laptops make of that.
 
-use super::{Frame, Laptops};
+use super::Frame;
 use plain::table::Queue;
 use std::collections::VecDeque;
 
@@ -32,6 +32,19 @@ pub struct Free {
 pub struct Start {
     pub after: u64,
     pub bytes: u64,
+}
+
+/// The sources of best-effort frames.
+pub trait Laptops {
+    /// What starts next in the free slots; none where the link stays idle up to the instant.
+    fn start(&mut self, free: &Free) -> Option<Start>;
+}
+
+/// None.
+impl Laptops for () {
+    fn start(&mut self, _free: &Free) -> Option<Start> {
+        None
+    }
 }
 
 /// A link's sender; its queues have the indices from `first` on, level 1 first.

@@ -6,9 +6,10 @@ use crate::sim::{Arrivals, Fault, Network, Observer, Seen};
 use halls::orders::{flow, Demand};
 use halls::rng::Rng;
 use halls::sources::{conforms, sends, Send};
-use halls::tables::{least_deadline, link_fields, loose, table_text, tighten_by};
-use halls::tables::{tighten_deadlines, Counted, Shape};
-use plain::orders::{write_registration, Flow, Hop};
+use halls::tables::{least_deadline, link_fields, link_levels, loose, table_text};
+use halls::tables::{tighten_by, tighten_deadlines, Bounds, Counted, Shape};
+use plain::formula::delay;
+use plain::orders::{write_registration, Flow, Hop, LARGEST_FRAME, SMALLEST_FRAME};
 use plain::registry::Registry;
 use plain::table::Queue;
 use std::fmt;
@@ -20,6 +21,7 @@ pub struct Hall {
 }
 
 /// Why a search ended.
+#[derive(Debug)]
 pub enum Failure {
     /// A frame late in a queue, or a buffer exceeded; and where.
     Limit { fault: Fault, place: String },
@@ -46,20 +48,22 @@ const DEMAND: Demand = Demand {
 };
 /// No run goes on longer after the last first frame, µs.
 const MOST_SPAN: u64 = 20_000;
+/// No flow of a hall has a larger frame than one of these: a best-effort frame is most in the way of short ones.
+const LARGEST_FRAMES: [u64; 4] = [LARGEST_FRAME, LARGEST_FRAME, 400, SMALLEST_FRAME];
 /// Slots to a bit: a best-effort frame may start between two bits.
 const GRAINS: [u64; 4] = [1, 2, 3, 64];
 
 impl Hall {
     /// Flows admitted on a loose table, which is then tightened; none if no flow was admitted or a
     /// queue is too slow to be run in short.
-    pub fn random(rng: &mut Rng) -> Result<Option<Hall>, Failure> {
-        let hall = Hall::by(rng, |queue, _| queue.of_link());
-        hall.admitted().map_err(Failure::Other)?;
+    pub fn random(rng: &mut Rng) -> Result<Option<Hall>, String> {
+        let hall = Hall::by(rng, Bounds::RIGHT);
+        hall.admitted()?;
         Ok(Some(hall).filter(Hall::is_short))
     }
 
-    /// The same with bounds that count this of a link, right or wrong.
-    pub fn by(rng: &mut Rng, counted: Counted) -> Hall {
+    /// The same by bounds that may be wrong, of any span.
+    pub fn by(rng: &mut Rng, bounds: Bounds) -> Hall {
         let shape = rng.pick(&[Shape::Mesh, Shape::Chain, Shape::FanIn, Shape::FanIn]);
         let links = rng.between(2, 6);
         let speeds = rng.pick(&[
@@ -76,11 +80,14 @@ impl Hall {
         let mut queues = loose(rng, shape, links, levels, speeds);
         link_fields(rng, &mut queues);
         let mut loosely = Registry::over(queues.clone());
+        let largest = rng.pick(&LARGEST_FRAMES);
         for _ in 0..rng.between(1, 24) {
-            loosely.register(&write_registration(&flow(rng, &queues, DEMAND)));
+            let mut new = flow(rng, &queues, DEMAND);
+            new.frame = new.frame.min(largest);
+            loosely.register(&write_registration(&new));
         }
         let mut flows: Vec<Flow> = loosely.held().into_iter().cloned().collect();
-        tighten_by(&mut queues, &flows.iter().collect::<Vec<_>>(), counted);
+        tighten_by(&mut queues, &flows.iter().collect::<Vec<_>>(), bounds);
         tighten_deadlines(&queues, &mut flows);
         rng.shuffle(&mut flows);
         Hall { queues, flows }
@@ -121,6 +128,15 @@ impl Hall {
         self.flows
             .iter()
             .any(|flow| flow.hops.contains(&self.hop_at(queue)))
+    }
+
+    /// A queue's delay bound where this counts of its link.
+    pub fn delay_by(&self, queue: usize, counted: Counted) -> u64 {
+        let Queue { link, level, .. } = self.queues[queue];
+        let flows: Vec<&Flow> = self.flows.iter().collect();
+        let levels = link_levels(&self.queues, &flows, link);
+        let counted = counted(&self.queues[queue], self.queues.get(queue + 1));
+        delay(counted, &levels, level as usize - 1) as u64
     }
 
     /// No flow has its first hop here.

@@ -8,7 +8,7 @@ mod trial;
 use crate::sim::{Fault, Seen};
 pub use hall::{Failure, Hall, Traffic};
 use halls::rng::Rng;
-use halls::tables::Counted;
+use halls::tables::Bounds;
 pub use laptops::{Laptop, Site};
 use plain::formula::Link;
 use plain::registry::path_fixed_delays;
@@ -61,6 +61,8 @@ pub struct Report {
     /// The same for queues of links with a best-effort frame.
     pub beside_stay: Worst,
     pub beside_backlog: Worst,
+    /// What a stay took of the µs that the best-effort frame adds to its threshold.
+    pub added: Worst,
     /// Of the ways that have a fixed delay, what they took beside it, against their thresholds.
     pub journey: Worst,
 }
@@ -84,6 +86,8 @@ impl Report {
             .print("longest stay beside best-effort frames");
         self.beside_backlog
             .print("greatest backlog beside best-effort frames");
+        self.added
+            .print("of what the best-effort frame adds to a threshold");
         self.journey
             .print("longest way less its fixed delays against thresholds");
     }
@@ -121,6 +125,12 @@ impl Report {
             }
             if queue.best_effort_frame > 0 {
                 met(&mut self.beside_stay, &mut self.beside_backlog);
+                let alone = hall.delay_by(at, left_out);
+                let added = queue.threshold - alone;
+                if added >= TELLING_THRESHOLD {
+                    self.added
+                        .meet(most.stay.saturating_sub(alone), added, place);
+                }
             }
         }
     }
@@ -137,28 +147,15 @@ pub fn run(seed: u64, count: u64) -> Result<Report, String> {
     let mut report = Report::default();
     for index in 0..count {
         let mut rng = Rng::new(seed, index);
-        let told = |failure: Failure| format!("seed {seed} hall {index}: {failure}");
+        let told = |what: String| format!("seed {seed} hall {index}: {what}");
         if let Some(hall) = Hall::random(&mut rng).map_err(told)? {
             report.halls += 1;
-            climb(
-                &mut rng,
-                &hall,
-                |trial| trial,
-                |seen| report.add(&hall, index, seen),
-            )
-            .map_err(told)?;
+            let add = |seen: &Traffic| report.add(&hall, index, seen);
+            let ran = climb(&mut rng, &hall, |trial| trial, add);
+            ran.map_err(|failure| told(failure.to_string()))?;
         }
     }
     Ok(report)
-}
-
-/// What a search shows of halls whose bounds are worked out wrong.
-#[derive(Debug, Default)]
-pub struct Caught {
-    pub halls: u64,
-    /// Halls with a frame late, and with a buffer exceeded.
-    pub late: u64,
-    pub over: u64,
 }
 
 /// The mistake of leaving the best-effort frame out of Y.
@@ -169,44 +166,35 @@ pub fn left_out(queue: &Queue, _next: Option<&Queue>) -> Link {
     }
 }
 
-/// The same search over halls whose bounds count this of a link: it must find what is missing. `sent` may take something
-/// out of what is sent.
-pub fn run_mistaken(
+/// The same search over halls tightened by bounds that may be wrong: what it finds in each of so many. `sent` may take
+/// something out of what is sent.
+pub fn run_by(
     seed: u64,
     count: u64,
-    counted: Counted,
-    sent: impl Fn(Trial) -> Trial,
-) -> Result<Caught, String> {
-    let mut caught = Caught::default();
-    for index in 0..count {
+    bounds: Bounds,
+    sent: fn(Trial) -> Trial,
+) -> impl Iterator<Item = Result<Option<Fault>, String>> {
+    (0..count).filter_map(move |index| {
         let mut rng = Rng::new(seed, index);
-        let hall = Hall::by(&mut rng, counted);
+        let hall = Hall::by(&mut rng, bounds);
         if !hall.is_short() {
-            continue;
+            return None;
         }
-        caught.halls += 1;
-        match climb(&mut rng, &hall, &sent, |_| ()) {
-            Ok(()) => {}
-            Err(Failure::Limit { fault, .. }) => match fault {
-                Fault::Late { .. } => caught.late += 1,
-                Fault::Over { .. } => caught.over += 1,
-            },
-            Err(other) => return Err(format!("seed {seed} hall {index}: {other}")),
-        }
-    }
-    Ok(caught)
+        Some(match climb(&mut rng, &hall, sent, |_| ()) {
+            Ok(()) => Ok(None),
+            Err(Failure::Limit { fault, .. }) => Ok(Some(fault)),
+            Err(other) => Err(format!("seed {seed} hall {index}: {other}")),
+        })
+    })
 }
 
 fn climb(
     rng: &mut Rng,
     hall: &Hall,
-    sent: impl Fn(Trial) -> Trial,
+    sent: fn(Trial) -> Trial,
     mut showed: impl FnMut(&Traffic),
 ) -> Result<(), Failure> {
-    let loaded: Vec<usize> = (0..hall.queues.len())
-        .filter(|&queue| hall.carries(queue))
-        .collect();
-    let target = rng.pick(&loaded);
+    let target = target(rng, hall);
     let by_stay = !rng.once_in(3);
     let mut best_trial = if rng.once_in(2) {
         Trial::aligned(rng, hall, &hall.queues[target])
@@ -231,4 +219,13 @@ fn climb(
         }
     }
     Ok(())
+}
+
+/// A queue that carries a flow; mostly one of a link with a best-effort frame, where there is one.
+fn target(rng: &mut Rng, hall: &Hall) -> usize {
+    let queues = (0..hall.queues.len()).filter(|&queue| hall.carries(queue));
+    let (shared, alone): (Vec<usize>, Vec<usize>) =
+        queues.partition(|&queue| hall.queues[queue].best_effort_frame > 0);
+    let from_shared = alone.is_empty() || !shared.is_empty() && !rng.once_in(3);
+    rng.pick(if from_shared { &shared } else { &alone })
 }
