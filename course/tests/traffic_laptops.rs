@@ -6,6 +6,7 @@ use common::runs::{flow, link, read, recorded, Record};
 use common::slow::{Slow, Started, Stayed};
 use course::traffic::frames::{BestEffort, Laptop, Send, Sends, Stay};
 use course::traffic::hall::Hall;
+use course::traffic::sends;
 use halls::rng::Rng;
 
 /// Three slow links in a row, and flows over some of them.
@@ -191,6 +192,36 @@ fn registered_frames_go_first() {
         order("laptop 1 0 250\n20 7 250\n3 8 250\n"),
         [(9, 0, 20), (7, 20_000, 40), (8, 40_000, 60)]
     );
+}
+
+/// A laptop's instant is one that SENDS names: a greedy source without an end goes on after it for twice the span.
+#[test]
+fn the_last_instant_may_be_a_laptops() {
+    let mut hall = one_link();
+    // A frame of 250 bytes each µs.
+    hall.flows[0].rate = 2_000_000;
+    let last = |text: &str| read(&hall, text).frames.last().unwrap().instant;
+    let span = 2 * hall.span();
+    assert_eq!(last("greedy 7 from 0\n"), span);
+    assert_eq!(last("greedy 7 from 0\nlaptop 1 900 84\n"), 900 + span);
+    assert_eq!(last("greedy 7 from 0\nlaptop 1 899.001 84\n"), 900 + span);
+}
+
+/// Frames and laptops' frames together are too many.
+#[test]
+fn laptops_count_among_the_frames() {
+    let hall = one_link();
+    let text = |laptops: u64| {
+        let most = sends::MOST_FRAMES - 1;
+        format!("0 7 250 x {most}\n") + &"laptop 1 3 84\n".repeat(laptops as usize)
+    };
+    let told = |text: &str| {
+        let lines = sends::read(text, &hall.flows, &hall.queues).unwrap();
+        sends::expand(&lines, &hall.flows, 0).map(|list| list.laptops.len())
+    };
+    assert_eq!(told(&text(1)), Ok(1));
+    let mistake = told(&text(2)).unwrap_err().to_string();
+    assert!(mistake.starts_with("3:1: more than "), "{mistake}");
 }
 
 /// A laptop's frame is in no queue: the queue holds its own frames alone, whatever is under way.
