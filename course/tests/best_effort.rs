@@ -175,7 +175,9 @@ fn made_halls_with_a_port() {
 #[test]
 fn slips_with_best_effort_frames() {
     let folder = two_flows(1_000, [(1_000, 9_000), (1_000, 9_000)]);
-    let row = |line, place, delay: u64| format!("{line} 0 {place} 0 0 {delay}\n");
+    let first_row = |delay: u64| format!("1 0 1 0 0 {delay}\n");
+    // The longest stay at level 2 is that delay too.
+    let last_row = |delay: u64| format!("2 0 2 0 0 {delay} - {delay}\n");
     // What blocks levels 1 and 2 in the trainee's sums of line 1 and line 2.
     let bound = |ahead: u64, residual: u64| (8_000 * (ahead + 1_542)).div_ceil(residual);
     let alone = |blocking: u64| bound(blocking + 1_542, 100_000);
@@ -188,10 +190,7 @@ fn slips_with_best_effort_frames() {
             second(0),
         ),
     ] {
-        let sheet = folder.write(
-            "sheet.txt",
-            (row(1, 1, first) + &row(2, 2, last)).as_bytes(),
-        );
+        let sheet = folder.write("sheet.txt", (first_row(first) + &last_row(last)).as_bytes());
         let marked = course(&["mark", &folder.word(), &sheet]);
         assert_eq!(marked.status, Status::Wrong);
         assert!(
@@ -204,7 +203,7 @@ fn slips_with_best_effort_frames() {
     }
     let right = folder.write(
         "right.txt",
-        (row(1, 1, alone(1_000)) + &row(2, 2, second(1_000))).as_bytes(),
+        (first_row(alone(1_000)) + &last_row(second(1_000))).as_bytes(),
     );
     assert_eq!(
         course(&["mark", &folder.word(), &right]).status,

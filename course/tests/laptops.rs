@@ -89,18 +89,8 @@ fn the_example_delays_a_frame() {
     let run = |path: &str| {
         let outcome = call(&["traffic", &example("hall"), path]);
         assert_eq!(outcome.status, Status::Fine, "{}", outcome.errors);
-        let row = outcome
-            .printed
-            .lines()
-            .find(|line| line.starts_with("     5      1 "));
-        let numbers: Vec<u64> = row
-            .unwrap()
-            .split_whitespace()
-            .skip(2)
-            .take(2)
-            .map(|word| word.parse().unwrap())
-            .collect();
-        (outcome.printed, numbers)
+        let seen = row(&outcome.printed, "5.1");
+        (outcome.printed, seen)
     };
     let (printed, loud) = run(&example("hall/laptop.txt"));
     let (without, silent) = run(&quiet);
@@ -116,6 +106,15 @@ fn the_example_delays_a_frame() {
     assert!(!without.contains("laptop"), "{without}");
 }
 
+/// The longest stay and the bound that a run's table has of a queue, as `5.1`.
+fn row(printed: &str, queue: &str) -> [u64; 2] {
+    let (link, level) = queue.split_once('.').unwrap();
+    let start = format!("{link:>6}  {level:>5} ");
+    let found = printed.lines().find(|line| line.starts_with(&start));
+    let mut words = found.unwrap().split_whitespace().skip(2);
+    [(); 2].map(|()| words.next().unwrap().parse().unwrap())
+}
+
 /// The longest stay that a search finds at a queue, and its SENDS, which give it again; nothing is late.
 fn longest(hall: &str, queue: &str) -> (u64, String) {
     let folder = Temporary::new();
@@ -126,9 +125,10 @@ fn longest(hall: &str, queue: &str) -> (u64, String) {
     let found = call(&words);
     assert_eq!(found.status, Status::Fine, "{}", found.errors);
     let stay = found.printed.split_once("longest ").unwrap().1;
-    let stay = stay.split(' ').next().unwrap().parse().unwrap();
+    let stay: u64 = stay.split(' ').next().unwrap().parse().unwrap();
     let again = call(&["traffic", hall, &out]);
     assert_eq!(again.printed.lines().last(), found.printed.lines().last());
+    assert_eq!(row(&again.printed, queue)[0], stay, "{queue}");
     (stay, fs::read_to_string(&out).unwrap())
 }
 
@@ -159,8 +159,9 @@ fn the_sheets_laptop() {
         let sends = format!("laptop 1 {ready} 1542\n1 7 1542\n1 8 1542\n");
         let sends = folder.write("sends.txt", sends.as_bytes());
         let drawn = drawn_by(&folder, &folder.word(), &sends, Status::Fine, call);
-        let stays: Vec<u64> = drawn.rows.iter().map(|row| row[8]).collect();
-        assert_eq!(stays, [micros(before + 1), micros(before + 2)], "{ready}");
+        let seen = ["1.1", "1.2"].map(|queue| row(&drawn.printed, queue));
+        let stays = [micros(before + 1), micros(before + 2)];
+        assert_eq!(seen, [[stays[0], 371], [stays[1], 499]], "{ready}");
     }
 }
 

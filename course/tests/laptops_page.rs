@@ -93,6 +93,11 @@ fn laptops_alone_are_drawn() {
     let drawn = drawn_by(&held, &held.word(), &sends, Status::Fine, quiet);
     check(&drawn);
     assert!(drawn.page.contains("no laptop's frame in this stretch"));
+    // The whole of a short run lasts until its last frame has left, a laptop's too: 1,000 bytes take 80 µs.
+    let sends = held.write("sends.txt", b"1 7 1542\nlaptop 1 400.5 1000\n");
+    let whole = drawn_by(&held, &held.word(), &sends, Status::Fine, call);
+    check(&whole);
+    assert!(whole.page.contains("data-from=\"1\" data-to=\"481\""));
 }
 
 /// The trace has what was left of a laptop's frame, and bits to the thousandth.
