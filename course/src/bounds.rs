@@ -5,7 +5,8 @@ use crate::folder::Folder;
 use crate::numbers::{commas, counted, per_cent};
 use crate::session::{remark, Session};
 use crate::status::{Outcome, Status};
-use crate::titles::link_title;
+use crate::titles::{blocking_by, link_title};
+use plain::formula::Sums;
 use plain::orders::Flow;
 use plain::registry::{path_fixed_delays, path_thresholds, Registry, HOP_POOL, SLOTS};
 use plain::table::{Of, ENTRIES};
@@ -18,7 +19,9 @@ pub const COMMAND: Command = Command {
     help: "\
 After the orders of orders.txt (with --after N after the first N of them): for each link its rate sum against its speed,
 for each queue rate sum, burst sum and largest frame, Res, Y, the delay bound against the threshold (µs), the backlog bound
-against the buffer (bytes), each with its per cent, rounded up. An empty queue has no bound. For each flow the sum of the
+against the buffer (bytes), each with its per cent, rounded up. An empty queue has no bound. A link that laptops share has a
+column more, blocking, counted into Y: the larger of the largest frame below and the best-effort frame (both: they are as
+long), and which it was. For each flow the sum of the
 delay bounds of its queues, the sum of their thresholds, which is what is promised, and its deadline (µs). Where a held
 flow's path has cables that take time, their fixed delays stand beside and are counted into both sums.
 
@@ -86,8 +89,9 @@ fn link_report(link: &LinkWork) -> String {
     let Some(first) = link.levels.first() else {
         return String::new();
     };
-    let mut rows = vec![level_heads()];
-    rows.extend(link.levels.iter().map(level_row));
+    let shared = first.queue.best_effort_frame > 0;
+    let mut rows = vec![level_heads(shared)];
+    rows.extend(link.levels.iter().map(|level| level_row(level, shared)));
     format!(
         "\n{}; rates {} of {} kbit/s, {} %\n{}",
         link_title(&first.queue),
@@ -106,8 +110,12 @@ fn further() -> impl Iterator<Item = &'static plain::table::Entry> {
         .filter(move |entry| entry.of == Of::Queue && !paired.contains(&entry.field.name))
 }
 
-fn level_heads() -> Vec<String> {
-    let heads = "level rate burst frame Res Y delay threshold % backlog buffer %";
+/// A link that laptops share has a column more.
+fn level_heads(shared: bool) -> Vec<String> {
+    let heads = match shared {
+        false => "level rate burst frame Res Y delay threshold % backlog buffer %",
+        true => "level rate burst frame Res blocking Y delay threshold % backlog buffer %",
+    };
     let further = further().map(|entry| entry.field.name.to_string());
     heads
         .split(' ')
@@ -116,18 +124,21 @@ fn level_heads() -> Vec<String> {
         .collect()
 }
 
-fn level_row(level: &LevelWork) -> Vec<String> {
+fn level_row(level: &LevelWork, shared: bool) -> Vec<String> {
     let (queue, figures) = (&level.queue, &level.figures);
     let none = || "-".to_string();
     let bound = |value: &dyn Fn(&plain::work::Bounds) -> String| {
         level.bounds.as_ref().map_or_else(none, value)
     };
-    let row = [
+    let mut row = vec![
         queue.level.to_string(),
         commas(figures.rate),
         commas(figures.burst),
         commas(figures.frame),
         bound(&|bounds| commas(bounds.sums.residual)),
+    ];
+    row.extend(shared.then(|| bound(&|bounds| blocking(&bounds.sums))));
+    row.extend([
         bound(&|bounds| commas(bounds.sums.ahead())),
         bound(&|bounds| commas(bounds.delay)),
         commas(queue.threshold),
@@ -135,9 +146,15 @@ fn level_row(level: &LevelWork) -> Vec<String> {
         bound(&|bounds| commas(bounds.backlog)),
         commas(queue.buffer),
         bound(&|bounds| per_cent(bounds.backlog, u128::from(queue.buffer))),
-    ];
-    let further = further().map(|entry| commas((entry.get)(queue)));
-    row.into_iter().chain(further).collect()
+    ]);
+    row.extend(further().map(|entry| commas((entry.get)(queue))));
+    row
+}
+
+/// `1,542 best-effort`.
+fn blocking(sums: &Sums) -> String {
+    let (_, which) = blocking_by(sums).unwrap_or_default();
+    format!("{} {which}", commas(sums.under_way()))
 }
 
 fn flow_report(registry: &Registry, links: &[LinkWork]) -> String {

@@ -15,6 +15,18 @@ pub fn commas(number: impl Display) -> String {
     grouped
 }
 
+/// Thousandths as a number with the decimals that it needs: 123.36.
+pub fn thousandths(number: u128) -> String {
+    let whole = commas(number / 1000);
+    match number % 1000 {
+        0 => whole,
+        part => {
+            let decimals = format!("{part:03}");
+            format!("{whole}.{}", decimals.trim_end_matches('0'))
+        }
+    }
+}
+
 /// A part of a whole in per cent with one decimal, rounded up, so that 100.0 is never shown for more than the whole and a
 /// part above it always shows as more.
 pub fn per_cent(part: u128, whole: u128) -> String {

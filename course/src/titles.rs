@@ -2,6 +2,7 @@
 
 use crate::numbers::commas;
 use plain::columns::Field;
+use plain::formula::Sums;
 use plain::orders::{Flow, Hop, KIND, KINDS};
 use plain::table::{Of, Queue, ENTRIES};
 
@@ -28,6 +29,17 @@ pub fn link_title(queue: &Queue) -> String {
         .map(|(field, value)| named(field, value))
         .collect();
     format!("link {}: {}", queue.link, numbers.join(", "))
+}
+
+/// Which of the two frames that can be under way blocks a level, in words and in one word; nothing on a link that laptops
+/// don't share.
+pub fn blocking_by(sums: &Sums) -> Option<(&'static str, &'static str)> {
+    use std::cmp::Ordering;
+    (sums.best_effort_frame > 0).then(|| match sums.best_effort_frame.cmp(&sums.below) {
+        Ordering::Greater => ("the best-effort frame", "best-effort"),
+        Ordering::Less => ("the frame below", "below"),
+        Ordering::Equal => ("both alike", "both"),
+    })
 }
 
 /// An order line that was read: `register: flow number 202, rate 20,000 kbit/s, .., over link 2 level 2, link 3 level 2`.

@@ -3,6 +3,7 @@
 mod common;
 
 use common::{course, root, said, Temporary};
+use course::numbers::commas;
 use course::status::Status;
 use std::fs;
 
@@ -194,11 +195,11 @@ fn whole_files() {
         "table.txt: this file and orders.txt seem to be swapped: one holds the lines of the other";
     assert_eq!(said(ORDERS.as_bytes(), TABLE.as_bytes()), [swapped]);
     assert_eq!(said(b"", TABLE.as_bytes()), [swapped]);
-    let long = TABLE.repeat(305);
-    assert_eq!(
-        said(long.as_bytes(), b""),
-        ["table.txt: 22,570 bytes, at most 22,528"]
-    );
+    // 512 lines of 48 columns and LF are the most.
+    let most = 512 * 49;
+    let long = TABLE.repeat(most / TABLE.len() + 1);
+    let words = format!("{} bytes, at most {}", commas(long.len()), commas(most));
+    assert_eq!(said(long.as_bytes(), b""), [format!("table.txt: {words}")]);
     let many = " 2   101\n".repeat(2_001);
     assert_eq!(
         said(b"", many.as_bytes()),

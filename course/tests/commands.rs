@@ -220,7 +220,7 @@ fn worksheets_filled_in_part() {
     let folder = Temporary::new();
     let sheet = folder.write(
         "sheet.txt",
-        "\u{feff}1 0 1 0 0 4 ________\r\n2 ___ ____ ____ __ ______ ________\r\n".as_bytes(),
+        "\u{feff}1 0 1 0 0 17 ________\r\n2 ___ ____ ____ __ ______ ________\r\n".as_bytes(),
     );
     let outcome = course(&["mark", &hall(), &sheet, "--lines", "1-2"]);
     assert_eq!(

@@ -20,8 +20,8 @@ use plain::registry::Registry;
 use plain::table::{read_table, Queue};
 use std::collections::BTreeSet;
 
-/// What `bounds` should print of a queue: rate, burst, frame, then Res, Y, delay and backlog where it carries a flow; the
-/// formulas are written out once more.
+/// What `bounds` should print of a queue: rate, burst, frame, then Res, blocking, Y, delay and backlog where it carries a
+/// flow; the formulas are written out once more.
 fn figures(registry: &Registry, queue: &Queue) -> Vec<u128> {
     let flows: Vec<&Flow> = registry.held();
     let levels = link_levels(&registry.queues, &flows, queue.link);
@@ -31,12 +31,14 @@ fn figures(registry: &Registry, queue: &Queue) -> Vec<u128> {
     if own.rate > 0 {
         let above: u128 = levels[..p].iter().map(|level| level.rate).sum();
         let bursts: u128 = levels[..p].iter().map(|level| level.burst).sum();
-        let below = levels[p + 1..].iter().map(|level| level.frame).max();
-        let ahead = bursts + below.unwrap_or(0) + own.frame;
+        let below = levels[p + 1..].iter().map(|level| level.frame);
+        let laptop = u128::from(queue.best_effort_frame);
+        let blocking = below.fold(laptop, u128::max);
+        let ahead = bursts + blocking + own.frame;
         let residual = 1000 * speed - above;
         let delay = (8000 * (ahead + own.burst)).div_ceil(residual);
         let backlog = own.burst + (own.rate * ahead).div_ceil(residual);
-        numbers.extend([residual, ahead, delay, backlog]);
+        numbers.extend([residual, blocking, ahead, delay, backlog]);
     }
     numbers
 }
@@ -66,9 +68,11 @@ fn compare_queues(registry: &Registry, rows: &mut impl Iterator<Item = Vec<u128>
         expected.extend(&known[..3]);
         let (threshold, buffer) = (u128::from(queue.threshold), u128::from(queue.buffer));
         match known[3..] {
-            [residual, ahead, delay, backlog] => {
+            [residual, blocking, ahead, delay, backlog] => {
                 assert!(delay <= threshold && backlog <= buffer, "{name}");
-                expected.extend([residual, ahead, delay, threshold, backlog, buffer]);
+                expected.push(residual);
+                expected.extend(Some(blocking).filter(|_| queue.best_effort_frame > 0));
+                expected.extend([ahead, delay, threshold, backlog, buffer]);
             }
             _ => expected.extend([threshold, buffer]),
         }
@@ -96,7 +100,7 @@ fn compare_flows(registry: &Registry, rows: &mut impl Iterator<Item = Vec<u128>>
     assert_eq!(rows.next().unwrap_or_default(), []);
     for (index, slot) in registry.slots.iter().enumerate() {
         let Some(flow) = slot else { continue };
-        let bounds = sum(flow, &|queue| figures(registry, queue)[5]);
+        let bounds = sum(flow, &|queue| figures(registry, queue)[6]);
         let thresholds = sum(flow, &|queue| u128::from(queue.threshold));
         let mut expected = vec![index as u128 + 1, flow.number.into()];
         expected.push(flow.hops.len() as u128);

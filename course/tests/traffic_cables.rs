@@ -2,13 +2,14 @@
 
 mod common;
 
-use checker::simulate;
-use common::{course as call, Temporary};
+use common::{course as call, tight_hall, Temporary};
 use course::status::Status;
+use course::traffic::frames::Stay;
 use course::traffic::hall::Hall;
 use course::traffic::network::Network;
-use course::traffic::run::{run, Arrivals, Stay, Watch};
+use course::traffic::run::{run, Arrivals};
 use course::traffic::sends;
+use course::traffic::watch::Watch;
 use halls::rng::Rng;
 use halls::tables::table_text;
 use plain::orders::{write_registration, Flow, Hop};
@@ -43,6 +44,7 @@ fn queue(link: u64, ends: (u64, u64), level: u64, fixed_delay: u64) -> Queue {
         threshold: 1_000,
         buffer: 10_000,
         fixed_delay,
+        best_effort_frame: 0,
     }
 }
 
@@ -61,8 +63,8 @@ fn flow(number: u64, frame: u64, links: &[u64], last_level: u64) -> Flow {
 }
 
 fn recorded(hall: &Hall, text: &str) -> Record {
-    let entries = sends::read(text, &hall.flows).unwrap();
-    let list = sends::expand(&entries, &hall.flows, hall.span()).unwrap();
+    let lines = sends::read(text, &hall.flows, &hall.queues).unwrap();
+    let list = sends::expand(&lines, &hall.flows, hall.span()).unwrap();
     let mut record = Record::default();
     let network = Network::new(&hall.queues, &hall.flows);
     run(&network, &list, Arrivals::ForwardedFirst, &mut record);
@@ -168,7 +170,7 @@ fn every_frame_arrives_within_its_deadline() {
     let (mut frames, mut cables) = (0, 0);
     for index in 0..100 {
         let mut rng = Rng::new(201, index);
-        let Some(drawn) = simulate::Hall::random(&mut rng).unwrap() else {
+        let Some(drawn) = tight_hall(&mut rng) else {
             continue;
         };
         let hall = Hall::new(drawn.queues, drawn.flows);

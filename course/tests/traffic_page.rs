@@ -2,10 +2,9 @@
 
 mod common;
 
-use checker::simulate;
 use common::pages::{check, drawn_by, made};
 use common::tags::{well_formed, Tag};
-use common::{course as call, example, Temporary};
+use common::{course as call, example, tight_hall, Temporary};
 use course::hall::make;
 use course::status::Status;
 use halls::rng::Rng;
@@ -86,7 +85,7 @@ fn cables_are_drawn() {
         assert_eq!(instants, drawn);
         // Links 5 and 6 in the map, link 5 above its lanes.
         assert_eq!(made.page.matches(">+120 µs</text>").count(), 2);
-        assert!(made.page.contains("1,000 Mbit/s, cable 120 µs</h2>"));
+        assert!(made.page.contains("1,000 Mbit/s, cable 120 µs"));
         assert!(made
             .page
             .contains(", stay 13 of 300 µs, on the cable to 257</title>"));
@@ -186,7 +185,7 @@ fn pages_of_random_halls_agree_with_their_traces() {
     let mut halls = 0;
     for index in 0..60 {
         let mut rng = Rng::new(3, index);
-        let Some(hall) = simulate::Hall::random(&mut rng).unwrap() else {
+        let Some(hall) = tight_hall(&mut rng) else {
             continue;
         };
         let place = Temporary::new();

@@ -1,13 +1,18 @@
 //! The run beside the checker's, instant by instant, and beside the model's worked run.
 
+mod common;
+
 use checker::sim::{self, Observer};
 use checker::simulate;
+use common::tight_hall;
 use course::traffic::conform::breaches;
 use course::traffic::figures::{Figures, Verdict};
+use course::traffic::frames::{Send, Sends, Stay};
 use course::traffic::hall::Hall;
 use course::traffic::network::Network;
-use course::traffic::run::{run, Arrivals, Send, Stay, Watch};
-use course::traffic::sends::{self, Entry, What};
+use course::traffic::run::{run, Arrivals};
+use course::traffic::sends::{self, Entry, Lines, What};
+use course::traffic::watch::Watch;
 use halls::rng::Rng;
 use halls::sources::{self, Pattern};
 use plain::orders::{Flow, Hop};
@@ -77,14 +82,17 @@ fn random_sends(rng: &mut Rng, flows: &[Flow], span: u64) -> Vec<sources::Send> 
     all
 }
 
-fn of_course(list: &[sources::Send]) -> Vec<Send> {
+fn of_course(list: &[sources::Send]) -> Sends {
     let one = |send: &sources::Send| Send {
         instant: send.instant,
         flow: send.flow,
         bytes: send.bytes,
         line: 1,
     };
-    list.iter().map(one).collect()
+    Sends {
+        frames: list.iter().map(one).collect(),
+        laptops: Vec::new(),
+    }
 }
 
 /// Both runs of one hall in one order of arrivals; the number of stays.
@@ -131,7 +139,7 @@ fn equals_the_checkers_run_at_every_instant() {
     let (mut halls, mut with_cables, mut stays) = (0, 0, 0);
     for index in 0..150 {
         let mut rng = Rng::new(16, index);
-        let Some(hall) = simulate::Hall::random(&mut rng).unwrap() else {
+        let Some(hall) = tight_hall(&mut rng) else {
             continue;
         };
         let span = hall.flows.iter().map(|flow| flow.deadline).max().unwrap();
@@ -157,6 +165,7 @@ fn worked_hall() -> Hall {
         threshold,
         buffer,
         fixed_delay: 0,
+        best_effort_frame: 0,
     };
     let flow = |level, burst| Flow {
         number: level,
@@ -184,13 +193,18 @@ fn has_the_worked_runs_figures() {
         .collect();
     assert_eq!(bounds, [(6, 169), (10, 253)]);
     let text = "0 2 84\n1 2 84\n1 1 84\n2 2 84\n3 1 84\n";
-    let list = sends::expand(&sends::read(text, &hall.flows).unwrap(), &hall.flows, 0).unwrap();
-    assert_eq!(breaches(&hall.flows, &list), []);
-    struct Stays(Vec<(usize, u64, u64, u64)>);
+    let lines = sends::read(text, &hall.flows, &hall.queues).unwrap();
+    let list = sends::expand(&lines, &hall.flows, 0).unwrap();
+    assert_eq!(breaches(&hall.flows, &list.frames), []);
+    struct Stays(Vec<(usize, u64, u64, u128)>);
     impl Watch for Stays {
         fn stay(&mut self, stay: &Stay) {
-            self.0
-                .push((stay.frame.flow, stay.frame.came, stay.gone, stay.first_bit));
+            self.0.push((
+                stay.frame.flow,
+                stay.frame.came,
+                stay.gone,
+                stay.first / 1000,
+            ));
         }
     }
     let mut stays = Stays(Vec::new());
@@ -221,6 +235,7 @@ fn limits_are_met_exactly() {
             threshold,
             buffer,
             fixed_delay: 0,
+            best_effort_frame: 0,
         };
         let flow = Flow {
             number: 7,
@@ -231,8 +246,8 @@ fn limits_are_met_exactly() {
             hops: vec![Hop { link: 1, level: 1 }],
         };
         let hall = Hall::new(vec![queue], vec![flow]);
-        let entries = sends::read("5 7 1542", &hall.flows).unwrap();
-        let list = sends::expand(&entries, &hall.flows, 0).unwrap();
+        let lines = sends::read("5 7 1542", &hall.flows, &hall.queues).unwrap();
+        let list = sends::expand(&lines, &hall.flows, 0).unwrap();
         let mut figures = Figures::new(&hall.queues);
         let network = Network::new(&hall.queues, &hall.flows);
         run(&network, &list, Arrivals::ForwardedFirst, &mut figures);
@@ -253,7 +268,7 @@ fn no_greedy_source_makes_a_frame_late() {
     while halls < 500 {
         let mut rng = Rng::new(500, index);
         index += 1;
-        let Some(drawn) = simulate::Hall::random(&mut rng).unwrap() else {
+        let Some(drawn) = tight_hall(&mut rng) else {
             continue;
         };
         halls += 1;
@@ -267,9 +282,13 @@ fn no_greedy_source_makes_a_frame_late() {
                 what: What::Greedy { to: None },
             })
             .collect();
-        let list = sends::expand(&entries, &hall.flows, hall.span()).unwrap();
-        frames += list.len();
-        assert_eq!(breaches(&hall.flows, &list), [], "hall {index}");
+        let lines = Lines {
+            entries,
+            laptops: Vec::new(),
+        };
+        let list = sends::expand(&lines, &hall.flows, hall.span()).unwrap();
+        frames += list.frames.len();
+        assert_eq!(breaches(&hall.flows, &list.frames), [], "hall {index}");
         let order = match rng.between(0, 2) {
             0 => Arrivals::ForwardedFirst,
             1 => Arrivals::ForwardedLast,

@@ -1,7 +1,7 @@
 //! SENDS as it is read, and conformance.
 
 use course::traffic::conform::{breaches, Breach, What};
-use course::traffic::run::Send;
+use course::traffic::frames::Send;
 use course::traffic::sends::{expand, read, MOST_FRAMES};
 use halls::rng::Rng;
 use halls::sources::{self, Pattern};
@@ -19,9 +19,9 @@ fn flow(number: u64, rate: u64, burst: u64, frame: u64) -> Flow {
 }
 
 fn frames(text: &str, flows: &[Flow]) -> Vec<(u64, u64, u64)> {
-    let list = expand(&read(text, flows).unwrap(), flows, 100).unwrap();
+    let list = expand(&read(text, flows, &[]).unwrap(), flows, 100).unwrap();
     let of = |send: &Send| (send.instant, flows[send.flow].number, send.bytes);
-    list.iter().map(of).collect()
+    list.frames.iter().map(of).collect()
 }
 
 #[test]
@@ -86,7 +86,7 @@ fn greedy_is_the_worst_a_bucket_allows() {
 
 fn mistake(text: &str) -> String {
     let flows = [flow(7, 1_000, 3_084, 1_542)];
-    let found = read(text, &flows).and_then(|entries| expand(&entries, &flows, 100).map(|_| ()));
+    let found = read(text, &flows, &[]).and_then(|lines| expand(&lines, &flows, 100).map(|_| ()));
     found.unwrap_err().to_string()
 }
 
@@ -140,10 +140,8 @@ fn mistakes_are_named_with_line_and_column() {
 }
 
 fn found(text: &str, flows: &[Flow]) -> Vec<Breach> {
-    breaches(
-        flows,
-        &expand(&read(text, flows).unwrap(), flows, 0).unwrap(),
-    )
+    let lines = read(text, flows, &[]).unwrap();
+    breaches(flows, &expand(&lines, flows, 0).unwrap().frames)
 }
 
 #[test]

@@ -23,7 +23,7 @@ pub fn table(text: &[u8]) -> Vec<Mistake> {
             // What comes after a line that couldn't be read can't be out of turn.
             faults.retain(|fault| known || fault.class() <= Class::Range);
             faults.retain(|fault| !agrees(fault, before.as_ref(), earlier.as_ref()));
-            faults
+            lacking_once(faults)
         };
         let reader = Reader {
             faults: &all,
@@ -48,6 +48,17 @@ fn agrees(fault: &Fault, before: Option<&Queue>, earlier: Option<&Queue>) -> boo
     let named = ENTRIES.iter().find(|entry| entry.field.name == fault.field);
     let known = named.map(|entry| (entry.get)(earlier));
     earlier.link == before.link && known == Some(*value)
+}
+
+/// Of the fields that this line lacks, or the one before, only the first: a line that ends too soon lacks all after it.
+fn lacking_once(mut faults: Vec<Fault>) -> Vec<Fault> {
+    let mut seen = [false; 2];
+    faults.retain(|fault| match fault.what {
+        What::Differs { value: 0, .. } => !std::mem::replace(&mut seen[0], true),
+        What::Differs { before: 0, .. } => !std::mem::replace(&mut seen[1], true),
+        _ => true,
+    });
+    faults
 }
 
 /// A line without a byte order mark and CR, so that the next line can be judged after it.

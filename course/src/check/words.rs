@@ -50,6 +50,13 @@ fn turn((link, level): (u64, u64), before: Option<(u64, u64)>) -> String {
     format!("{} is out of turn: {expected}", queue((link, level)))
 }
 
+/// `36, 43 or 48`.
+fn lengths() -> String {
+    let shown = LENGTHS.map(|length| length.to_string());
+    let (last, before) = shown.split_last().expect("a length");
+    format!("{} or {last}", before.join(", "))
+}
+
 fn differs(value: u64, before: u64) -> String {
     // A field that may be 0 is one that a line may lack.
     let lacking = match value.min(before) {
@@ -78,8 +85,7 @@ pub fn words(what: &What) -> String {
             commas(columns)
         ),
         What::Length { columns } => {
-            let right = LENGTHS.map(|length| length.to_string()).join(" or ");
-            format!("the line has {columns} columns, {right} are right")
+            format!("the line has {columns} columns, {} are right", lengths())
         }
         What::Blank => "no number".to_string(),
         What::Byte(found) => byte(*found),

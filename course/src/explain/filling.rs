@@ -47,6 +47,9 @@ pub fn filling(flow: &Flow, answer: Answer, before: &Registry) -> Vec<String> {
     shares.sort_by_key(|(level, _)| *level);
     let filled = Filled { new: flow, shares };
     let burst = |share: &Share| share.share.burst;
+    let of_link = before.queues.iter().find(|queue| queue.link == at.link);
+    let laptop = of_link.map_or(0, |queue| queue.best_effort_frame);
+    let laptop = (laptop > 0).then(|| format!("best-effort frame of the link: {}", commas(laptop)));
     let lines = match answer.code {
         causes::RATE => {
             let title = format!("rates on link {}", at.link);
@@ -64,6 +67,7 @@ pub fn filling(flow: &Flow, answer: Answer, before: &Registry) -> Vec<String> {
                 |level| level >= at.level,
                 |share| share.share.frame,
             ),
+            laptop,
         ],
         _ => Vec::new(),
     };

@@ -2,7 +2,7 @@
 
 use super::filling::filling;
 use crate::numbers::commas;
-use crate::titles::{link_title, queue_name};
+use crate::titles::{blocking_by, link_title, queue_name};
 use plain::causes;
 use plain::formula::{growth, Sums};
 use plain::orders::Flow;
@@ -129,22 +129,21 @@ fn level_sums(link: &LinkWork, level: &LevelWork, refused: Option<Answer>) -> Ve
         return vec![format!("  level {}: empty, not checked", queue.level)];
     };
     let sums = &bounds.sums;
-    let parts = [sums.above, sums.below, sums.own.frame];
-    let mut lines = vec![
-        format!(
-            "  level {}: Res {}, Y {}",
-            queue.level,
-            residual(link, sums),
-            summed(&parts)
-        ),
-        format!(
-            "    delay ceil(8000 × ({} + {}) / {}) = {}",
-            commas(sums.ahead()),
-            commas(sums.own.burst),
-            commas(sums.residual),
-            against(bounds.delay, queue.threshold, "µs")
-        ),
-    ];
+    let parts = [sums.above, sums.under_way(), sums.own.frame];
+    let mut lines = vec![format!(
+        "  level {}: Res {}, Y {}",
+        queue.level,
+        residual(link, sums),
+        summed(&parts)
+    )];
+    lines.extend(blocking(sums));
+    lines.push(format!(
+        "    delay ceil(8000 × ({} + {}) / {}) = {}",
+        commas(sums.ahead()),
+        commas(sums.own.burst),
+        commas(sums.residual),
+        against(bounds.delay, queue.threshold, "µs")
+    ));
     let here = refused.filter(|answer| answer.level == queue.level);
     if here.is_none_or(|answer| answer.code == causes::BACKLOG) {
         lines.push(format!(
@@ -157,6 +156,17 @@ fn level_sums(link: &LinkWork, level: &LevelWork, refused: Option<Answer>) -> Ve
         ));
     }
     lines
+}
+
+/// Y's second part, on a link that laptops share.
+fn blocking(sums: &Sums) -> Option<String> {
+    let (which, _) = blocking_by(sums)?;
+    Some(format!(
+        "    blocking: the larger of {} below and {} best effort = {}, {which}",
+        commas(sums.below),
+        commas(sums.best_effort_frame),
+        commas(sums.under_way())
+    ))
 }
 
 /// `100,000 − 1,600 = 98,400`; the link's whole rate where nothing is above.

@@ -24,7 +24,8 @@ Makes a bottling hall: the same seed gives the same hall. Into FOLDER, which is 
 worksheet.txt, the queues in words and a row to fill in for each order; into FOLDER/solution go answers.txt, the right rows
 as `course mark` reads them, and explained.txt. The orders reach 0, 10 to 17 and 20 to 23; then about half of the flows
 are released, and what was turned away and what was released is registered again. Two halls of three have a long fibre
-run: a link with a fixed delay. Files that exist aren't overwritten.
+run: a link with a fixed delay; one in three has a maintenance port: a link with a best-effort frame. Files that exist
+aren't overwritten.
 
 Exit status: 0; 1 a file that can't be written; 2 usage.",
     words: 0..=0,
@@ -47,7 +48,8 @@ pub fn make(seed: u64) -> Made {
     let mut index = 0;
     loop {
         let mut rng = Rng::new(seed, index);
-        let network = Network::random(&mut rng);
+        let mut network = Network::random(&mut rng);
+        network.plug_in(&mut Rng::new(!seed, index));
         if let Some(orders) = Orders::random(&mut rng, &network) {
             return Made {
                 table: table_text(&network.queues),

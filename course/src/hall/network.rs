@@ -80,6 +80,19 @@ impl Network {
         }
     }
 
+    /// One hall in three has a maintenance port: laptops share the link to the cabinet or to the inspection. Drawn apart, so
+    /// that the other halls stay as they are.
+    pub fn plug_in(&mut self, rng: &mut Rng) {
+        if !rng.once_in(3) {
+            return;
+        }
+        let link = rng.pick(&[self.trunk, self.row]);
+        let longest = rng.pick(&[300, 1_000, LARGEST_FRAME, LARGEST_FRAME]);
+        for queue in self.queues.iter_mut().filter(|queue| queue.link == link) {
+            queue.best_effort_frame = longest;
+        }
+    }
+
     fn add(&mut self, ends: (u64, u64), speed: u64, limits: &[(u64, u64)]) {
         let link = self.queues.last().map_or(1, |queue| queue.link + 1);
         for (index, &(threshold, buffer)) in limits.iter().enumerate() {
@@ -92,6 +105,7 @@ impl Network {
                 threshold,
                 buffer,
                 fixed_delay: 0,
+                best_effort_frame: 0,
             });
         }
     }

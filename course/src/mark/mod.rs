@@ -1,5 +1,6 @@
 //! `course mark`: a trainee's answers, row by row, with the slip that gives a wrong one.
 
+pub mod blocking;
 pub mod sheet;
 pub mod slips;
 
@@ -10,9 +11,8 @@ use crate::numbers::{commas, counted};
 use crate::session::{remark, Session, Step};
 use crate::status::{Outcome, Status};
 use plain::registry::Answer;
-use plain::slips::Slips;
 use sheet::{Row, BOUND_NAMES};
-use slips::{Expected, Followers, Why};
+use slips::{Expected, Followers, Rules, Why};
 use std::ops::RangeInclusive;
 use std::path::Path;
 
@@ -33,9 +33,10 @@ do a worksheet's blanks, `____`. The answers to releases and the other refusals 
 
 Each row is right or wrong; a line of orders.txt without a row is wrong too, but with --lines A-B only lines A to B are
 asked for. A wrong row that is right after the trainee's own earlier rows is named as such. Otherwise, where the
-rules with one of document 01's slips give the row, the slip is named:
+rules with one of the usual slips give the row, the slip is named:
     only the levels below checked; largest frame left on release; first links stored before a refusal at the last;
-    source's burst at every hop; fraction dropped; rounding at each hop.
+    source's burst at every hop; fraction dropped; rounding at each hop;
+    best-effort frame left out, left out at the last level, or added to the frame below.
 
 Exit status: 0 all rows right; 1 a wrong row, a refused batch or an unreadable file or row; 2 usage.",
     words: 2..=2,
@@ -229,7 +230,7 @@ fn summary(marks: &[Mark], right: usize) -> String {
         commas(right),
         counted(marks.len(), "row", "rows")
     );
-    for (name, _) in Slips::EACH {
+    for (name, _) in Rules::each() {
         let fitting = marks.iter().filter(|mark| mark.slips.contains(&name));
         let lines: Vec<String> = fitting.map(|mark| commas(mark.line)).collect();
         if !lines.is_empty() {

@@ -1,7 +1,7 @@
 //! Document 01's "conforms": over instants s to s+t inclusive, 8000 × bytes is at most
 //! 8000 × b + r × t; and frames from 84 bytes to the flow's largest.
 
-use super::run::Send;
+use super::frames::Send;
 use crate::numbers::commas;
 use plain::orders::{Flow, SMALLEST_FRAME};
 use std::fmt;

@@ -1,7 +1,8 @@
 //! What a run showed of each queue, and the verdict.
 
+use super::frames::{BestEffort, Stay};
 use super::hall::Hall;
-use super::run::{Stay, Watch};
+use super::watch::Watch;
 use crate::numbers::commas;
 use plain::table::Queue;
 
@@ -12,6 +13,8 @@ pub struct Seen {
     /// The first of its longest stays.
     pub longest: Option<Stay>,
     pub late: u64,
+    /// The first of those that came with the most left of a laptop's frame under way.
+    pub behind: Option<Stay>,
     /// Bytes, and the first instant with so many.
     pub backlog: u64,
     pub fullest_at: u64,
@@ -27,7 +30,7 @@ impl Seen {
 pub struct Figures<'a> {
     queues: &'a [Queue],
     pub seen: Vec<Seen>,
-    /// The last instant at which a frame reached a next queue or its destination.
+    /// The last instant at which a frame reached a next queue or its destination, or a laptop's had left its link.
     pub end: u64,
 }
 
@@ -45,6 +48,10 @@ impl Watch for Figures<'_> {
         {
             seen.longest = Some(*stay);
         }
+        let left = |stay: &Stay| stay.frame.behind.map_or(0, |behind| behind.left);
+        if left(stay) > seen.behind.as_ref().map_or(0, left) {
+            seen.behind = Some(*stay);
+        }
     }
 
     fn queue(&mut self, queue: usize, instant: u64, _frames: u64, bytes: u64) {
@@ -53,6 +60,10 @@ impl Watch for Figures<'_> {
             seen.backlog = bytes;
             seen.fullest_at = instant;
         }
+    }
+
+    fn best_effort(&mut self, frame: &BestEffort) {
+        self.end = self.end.max(frame.gone);
     }
 }
 

@@ -1,6 +1,6 @@
 //! A hall with the flows that are held after its orders, and the bounds of its queues.
 
-use super::run::Stay;
+use super::frames::Stay;
 use halls::tables::link_levels;
 use plain::formula::{backlog, delay, Aggregate};
 use plain::orders::Flow;
@@ -18,10 +18,10 @@ pub struct Bounds {
 
 /// The bounds of a link's levels with these figures.
 fn link_bounds(link: &[Queue], levels: &[Aggregate]) -> Vec<Option<Bounds>> {
-    let speed = u128::from(link[0].speed);
+    let of_link = link[0].of_link();
     let bounds = |level: usize| Bounds {
-        delay: delay(speed, levels, level) as u64,
-        backlog: backlog(speed, levels, level) as u64,
+        delay: delay(of_link, levels, level) as u64,
+        backlog: backlog(of_link, levels, level) as u64,
     };
     let carries = |level: &usize| !levels[*level].is_empty();
     (0..link.len())
@@ -81,6 +81,11 @@ impl Hall {
     /// Whether a link's cable takes time.
     pub fn has_cables(&self) -> bool {
         self.queues.iter().any(|queue| queue.fixed_delay > 0)
+    }
+
+    /// Whether a laptop may be plugged in somewhere.
+    pub fn has_laptops(&self) -> bool {
+        self.queues.iter().any(|queue| queue.best_effort_frame > 0)
     }
 
     /// `link 1 level 1`.

@@ -2,10 +2,12 @@
 
 use super::conform::{self, Breach};
 use super::figures::{Figures, Seen, Verdict};
+use super::frames::Sends;
 use super::hall::Hall;
 use super::network::Network;
 use super::page::stretch::{Recorder, Stretch};
-use super::run::{self, Arrivals, Send};
+use super::run::{self, Arrivals};
+use super::slots::THOUSAND;
 use super::{page, report, trace, usage, watch};
 use crate::arguments::Arguments;
 use crate::folder::cannot_write;
@@ -26,7 +28,7 @@ pub struct Job<'a> {
     pub arrivals: Arrivals,
     /// The name of SENDS and what it says.
     pub name: String,
-    pub sends: Vec<Send>,
+    pub sends: Sends,
     /// Lines before the report.
     pub preface: String,
     /// What the page is to show.
@@ -72,7 +74,7 @@ fn stretch(from: u64, to: u64) -> Result<Stretch, Outcome> {
 
 impl Job<'_> {
     pub fn run(self) -> Result<Outcome, Outcome> {
-        let breaches = conform::breaches(&self.hall.flows, &self.sends);
+        let breaches = conform::breaches(&self.hall.flows, &self.sends.frames);
         let mut errors: String = breaches
             .iter()
             .map(|breach| format!("{breach}\n"))
@@ -90,11 +92,12 @@ impl Job<'_> {
         let remark = remark(&breaches, &verdict);
         self.write_page(&seen, &verdict, &remark, end)?;
         let printed = format!(
-            "{}{}\n{}\n\n{}\n{}\n",
+            "{}{}\n{}\n\n{}\n{}{}\n",
             self.preface,
             self.summary(),
             remark,
             report::table(&self.hall, &seen),
+            report::delayed(&self.hall, &seen),
             verdict.words(&self.hall, &seen)
         );
         let status = match verdict.kept() {
@@ -108,9 +111,10 @@ impl Job<'_> {
         })
     }
 
-    /// `2 frames of 2 flows; those of one instant: forwarded ones first`.
+    /// `2 frames of 2 flows; those of one instant: forwarded ones first`; before the semicolon the laptops' frames, if any.
     fn summary(&self) -> String {
-        let mut sending: Vec<usize> = self.sends.iter().map(|send| send.flow).collect();
+        let frames = &self.sends.frames;
+        let mut sending: Vec<usize> = frames.iter().map(|send| send.flow).collect();
         sending.sort_unstable();
         sending.dedup();
         let order = match self.arrivals {
@@ -118,9 +122,13 @@ impl Job<'_> {
             Arrivals::ForwardedLast => "forwarded ones last",
             Arrivals::Shuffled(_) => "any order, by the seed",
         };
+        let laptops = match self.sends.laptops.len() {
+            0 => String::new(),
+            count => format!(", {}", counted(count, "laptop's frame", "laptops' frames")),
+        };
         format!(
-            "{} of {}; those of one instant: {order}",
-            counted(self.sends.len(), "frame", "frames"),
+            "{} of {}{laptops}; those of one instant: {order}",
+            counted(frames.len(), "frame", "frames"),
             counted(sending.len(), "flow", "flows")
         )
     }
@@ -133,7 +141,7 @@ impl Job<'_> {
         let failed = |error| cannot_write(Path::new(path.unwrap_or_default()), &error);
         let file = path.map(File::create).transpose().map_err(failed)?;
         let mut trace = file.map(|file| trace::Trace::new(&self.hall, BufWriter::new(file)));
-        let progress = watch::Progress::on_terminal(self.sends.len());
+        let progress = watch::Progress::on_terminal(self.sends.frames.len());
         let mut watch = ((&mut figures, &mut trace), progress);
         run::run(&network, &self.sends, self.arrivals.clone(), &mut watch);
         drop(watch);
@@ -154,7 +162,10 @@ impl Job<'_> {
         let Some(path) = self.arguments.value("--page") else {
             return Ok(());
         };
-        let first = self.sends.first().map_or(0, |send| send.instant);
+        let sent = self.sends.frames.first().map(|send| send.instant);
+        let ready = self.sends.laptops.first();
+        let ready = ready.map(|laptop| laptop.ready / THOUSAND);
+        let first = sent.into_iter().chain(ready).min().unwrap_or(0);
         let whole = Stretch {
             from: first,
             to: end.max(first),

@@ -3,6 +3,7 @@
 
 pub mod conform;
 pub mod figures;
+pub mod frames;
 pub mod hall;
 mod job;
 mod marks;
@@ -14,8 +15,11 @@ pub mod schedule;
 pub mod search;
 mod search_command;
 pub mod sends;
+pub mod slots;
 pub mod trace;
+mod tried;
 pub mod watch;
+mod words;
 
 use crate::arguments::{Arguments, Choice, Command};
 use crate::folder::{read_file, Folder};
@@ -102,8 +106,8 @@ fn prepare(arguments: &Arguments) -> Result<Job<'_>, Outcome> {
         true => search_command::command(arguments, &hall, &arrivals)?,
         false => given(&arguments.words[1])?,
     };
-    let sends = sends::read(&text, &hall.flows)
-        .and_then(|entries| sends::expand(&entries, &hall.flows, hall.span()))
+    let sends = sends::read(&text, &hall.flows, &hall.queues)
+        .and_then(|lines| sends::expand(&lines, &hall.flows, hall.span()))
         .map_err(|mistake| unreadable(format!("{name}:{mistake}")))?;
     Ok(Job {
         arguments,

@@ -45,6 +45,11 @@ impl Network {
             routes,
         }
     }
+
+    /// Bits per µs of a link.
+    pub fn speed(&self, link: usize) -> u64 {
+        self.senders[link].speed
+    }
 }
 
 fn route(queues: &[Queue], flow: &Flow) -> Vec<usize> {

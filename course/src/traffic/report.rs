@@ -1,8 +1,9 @@
 //! The table of a run: what was seen of each queue beside its bound and limits.
 
 use super::figures::Seen;
+use super::frames::Stay;
 use super::hall::Hall;
-use super::run::Stay;
+use super::slots::micros;
 use crate::bounds::aligned;
 use crate::numbers::commas;
 
@@ -67,4 +68,30 @@ pub fn table(hall: &Hall, seen: &[Seen]) -> String {
         .lines()
         .map(|line| format!("{}\n", line.trim_end()))
         .collect()
+}
+
+/// `behind a laptop's frame, 12.335 of 12.336 µs left`; nothing where none was under way.
+pub fn behind(hall: &Hall, stay: &Stay) -> Option<String> {
+    let speed = hall.queues[stay.queue].speed;
+    let found = stay.frame.behind?;
+    let (left, whole) = (micros(found.left, speed), micros(found.whole, speed));
+    Some(format!(
+        "behind a laptop's frame, {left} of {whole} µs left"
+    ))
+}
+
+/// For each queue the frame that had the most of a laptop's before it.
+pub fn delayed(hall: &Hall, seen: &[Seen]) -> String {
+    let worst = seen.iter().filter_map(|seen| seen.behind);
+    let line = |stay: Stay| {
+        let words = behind(hall, &stay).unwrap_or_default();
+        format!(
+            "{}: flow {} frame {} came at {} {words}\n",
+            hall.place(stay.queue),
+            hall.flows[stay.frame.flow].number,
+            commas(stay.frame.number),
+            commas(stay.frame.came)
+        )
+    };
+    worst.map(line).collect()
 }

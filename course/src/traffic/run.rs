@@ -1,41 +1,15 @@
 //! Document 01's run, from one instant at which something happens to the next. Nothing arrives
 //! inside an interval, so a link's frames in it follow from what waits at its start: only the last
-//! bit of each frame counts, not every bit.
+//! bit of each frame counts, not every bit. A laptop's frame may start inside it.
 
+use super::frames::{Behind, BestEffort, Frame, Laptop, Send, Sends, Stay};
 use super::marks::Marks;
 use super::network::Network;
+use super::slots::{self, Slots, THOUSAND};
+use super::watch::Watch;
 use halls::rng::Rng;
 use std::cmp::Reverse;
 use std::collections::{BinaryHeap, VecDeque};
-
-/// A frame on its way.
-#[derive(Clone, Copy, Debug, PartialEq)]
-pub struct Frame {
-    pub flow: usize,
-    /// Counted from 1 in the order in which the flow's source sends.
-    pub number: u64,
-    pub hop: usize,
-    pub bytes: u64,
-    /// The instant at which it reached its queue.
-    pub came: u64,
-}
-
-/// A frame's stay in one queue.
-#[derive(Clone, Copy, Debug, PartialEq)]
-pub struct Stay {
-    pub frame: Frame,
-    pub queue: usize,
-    /// Its first bit: bits that the link could have sent since instant 0.
-    pub first_bit: u64,
-    /// The instant at which it has left.
-    pub gone: u64,
-}
-
-impl Stay {
-    pub fn length(&self) -> u64 {
-        self.gone - self.frame.came
-    }
-}
 
 /// In which order the arrivals of one instant are appended.
 #[derive(Clone)]
@@ -45,44 +19,33 @@ pub enum Arrivals {
     Shuffled(Rng),
 }
 
-/// A frame that a source adds.
-#[derive(Clone, Copy, Debug, PartialEq)]
-pub struct Send {
-    pub instant: u64,
-    /// Index among the held flows.
-    pub flow: usize,
-    pub bytes: u64,
-    /// The line of SENDS that asks for it.
-    pub line: usize,
+/// What is sent on a link.
+#[derive(Clone, Copy, PartialEq)]
+enum Sending {
+    /// The first frame of a queue.
+    Queued(usize),
+    /// A laptop's, which is in no queue.
+    BestEffort,
 }
 
-/// Who looks on.
-pub trait Watch {
-    /// A frame has left.
-    fn stay(&mut self, _stay: &Stay) {}
-    /// A queue that a frame left or reached at this instant, after the instant's arrivals. A frame
-    /// under way counts whole.
-    fn queue(&mut self, _queue: usize, _instant: u64, _frames: u64, _bytes: u64) {}
-    /// An instant is done; so many frames of the sources have been added so far.
-    fn instant(&mut self, _instant: u64, _sent: usize) {}
-}
-
-/// The queue of the frame under way, its first bit and the bit after its last.
+/// What is under way, when its first bit is sent and when its last.
 #[derive(Clone, Copy)]
 struct UnderWay {
-    queue: usize,
-    first_bit: u64,
-    end_bit: u64,
+    what: Sending,
+    first: Slots,
+    end: Slots,
 }
 
-/// What a link does; its frame under way is the first of its queue.
+/// What a link does.
 #[derive(Default)]
 struct Wire {
     under_way: Option<UnderWay>,
     /// Frames whose last bit is sent before the next instant, with their first bit.
-    leaving: Vec<(usize, u64, Frame)>,
+    leaving: Vec<(usize, Slots, Frame)>,
     /// Frames that have left, in no queue until they come to their next one.
     on_cable: VecDeque<Frame>,
+    /// Laptops' frames that are ready, or are before the next instant.
+    laptops: VecDeque<Laptop>,
 }
 
 struct Run<'a> {
@@ -101,21 +64,22 @@ struct Run<'a> {
     awake: Marks,
 }
 
-/// Runs from empty queues and cables until every frame has left its last queue. `sends` is sorted by instant.
-pub fn run(network: &Network, sends: &[Send], mut order: Arrivals, watch: &mut impl Watch) {
+/// Runs from empty queues and cables until every frame has left its last queue, and every laptop's its link.
+pub fn run(network: &Network, sends: &Sends, mut order: Arrivals, watch: &mut impl Watch) {
     let mut run = Run::new(network);
-    let mut next = 0;
+    let (mut frames, mut laptops) = (sends.frames.as_slice(), sends.laptops.as_slice());
     loop {
-        let sent = sends.get(next).map(|send| send.instant);
-        let Some(now) = run.next_instant().into_iter().chain(sent).min() else {
+        let sent = frames.first().map(|send| send.instant);
+        let ready = laptops.first().map(|laptop| laptop.ready / THOUSAND);
+        let sources = sent.into_iter().chain(ready);
+        let Some(now) = run.next_instant().into_iter().chain(sources).min() else {
             break;
         };
         run.depart(now, watch);
         run.hand_on(now);
         let forwarded = run.arriving.len();
-        while let Some(send) = sends.get(next).filter(|send| send.instant == now) {
+        while let Some(send) = taken(&mut frames, |send| send.instant == now) {
             run.add(send);
-            next += 1;
         }
         match &mut order {
             Arrivals::ForwardedFirst => {}
@@ -123,11 +87,23 @@ pub fn run(network: &Network, sends: &[Send], mut order: Arrivals, watch: &mut i
             Arrivals::Shuffled(rng) => rng.shuffle(&mut run.arriving),
         }
         run.arrive(now, watch);
-        for link in run.awake.take() {
-            run.serve(link, now);
+        while let Some(laptop) = taken(&mut laptops, |laptop| laptop.ready / THOUSAND == now) {
+            run.plug_in(laptop);
         }
-        watch.instant(now, next);
+        for link in run.awake.take() {
+            run.serve(link, now, watch);
+        }
+        watch.instant(now, sends.frames.len() - frames.len());
     }
+}
+
+/// The first of a list, taken from it, where it is wanted.
+fn taken<'a, T>(list: &mut &'a [T], wanted: impl Fn(&T) -> bool) -> Option<&'a T> {
+    let (first, rest) = list.split_first()?;
+    wanted(first).then(|| {
+        *list = rest;
+        first
+    })
 }
 
 /// The lowest link that is listed for this instant, taken from the list.
@@ -171,20 +147,21 @@ impl<'a> Run<'a> {
             let reached = now + self.network.senders[link].fixed_delay;
             let wire = &mut self.wires[link];
             let on_cable = wire.on_cable.len();
-            for (queue, first_bit, frame) in std::mem::take(&mut wire.leaving) {
+            for (queue, first, frame) in std::mem::take(&mut wire.leaving) {
                 self.frames[queue] -= 1;
                 self.bytes[queue] -= frame.bytes;
                 self.changed.add(queue);
                 watch.stay(&Stay {
                     frame,
                     queue,
-                    first_bit,
+                    first,
                     gone: now,
                 });
                 if frame.hop + 1 < self.network.routes[frame.flow].len() {
                     wire.on_cable.push_back(Frame {
                         hop: frame.hop + 1,
                         came: reached,
+                        behind: None,
                         ..frame
                     });
                 }
@@ -213,19 +190,30 @@ impl<'a> Run<'a> {
             hop: 0,
             bytes: send.bytes,
             came: send.instant,
+            behind: None,
         });
+    }
+
+    /// A laptop's frame is ready before the next instant.
+    fn plug_in(&mut self, laptop: &Laptop) {
+        let wire = &mut self.wires[laptop.link];
+        wire.laptops.push_back(*laptop);
+        if wire.under_way.is_none() {
+            self.awake.add(laptop.link);
+        }
     }
 
     /// Appends what arrives. A link that sends already goes on with its frame.
     fn arrive(&mut self, now: u64, watch: &mut impl Watch) {
-        for frame in self.arriving.drain(..) {
+        for mut frame in self.arriving.drain(..) {
             let queue = self.network.routes[frame.flow][frame.hop];
             let link = self.network.sender_of[queue];
             self.frames[queue] += 1;
             self.bytes[queue] += frame.bytes;
             self.changed.add(queue);
-            if self.wires[link].under_way.is_none() {
-                self.awake.add(link);
+            match self.wires[link].under_way {
+                None => self.awake.add(link),
+                Some(under_way) => frame.behind = behind(&under_way, now, self.network.speed(link)),
             }
             self.waiting[queue].push_back(frame);
         }
@@ -234,40 +222,73 @@ impl<'a> Run<'a> {
         }
     }
 
-    /// One link from this instant to the next: a free link takes the first frame of the
-    /// lowest-numbered level that has one, also in mid-interval.
-    fn serve(&mut self, link: usize, now: u64) {
-        let sender = &self.network.senders[link];
-        let wire = &mut self.wires[link];
-        let end = (now + 1) * sender.speed;
-        let mut free_from = now * sender.speed;
+    /// One link from this instant to the next: what is under way goes on, then a free link takes what
+    /// waits, also in mid-interval.
+    fn serve(&mut self, link: usize, now: u64, watch: &mut impl Watch) {
+        let speed = self.network.speed(link);
+        let end = slots::before(now + 1, speed);
+        let mut free_from = slots::before(now, speed);
         while free_from < end {
-            let taken = wire.under_way.or_else(|| {
-                let queue = sender
-                    .queues
-                    .clone()
-                    .find(|&queue| !self.waiting[queue].is_empty())?;
-                Some(UnderWay {
-                    queue,
-                    first_bit: free_from,
-                    end_bit: free_from + 8 * self.waiting[queue][0].bytes,
-                })
-            });
-            wire.under_way = taken.filter(|frame| frame.end_bit > end);
-            let Some(done) = taken.filter(|frame| frame.end_bit <= end) else {
+            let under_way = self.wires[link].under_way.take();
+            let Some(sent) = under_way.or_else(|| self.take(link, free_from, watch)) else {
                 break;
             };
-            if let Some(frame) = self.waiting[done.queue].pop_front() {
-                wire.leaving.push((done.queue, done.first_bit, frame));
+            free_from = sent.end;
+            let wire = &mut self.wires[link];
+            if sent.end > end {
+                wire.under_way = Some(sent);
+            } else if let Sending::Queued(queue) = sent.what {
+                let frame = self.waiting[queue].pop_front();
+                wire.leaving
+                    .extend(frame.map(|frame| (queue, sent.first, frame)));
             }
-            free_from = done.end_bit;
         }
-        if !wire.leaving.is_empty() {
-            self.due.push(Reverse((now + 1, link)));
-        } else if let Some(frame) = wire.under_way {
+        let wire = &self.wires[link];
+        match wire.under_way {
             // The interval in which its last bit is sent; what waits then decides what follows.
-            let last = frame.end_bit.div_ceil(sender.speed) - 1;
-            self.due.push(Reverse((last, link)));
+            Some(sent) if wire.leaving.is_empty() => {
+                let last = slots::instant_after(sent.end, speed) - 1;
+                self.due.push(Reverse((last, link)));
+            }
+            // Nothing to send: a frame that comes wakes it.
+            None if free_from < end && wire.leaving.is_empty() => {}
+            _ => self.due.push(Reverse((now + 1, link))),
         }
     }
+
+    /// What a free link takes: the first frame of the lowest-numbered level that has one; where none
+    /// waits, a laptop's as soon as it is ready.
+    fn take(&mut self, link: usize, free_from: Slots, watch: &mut impl Watch) -> Option<UnderWay> {
+        let mut queues = self.network.senders[link].queues.clone();
+        if let Some(queue) = queues.find(|&queue| !self.waiting[queue].is_empty()) {
+            return Some(UnderWay {
+                what: Sending::Queued(queue),
+                first: free_from,
+                end: free_from + slots::sending(self.waiting[queue][0].bytes),
+            });
+        }
+        let laptop = self.wires[link].laptops.pop_front()?;
+        let speed = self.network.speed(link);
+        let first = free_from.max(slots::before_moment(laptop.ready, speed));
+        let end = first + slots::sending(laptop.bytes);
+        let gone = slots::instant_after(end, speed);
+        watch.best_effort(&BestEffort {
+            laptop,
+            first,
+            gone,
+        });
+        Some(UnderWay {
+            what: Sending::BestEffort,
+            first,
+            end,
+        })
+    }
+}
+
+/// What is left of a laptop's frame under way at an instant.
+fn behind(under_way: &UnderWay, now: u64, speed: u64) -> Option<Behind> {
+    (under_way.what == Sending::BestEffort).then(|| Behind {
+        left: under_way.end - slots::before(now, speed),
+        whole: under_way.end - under_way.first,
+    })
 }

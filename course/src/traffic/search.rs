@@ -1,35 +1,25 @@
 //! Looks for the longest stay: takes one queue after the other, lets conforming sources meet there,
-//! and changes one source after the other.
+//! and changes one source after the other, or when a laptop sends.
 
 use super::figures::{greater_share, Figures};
+use super::frames::{Sends, Stay};
 use super::hall::Hall;
 use super::network::Network;
-use super::run::{run, Arrivals, Send, Stay};
+use super::run::{run, Arrivals};
+use super::tried::{longest_frames, Source, Tried};
 use crate::numbers::{commas, counted};
 use halls::rng::Rng;
-use halls::sources::{sends, Pace, Pattern, Sizes};
-use plain::orders::{Flow, SMALLEST_FRAME};
+use halls::sources::Pattern;
+use plain::orders::Flow;
 use std::time::Instant;
 
 /// So many changes without a longer stay end a climb.
 const PATIENCE: u32 = 60;
-/// One run of fast sources on slow queues would else take all the time.
-const MOST_FRAMES: u64 = 100_000;
-
-/// How one source sends; the seed draws what the pattern leaves open.
-#[derive(Clone, Copy)]
-struct Source {
-    pattern: Pattern,
-    seed: u64,
-}
-
-/// A source for each flow, or none that sends.
-type Sources = Vec<Option<Source>>;
 
 /// The longest stay found so far, and the frames that led to it.
 pub struct Best {
     pub stay: Stay,
-    pub sends: Vec<Send>,
+    pub sends: Sends,
 }
 
 /// How long to go on.
@@ -45,34 +35,10 @@ pub struct Search<'a> {
     rng: Rng,
     /// The queues that are looked at.
     targets: Vec<usize>,
+    /// The links that laptops share.
+    ports: Vec<usize>,
     pub tries: u64,
     pub best: Option<Best>,
-}
-
-/// The frames of these sources by instant; each keeps to its bucket by how it is made.
-fn frames(hall: &Hall, sources: &Sources) -> Vec<Send> {
-    let started = sources.iter().flatten().map(|source| source.pattern.start);
-    let until = started.max().unwrap_or(0) + (2 * hall.span()).min(longest_run(hall));
-    let mut all = Vec::new();
-    for (index, source) in sources.iter().enumerate() {
-        let Some(source) = source else { continue };
-        let mut rng = Rng::new(source.seed, 0);
-        let list = sends(&mut rng, index, &hall.flows[index], source.pattern, until);
-        all.extend(list.iter().map(|send| Send {
-            instant: send.instant,
-            flow: index,
-            bytes: send.bytes,
-            line: 0,
-        }));
-    }
-    all.sort_by_key(|send| send.instant);
-    all
-}
-
-/// The µs in which all sources together send about so many frames at most, beside their bursts.
-fn longest_run(hall: &Hall) -> u64 {
-    let rates: u64 = hall.flows.iter().map(|flow| flow.rate).sum();
-    MOST_FRAMES * SMALLEST_FRAME * 8000 / rates.max(1)
 }
 
 impl<'a> Search<'a> {
@@ -85,7 +51,10 @@ impl<'a> Search<'a> {
     ) -> Search<'a> {
         let carries = |&queue: &usize| hall.bounds[queue].is_some();
         let all = (0..hall.queues.len()).filter(carries).collect();
+        let longest = longest_frames(hall);
+        let shared = |&link: &usize| longest[link] > 0;
         Search {
+            ports: (0..longest.len()).filter(shared).collect(),
             targets: only.map_or(all, |queue| vec![queue]),
             hall,
             network: Network::new(&hall.queues, &hall.flows),
@@ -99,15 +68,15 @@ impl<'a> Search<'a> {
     /// Climbs at one queue after the other until the limits are met; `tell` hears of each climb.
     pub fn climb_all(&mut self, limits: &Limits, mut tell: impl FnMut(&Search)) {
         let targets = self.targets.clone();
-        let mut known: Vec<Option<Sources>> = vec![None; self.hall.queues.len()];
+        let mut known: Vec<Option<Tried>> = vec![None; self.hall.queues.len()];
         while !targets.is_empty() && !self.over(limits) {
             for &queue in &targets {
                 if self.best.is_some() && self.over(limits) {
                     break;
                 }
                 let start = match known[queue].take() {
-                    Some(sources) if !self.rng.once_in(3) => sources,
-                    _ => self.aligned(queue),
+                    Some(tried) if !self.rng.once_in(3) => tried,
+                    _ => Tried::aligned(self.hall, queue),
                 };
                 known[queue] = Some(self.climb(queue, start, limits));
                 tell(self);
@@ -120,9 +89,9 @@ impl<'a> Search<'a> {
     }
 
     /// One run; what is longest of all is kept.
-    fn stay_at(&mut self, queue: usize, sources: &Sources) -> u64 {
+    fn stay_at(&mut self, queue: usize, tried: &Tried) -> u64 {
         self.tries += 1;
-        let list = frames(self.hall, sources);
+        let list = tried.sends(self.hall);
         let mut figures = Figures::new(&self.hall.queues);
         run(&self.network, &list, self.arrivals.clone(), &mut figures);
         let threshold = |stay: &Stay| self.hall.queues[stay.queue].threshold;
@@ -140,29 +109,54 @@ impl<'a> Search<'a> {
         figures.seen[queue].stay()
     }
 
-    fn climb(&mut self, queue: usize, mut sources: Sources, limits: &Limits) -> Sources {
+    fn climb(&mut self, queue: usize, mut best: Tried, limits: &Limits) -> Tried {
         let link = self.hall.queues[queue].link;
         let crosses = |flow: &Flow| flow.hops.iter().any(|hop| hop.link == link);
-        let near: Vec<usize> = (0..sources.len())
+        let near: Vec<usize> = (0..best.sources.len())
             .filter(|&flow| crosses(&self.hall.flows[flow]))
             .collect();
-        let mut longest = self.stay_at(queue, &sources);
+        let mut longest = self.stay_at(queue, &best);
         let mut since = 0;
         while since < PATIENCE && !self.over(limits) {
-            let tried = self.changed(&sources, &near);
+            let tried = match !self.ports.is_empty() && self.rng.once_in(4) {
+                true => self.laptop_changed(&best, link),
+                false => self.changed(&best, &near),
+            };
             let stay = self.stay_at(queue, &tried);
             since = if stay > longest { 0 } else { since + 1 };
             if stay >= longest {
                 longest = stay;
-                sources = tried;
+                best = tried;
             }
         }
-        sources
+        best
+    }
+
+    /// The same but for one laptop, most often the link's own.
+    fn laptop_changed(&mut self, best: &Tried, link: u64) -> Tried {
+        let mut changed = best.clone();
+        let span = self.hall.span();
+        let rng = &mut self.rng;
+        let own = link as usize - 1;
+        let port = match self.ports.contains(&own) && !rng.once_in(4) {
+            true => own,
+            false => rng.pick(&self.ports),
+        };
+        changed.laptops[port] = match changed.laptops[port] {
+            Some(before) if !rng.once_in(4) => {
+                let reach = rng.pick(&[2, 10, 100, span / 4]).max(1);
+                Some((before + rng.between(0, 2 * reach)).saturating_sub(reach))
+            }
+            Some(_) if rng.once_in(4) => None,
+            _ => Some(rng.between(0, 2 * span)),
+        };
+        changed
     }
 
     /// The same sources but one, most often one of a flow that crosses the link.
-    fn changed(&mut self, sources: &Sources, near: &[usize]) -> Sources {
-        let mut changed = sources.clone();
+    fn changed(&mut self, best: &Tried, near: &[usize]) -> Tried {
+        let mut tried = best.clone();
+        let changed = &mut tried.sources;
         let span = self.hall.span();
         let rng = &mut self.rng;
         let index = match rng.once_in(4) {
@@ -183,41 +177,7 @@ impl<'a> Search<'a> {
                 seed: rng.draw(),
             }),
         };
-        changed
-    }
-
-    /// Sources that meet at one queue: greedy ones, those of levels below a µs before, so that a
-    /// frame of theirs is under way.
-    fn aligned(&mut self, queue: usize) -> Sources {
-        let target = &self.hall.queues[queue];
-        let base = self.hall.span();
-        let flows = self.hall.flows.iter();
-        flows
-            .map(|flow| {
-                let below =
-                    |hop: &plain::orders::Hop| hop.link == target.link && hop.level > target.level;
-                let before =
-                    self.travel(flow, target.link) + u64::from(flow.hops.iter().any(below));
-                let pattern = Pattern {
-                    start: (base + 1).saturating_sub(before),
-                    sizes: Sizes::Largest,
-                    pace: Pace::Greedy,
-                };
-                Some(Source { pattern, seed: 0 })
-            })
-            .collect()
-    }
-
-    /// The µs that a lone frame takes to a link.
-    fn travel(&self, flow: &Flow, link: u64) -> u64 {
-        let mut micros = 0;
-        for hop in flow.hops.iter().take_while(|hop| hop.link != link) {
-            let of_link = self.hall.queues.iter().find(|queue| queue.link == hop.link);
-            micros += of_link.map_or(0, |queue| {
-                (8 * flow.frame).div_ceil(queue.speed) + queue.fixed_delay
-            });
-        }
-        micros
+        tried
     }
 }
 

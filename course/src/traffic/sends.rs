@@ -1,32 +1,18 @@
-//! SENDS: what the sources send, a line for each frame, group of frames or greedy source.
+//! SENDS: what the sources and the laptops send, a line for each frame, group of frames or greedy source.
 
-use super::run::Send;
+use super::frames::{Laptop, Send, Sends};
+use super::slots::THOUSAND;
+use super::words::{Mistake, Words, MOST_INSTANT};
 use crate::numbers::commas;
-use crate::rows::{rows, Word};
+use crate::rows::rows;
 use halls::rng::Rng;
 use halls::sources::{sends, Pace, Pattern, Sizes};
-use plain::orders::{Flow, NUMBER};
-use std::fmt;
+use plain::orders::Flow;
+use plain::table::Queue;
 
-/// Far beyond any run that is looked at; keeps every product within 64 bits.
-const MOST_INSTANT: u64 = 1_000_000_000_000;
 const MOST_BYTES: u64 = 65_535;
 /// What is held in memory at once.
 pub const MOST_FRAMES: u64 = 5_000_000;
-
-/// Why SENDS can't be read, and where.
-#[derive(Debug, PartialEq)]
-pub struct Mistake {
-    pub line: usize,
-    pub column: usize,
-    pub what: String,
-}
-
-impl fmt::Display for Mistake {
-    fn fmt(&self, out: &mut fmt::Formatter) -> fmt::Result {
-        write!(out, "{}:{}: {}", self.line, self.column, self.what)
-    }
-}
 
 #[derive(Clone, Copy, Debug, PartialEq)]
 pub enum What {
@@ -36,7 +22,7 @@ pub enum What {
     Greedy { to: Option<u64> },
 }
 
-/// One line of SENDS.
+/// A line of SENDS about a flow.
 #[derive(Clone, Copy, Debug, PartialEq)]
 pub struct Entry {
     pub line: usize,
@@ -45,111 +31,38 @@ pub struct Entry {
     pub what: What,
 }
 
-/// The words of one line, each with its column.
-struct Words<'a> {
-    line: usize,
-    end: usize,
-    words: Vec<Word<'a>>,
-    next: usize,
+/// The lines of SENDS: those about flows, and the laptops'.
+#[derive(Clone, Debug, Default, PartialEq)]
+pub struct Lines {
+    pub entries: Vec<Entry>,
+    pub laptops: Vec<Laptop>,
 }
 
-impl<'a> Words<'a> {
-    fn of(line: usize, words: Vec<Word<'a>>) -> Words<'a> {
-        let end = words
-            .last()
-            .map_or(1, |(column, word)| column + word.chars().count());
-        Words {
-            line,
-            end,
-            words,
-            next: 0,
-        }
-    }
-
-    fn peek(&self) -> Option<&'a str> {
-        self.words.get(self.next).map(|&(_, word)| word)
-    }
-
-    /// A mistake at the word that comes next, or at the end of the line.
-    fn mistake<T>(&self, what: String) -> Result<T, Mistake> {
-        let column = self
-            .words
-            .get(self.next)
-            .map_or(self.end, |&(column, _)| column);
-        Err(Mistake {
-            line: self.line,
-            column,
-            what,
-        })
-    }
-
-    /// Passes a word that must or may stand here.
-    fn keyword(&mut self, word: &str) -> bool {
-        let there = self.peek() == Some(word);
-        self.next += usize::from(there);
-        there
-    }
-
-    fn number(&mut self, name: &str, least: u64, most: u64) -> Result<u64, Mistake> {
-        let Some(word) = self.peek() else {
-            return self.mistake(format!("{name}: missing"));
-        };
-        if word.contains([',', '.', '\'', '_']) {
-            return self.mistake(format!(
-                "{name}: `{word}`: digits alone, without separators"
-            ));
-        }
-        if !word.bytes().all(|byte| byte.is_ascii_digit()) {
-            return self.mistake(format!("{name}: `{word}` is no number"));
-        }
-        match word.parse::<u64>() {
-            Ok(number) if (least..=most).contains(&number) => {
-                self.next += 1;
-                Ok(number)
-            }
-            _ => self.mistake(format!(
-                "{name}: {word} is out of range ({} to {})",
-                commas(least),
-                commas(most)
-            )),
-        }
-    }
-
-    /// The index of a held flow.
-    fn flow(&mut self, flows: &[Flow]) -> Result<usize, Mistake> {
-        let (least, most) = NUMBER.ranges[0];
-        let number = self.number("flow", least, most)?;
-        match flows.iter().position(|flow| flow.number == number) {
-            Some(index) => Ok(index),
-            None => {
-                self.next -= 1;
-                self.mistake(format!("flow {number} isn't held after the orders"))
-            }
-        }
-    }
-
-    fn end(&self) -> Result<(), Mistake> {
-        match self.peek() {
-            None => Ok(()),
-            Some(word) => self.mistake(format!("`{word}` isn't expected here")),
-        }
-    }
-}
-
-/// The lines of SENDS over the held flows.
-pub fn read(text: &str, flows: &[Flow]) -> Result<Vec<Entry>, Mistake> {
-    let mut entries = Vec::new();
+/// The lines of SENDS over the held flows and the table's links.
+pub fn read(text: &str, flows: &[Flow], queues: &[Queue]) -> Result<Lines, Mistake> {
+    let mut lines = Lines::default();
     for (line, words) in rows(text) {
         let mut words = Words::of(line, words);
-        let entry = if words.keyword("greedy") {
-            read_greedy(&mut words, flows)?
+        if words.keyword("laptop") {
+            lines.laptops.push(read_laptop(&mut words, queues)?);
+        } else if words.keyword("greedy") {
+            lines.entries.push(read_greedy(&mut words, flows)?);
         } else {
-            read_group(&mut words, flows)?
-        };
+            lines.entries.push(read_group(&mut words, flows)?);
+        }
         words.end()?;
-        entries.push(entry);
     }
-    Ok(entries)
+    Ok(lines)
+}
+
+fn read_laptop(words: &mut Words, queues: &[Queue]) -> Result<Laptop, Mistake> {
+    let link = words.port(queues)?;
+    Ok(Laptop {
+        link,
+        ready: words.moment()?,
+        bytes: words.laptop_bytes(queues, link)?,
+        line: words.line,
+    })
 }
 
 fn read_greedy(words: &mut Words, flows: &[Flow]) -> Result<Entry, Mistake> {
@@ -244,30 +157,52 @@ impl Entry {
     }
 }
 
-/// A greedy source without an end goes on until this instant: the last one that SENDS names, and
-/// after it twice the longest sum of thresholds and fixed delays along a path.
-fn horizon(entries: &[Entry], span: u64) -> u64 {
-    entries.iter().map(Entry::last).max().unwrap_or(0) + 2 * span
+impl Lines {
+    /// A greedy source without an end goes on until this instant: the last one that SENDS names, and
+    /// after it twice the longest sum of thresholds and fixed delays along a path.
+    fn horizon(&self, span: u64) -> u64 {
+        let laptops = self.laptops.iter();
+        let ready = laptops.map(|laptop| laptop.ready.div_ceil(THOUSAND));
+        let named = self.entries.iter().map(Entry::last).chain(ready);
+        named.max().unwrap_or(0) + 2 * span
+    }
+
+    /// Where there are more frames than are held at once.
+    fn too_many(&self, flows: &[Flow], horizon: u64) -> Option<Mistake> {
+        let of_flows = self.entries.iter().map(|entry| {
+            let frames = entry.frames(&flows[entry.flow], horizon);
+            (entry.line, frames)
+        });
+        let laptops = self.laptops.iter().map(|laptop| (laptop.line, 1));
+        let mut sum = 0u64;
+        let mut all = of_flows.chain(laptops);
+        let past = |(_, frames): &(usize, u64)| {
+            sum = sum.saturating_add(*frames);
+            sum > MOST_FRAMES
+        };
+        let (line, _) = all.find(past)?;
+        Some(Mistake {
+            line,
+            column: 1,
+            what: format!("more than {} frames up to this line", commas(MOST_FRAMES)),
+        })
+    }
 }
 
-/// All frames by instant, those of one instant in the order of the lines.
-pub fn expand(entries: &[Entry], flows: &[Flow], span: u64) -> Result<Vec<Send>, Mistake> {
-    let horizon = horizon(entries, span);
-    let mut frames = 0u64;
-    for entry in entries {
-        frames = frames.saturating_add(entry.frames(&flows[entry.flow], horizon));
-        if frames > MOST_FRAMES {
-            return Err(Mistake {
-                line: entry.line,
-                column: 1,
-                what: format!("more than {} frames up to this line", commas(MOST_FRAMES)),
-            });
-        }
+/// All frames by their time, those of one instant in the order of the lines.
+pub fn expand(lines: &Lines, flows: &[Flow], span: u64) -> Result<Sends, Mistake> {
+    let horizon = lines.horizon(span);
+    if let Some(mistake) = lines.too_many(flows, horizon) {
+        return Err(mistake);
     }
-    let mut list = Vec::new();
-    for entry in entries {
-        entry.expand(&flows[entry.flow], horizon, &mut list);
+    let mut all = Sends {
+        frames: Vec::new(),
+        laptops: lines.laptops.clone(),
+    };
+    for entry in &lines.entries {
+        entry.expand(&flows[entry.flow], horizon, &mut all.frames);
     }
-    list.sort_by_key(|send| send.instant);
-    Ok(list)
+    all.frames.sort_by_key(|send| send.instant);
+    all.laptops.sort_by_key(|laptop| laptop.ready);
+    Ok(all)
 }

@@ -1,9 +1,22 @@
-//! Several who look on at once, and progress on a terminal.
+//! Who looks on at a run: several at once, and progress on a terminal.
 
-use super::run::{Stay, Watch};
+use super::frames::{BestEffort, Stay};
 use crate::numbers::commas;
 use std::io::{IsTerminal, Write};
 use std::time::{Duration, Instant};
+
+/// Who looks on.
+pub trait Watch {
+    /// A frame has left.
+    fn stay(&mut self, _stay: &Stay) {}
+    /// A queue that a frame left or reached at this instant, after the instant's arrivals. A frame
+    /// under way counts whole.
+    fn queue(&mut self, _queue: usize, _instant: u64, _frames: u64, _bytes: u64) {}
+    /// A free link takes a laptop's frame.
+    fn best_effort(&mut self, _frame: &BestEffort) {}
+    /// An instant is done; so many frames of the sources have been added so far.
+    fn instant(&mut self, _instant: u64, _sent: usize) {}
+}
 
 impl<A: Watch, B: Watch> Watch for (A, B) {
     fn stay(&mut self, stay: &Stay) {
@@ -14,6 +27,11 @@ impl<A: Watch, B: Watch> Watch for (A, B) {
     fn queue(&mut self, queue: usize, instant: u64, frames: u64, bytes: u64) {
         self.0.queue(queue, instant, frames, bytes);
         self.1.queue(queue, instant, frames, bytes);
+    }
+
+    fn best_effort(&mut self, frame: &BestEffort) {
+        self.0.best_effort(frame);
+        self.1.best_effort(frame);
     }
 
     fn instant(&mut self, instant: u64, sent: usize) {
@@ -31,6 +49,10 @@ impl<W: Watch> Watch for &mut W {
         (**self).queue(queue, instant, frames, bytes);
     }
 
+    fn best_effort(&mut self, frame: &BestEffort) {
+        (**self).best_effort(frame);
+    }
+
     fn instant(&mut self, instant: u64, sent: usize) {
         (**self).instant(instant, sent);
     }
@@ -46,6 +68,12 @@ impl<W: Watch> Watch for Option<W> {
     fn queue(&mut self, queue: usize, instant: u64, frames: u64, bytes: u64) {
         if let Some(watch) = self {
             watch.queue(queue, instant, frames, bytes);
+        }
+    }
+
+    fn best_effort(&mut self, frame: &BestEffort) {
+        if let Some(watch) = self {
+            watch.best_effort(frame);
         }
     }
 

@@ -2,10 +2,15 @@
 #![allow(dead_code)]
 
 pub mod pages;
+pub mod ports;
+pub mod runs;
+pub mod slow;
 pub mod tags;
 
+use checker::simulate;
 use course::folder::Folder;
 use course::status::{Outcome, Status};
+use halls::rng::Rng;
 use std::fs;
 use std::path::{Path, PathBuf};
 use std::sync::atomic::{AtomicU64, Ordering};
@@ -34,6 +39,11 @@ pub fn hall_folder(table: &[u8], orders: &[u8]) -> Folder {
         table: table.to_vec(),
         orders: orders.to_vec(),
     }
+}
+
+/// A hall whose limits are the bounds of its flows; none where no short one was drawn.
+pub fn tight_hall(rng: &mut Rng) -> Option<simulate::Hall> {
+    simulate::Hall::random(rng).unwrap_or_else(|failure| panic!("{failure}"))
 }
 
 /// What `check` says of these two texts, without the count in its last line.

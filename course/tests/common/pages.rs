@@ -7,16 +7,28 @@ use course::status::{Outcome, Status};
 use course::traffic::trace::COLUMNS;
 use std::collections::{BTreeMap, BTreeSet};
 
-/// A trace's columns: flow, frame, link, level, came, started, bit, gone, stay, threshold, bytes, reached.
-pub type Row = [u64; 12];
+/// A trace's columns: flow, frame, link, level, came, started, bit, gone, stay, threshold, bytes, reached, behind. Bits and
+/// what is left of a laptop's frame are in thousandths here.
+pub type Row = [u64; 13];
+
+/// What stands in a column.
+fn value(column: &str, word: &str) -> u64 {
+    if !["bit", "behind"].contains(&column) {
+        return word.parse().unwrap();
+    }
+    let (whole, part) = word.split_once('.').unwrap_or((word, "0"));
+    assert!(part.len() <= 3, "{word}");
+    1000 * whole.parse::<u64>().unwrap() + format!("{part:0<3}").parse::<u64>().unwrap()
+}
 
 fn trace_rows(text: &str) -> Vec<Row> {
     let mut lines = text.lines();
     let header =
-        "flow\tframe\tlink\tlevel\tcame\tstarted\tbit\tgone\tstay\tthreshold\tbytes\treached";
+        "flow\tframe\tlink\tlevel\tcame\tstarted\tbit\tgone\tstay\tthreshold\tbytes\treached\tbehind";
     assert_eq!(lines.next(), Some(header));
     let row = |line: &str| {
-        let numbers: Vec<u64> = line.split('\t').map(|word| word.parse().unwrap()).collect();
+        let words = COLUMNS.iter().zip(line.split('\t'));
+        let numbers: Vec<u64> = words.map(|(name, word)| value(name, word)).collect();
         Row::try_from(numbers).unwrap()
     };
     lines.map(row).collect()
@@ -27,7 +39,7 @@ fn trace_rows(text: &str) -> Vec<Row> {
 fn figures(rows: &[Row]) -> BTreeMap<(u64, u64), (u64, u64)> {
     let mut found: BTreeMap<(u64, u64), (u64, u64)> = BTreeMap::new();
     for row in rows {
-        let [_, _, link, level, came, _, _, gone, stay, _, _, _] = *row;
+        let [_, _, link, level, came, _, _, gone, stay, _, _, _, _] = *row;
         assert_eq!(stay, gone - came);
         let held = rows.iter().filter(|other| {
             (other[2], other[3]) == (link, level) && (other[4]..other[7]).contains(&came)
@@ -89,7 +101,7 @@ fn frames_agree(made: &Made, tags: &[Tag]) {
     let drawn: BTreeSet<Row> = tags
         .iter()
         .filter(|tag| tag.get("class") == Some("frame"))
-        .map(|tag| COLUMNS.map(|name| tag.number(&format!("data-{name}"))))
+        .map(|tag| COLUMNS.map(|name| value(name, tag.get(&format!("data-{name}")).unwrap())))
         .collect();
     let meeting = made
         .rows

@@ -2,12 +2,15 @@
 
 use super::charts::{backlog, time, Scale, LEFT, RIGHT};
 use super::colours;
-use super::stretch::{Recorder, Stretch};
+use super::laptops;
+use super::stretch::Recorder;
 use super::svg::{Drawing, Rect};
 use crate::numbers::commas;
 use crate::traffic::figures::Seen;
+use crate::traffic::frames::Stay;
 use crate::traffic::hall::Hall;
-use crate::traffic::run::Stay;
+use crate::traffic::report::behind;
+use crate::traffic::slots::{micros, Slots};
 use crate::traffic::trace;
 
 const ROW: f64 = 11.0;
@@ -58,15 +61,17 @@ pub fn link(
         let greatest = seen[queue].backlog;
         y = backlog(&mut lanes.drawing, scale, limits, shown, greatest, y + 5.0) + 12.0;
     }
+    let first = &hall.queues[queues[0]];
+    y = laptops::lane(&mut lanes.drawing, scale, first, recorder, y);
     y = time(&mut lanes.drawing, scale, y);
-    let Stretch { from, to } = scale.stretch;
-    let name = format!(
-        "link {}, instants {} to {}",
-        hall.queues[queues[0]].link,
-        commas(from),
-        commas(to)
-    );
+    let ends = [scale.stretch.from, scale.stretch.to].map(commas);
+    let name = format!("link {}, instants {}", first.link, ends.join(" to "));
     lanes.drawing.finish(y, &name)
+}
+
+/// A time on a link as an instant with its fraction, for drawing alone.
+pub fn instant(slots: Slots, speed: u64) -> f64 {
+    slots as f64 / (1000.0 * speed as f64)
 }
 
 /// The row of each stay: the first one that is free again, where a row is taken until the
@@ -101,7 +106,7 @@ impl Lanes<'_> {
     fn lane(&mut self, queue: usize, top: f64) -> f64 {
         let (limits, shown) = (&self.hall.queues[queue], &self.recorder.shown[queue]);
         let mut stays = shown.stays.clone();
-        stays.sort_by_key(|stay| (stay.frame.came, stay.first_bit));
+        stays.sort_by_key(|stay| (stay.frame.came, stay.first));
         let rows = rows(self.hall, &stays, limits.threshold);
         // Two rows at least: the lane's name and threshold stand beside it.
         let count = rows.iter().max().map_or(2, |row| (row + 1).max(2)) as f64;
@@ -142,26 +147,23 @@ impl Lanes<'_> {
             .map(|(name, value)| format!(" data-{name}=\"{value}\""))
             .collect();
         self.drawing.raw(&format!("<g class=\"frame\"{data}>"));
-        let of_speed = |bits: u64| bits as f64 / queue.speed as f64;
-        let sent = (
-            of_speed(stay.first_bit),
-            of_speed(stay.first_bit + 8 * stay.frame.bytes),
-        );
+        let times = [stay.first, stay.end()];
+        let [first, end] = times.map(|time| micros(time, queue.speed));
+        let laptop = behind(self.hall, stay).map_or(String::new(), |words| format!(", {words}"));
         let cable = match queue.fixed_delay {
             0 => String::new(),
             _ => format!(", on the cable to {}", commas(self.hall.reached(stay))),
         };
         self.drawing.raw(&format!(
-            "<title>flow {number} frame {}, {} bytes: came {}, sent from {:.2} to {:.2}, stay {} of {} µs{cable}</title>",
+            "<title>flow {number} frame {}, {} bytes: came {}{laptop}, sent from {first} to {end}, stay {} of {} µs{cable}</title>",
             commas(stay.frame.number),
             commas(stay.frame.bytes),
             commas(stay.frame.came),
-            sent.0,
-            sent.1,
             commas(stay.length()),
             commas(queue.threshold)
         ));
-        self.bars(stay, sent, (y, height));
+        let [first, end] = times.map(|time| instant(time, queue.speed));
+        self.bars(stay, (first, end), (y, height));
         self.cable(stay, y + height / 2.0);
         self.drawing.raw("</g>");
     }

@@ -1,6 +1,7 @@
 //! The hall's map: nodes, links, and of each queue the share of its threshold that was used.
 
 use super::colours;
+use super::laptops;
 use super::places::{places, Spot};
 use super::svg::{Drawing, Rect, WIDTH};
 use crate::numbers::{commas, per_cent};
@@ -127,10 +128,18 @@ pub fn cable(link: &Queue) -> Option<String> {
     (delay > 0).then(|| format!("{} µs", commas(delay)))
 }
 
-/// The height of a link's box: a row for each level, and one for its cable.
+/// What stands below the levels of a link: its cable's time, and the longest frame of a laptop. There is no room for a word
+/// before them, nor for a blank.
+fn further(link: &Queue) -> Vec<String> {
+    let cable = cable(link).map(|delay| format!("+{delay}"));
+    let laptop = laptops::longest(link).map(|bytes| format!("≤{bytes}"));
+    cable.into_iter().chain(laptop).collect()
+}
+
+/// The height of a link's box: a row for each level, and one for each thing more.
 fn tall(hall: &Hall, queues: &[usize]) -> f64 {
-    let cable = cable(&hall.queues[queues[0]]);
-    14.0 + ROW * (queues.len() + usize::from(cable.is_some())) as f64
+    let more = further(&hall.queues[queues[0]]).len();
+    14.0 + ROW * (queues.len() + more) as f64
 }
 
 pub fn map(hall: &Hall, seen: &[Seen]) -> String {
@@ -220,7 +229,7 @@ fn bold(size: f64) -> String {
     format!("style=\"font-size:{size}px\" font-weight=\"bold\" text-anchor=\"middle\"")
 }
 
-/// The link's number, a row for each level and what its cable takes.
+/// The link's number, a row for each level, what its cable takes, and the longest frame of a laptop.
 fn draw_box(
     drawing: &mut Drawing,
     hall: &Hall,
@@ -239,10 +248,9 @@ fn draw_box(
         let y = top + 13.0 + row as f64 * ROW;
         draw_share(drawing, hall, queue, seen[queue].stay(), (x, y));
     }
-    if let Some(delay) = cable(&hall.queues[queues[0]]) {
-        let look = "class=\"tiny\" text-anchor=\"middle\"";
-        // No room for a word before the longest, nor for a blank.
-        drawing.text((spot.x, top + high - 3.0), look, &format!("+{delay}"));
+    for (row, words) in further(&hall.queues[queues[0]]).iter().rev().enumerate() {
+        let y = top + high - 3.0 - row as f64 * ROW;
+        drawing.text((spot.x, y), "class=\"tiny\" text-anchor=\"middle\"", words);
     }
 }
 

@@ -4,6 +4,7 @@
 mod charts;
 mod colours;
 mod lanes;
+mod laptops;
 mod map;
 mod places;
 pub mod stretch;
@@ -11,9 +12,10 @@ mod svg;
 
 use super::figures::{Seen, Verdict};
 use super::hall::Hall;
-use super::report::{rows, HEADINGS};
+use super::report::{delayed, rows, HEADINGS};
 use crate::numbers::commas;
 use plain::orders::Flow;
+use plain::table::Queue;
 use stretch::{Recorder, Stretch};
 use svg::escape;
 
@@ -43,14 +45,19 @@ pub fn page(
     );
     html += &format!(
         "<section>\n<h2>The hall</h2>\n<p>At each link, level by level, the longest stay in per cent of the threshold{}.</p>\n",
-        match hall.has_cables() {
-            true => "; below, after a +, what its cable takes",
-            false => "",
+        match (hall.has_cables(), hall.has_laptops()) {
+            (true, true) => "; below, after a +, what its cable takes, and after a ≤ the longest frame of a laptop",
+            (true, false) => "; below, after a +, what its cable takes",
+            (false, true) => "; below, after a ≤, the longest frame of a laptop",
+            (false, false) => "",
         }
     );
     html += &map::map(hall, seen);
     html += "</section>\n<section>\n<h2>Every queue that carries a flow</h2>\n";
     html += &table(hall, seen, verdict);
+    for line in delayed(hall, seen).lines() {
+        html += &format!("<p class=\"delayed\">{}</p>\n", escape(&capital(line)));
+    }
     html += "</section>\n";
     html += &drawings(hall, seen, verdict, recorder);
     html + "</body>\n</html>\n"
@@ -98,11 +105,15 @@ fn drawings(hall: &Hall, seen: &[Seen], verdict: &Verdict, recorder: &Recorder) 
     let mut html = format!(
         "<section id=\"stretch\" data-from=\"{from}\" data-to=\"{to}\">\n<h2>Instants {} to {}</h2>\n\
          <p>A lane for each level: a frame waits in the light shade of its flow and is sent in the dark one. The grey bar behind it is its threshold, \
-         the black line its end; the frame with a black edge comes closest. {}Below, the bytes in the queue; the dashed line is the buffer.</p>\n",
+         the black line its end; the frame with a black edge comes closest. {}{}Below, the bytes in the queue; the dashed line is the buffer.</p>\n",
         commas(from),
         commas(to),
         match hall.has_cables() {
             true => "The dotted line after a frame is its time on the cable, in no queue. ",
+            false => "",
+        },
+        match hall.has_laptops() {
+            true => "Laptops' frames are grey, in a lane of their own, for they are in no queue. ",
             false => "",
         }
     );
@@ -111,18 +122,12 @@ fn drawings(hall: &Hall, seen: &[Seen], verdict: &Verdict, recorder: &Recorder) 
     let mut empty = Vec::new();
     for queues in hall.links() {
         let first = &hall.queues[queues[0]];
-        if queues.iter().all(|&queue| hall.bounds[queue].is_none()) {
+        let idle = recorder.laptops[first.link as usize - 1].is_empty();
+        if idle && queues.iter().all(|&queue| hall.bounds[queue].is_none()) {
             empty.push(first.link.to_string());
             continue;
         }
-        html += &format!(
-            "<section>\n<h2>Link {}, node {} to {}, {} Mbit/s{}</h2>\n",
-            first.link,
-            first.from,
-            first.to,
-            commas(first.speed),
-            map::cable(first).map_or(String::new(), |delay| format!(", cable {delay}"))
-        );
+        html += &format!("<section>\n<h2>{}</h2>\n", heading(first));
         html += &lanes::link(hall, seen, recorder, verdict.closest.as_ref(), &queues);
         html += "</section>\n";
     }
@@ -133,7 +138,22 @@ fn drawings(hall: &Hall, seen: &[Seen], verdict: &Verdict, recorder: &Recorder) 
     }
 }
 
-/// The flows that are seen in the stretch.
+/// `Link 5, node 4 to 6, 1,000 Mbit/s, cable 120 µs, laptops to 1,542 B`.
+fn heading(link: &Queue) -> String {
+    let cable = map::cable(link).map(|delay| format!(", cable {delay}"));
+    let laptops = laptops::longest(link).map(|bytes| format!(", laptops to {bytes}"));
+    format!(
+        "Link {}, node {} to {}, {} Mbit/s{}{}",
+        link.link,
+        link.from,
+        link.to,
+        commas(link.speed),
+        cable.unwrap_or_default(),
+        laptops.unwrap_or_default()
+    )
+}
+
+/// The flows that are seen in the stretch, and the laptops.
 fn legend(hall: &Hall, recorder: &Recorder) -> String {
     let mut html = String::from("<ul class=\"flows\">\n");
     for (index, flow) in hall.flows.iter().enumerate() {
@@ -145,6 +165,9 @@ fn legend(hall: &Hall, recorder: &Recorder) -> String {
             "<li><span class=\"swatch\" style=\"background:{}\"></span><span class=\"swatch\" style=\"background:{}\"></span> {}</li>\n",
             colours::waiting(index), colours::sending(index), flow_words(flow)
         );
+    }
+    if recorder.laptops.iter().any(|frames| !frames.is_empty()) {
+        html += "<li><span class=\"swatch laptops\"></span> laptops' frames, best effort; a thin line while one waits</li>\n";
     }
     html + "</ul>\n"
 }

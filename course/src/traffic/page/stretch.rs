@@ -1,7 +1,9 @@
 //! The part of a run that is drawn, and what is kept of it.
 
+use crate::traffic::frames::{BestEffort, Stay};
 use crate::traffic::hall::Hall;
-use crate::traffic::run::{Stay, Watch};
+use crate::traffic::slots::THOUSAND;
+use crate::traffic::watch::Watch;
 
 /// More frames than this in one lane can't be told apart.
 const MOST_DRAWN: usize = 1_000;
@@ -60,6 +62,9 @@ pub struct Recorder<'a> {
     hall: &'a Hall,
     closest: Option<Stay>,
     pub shown: Vec<Shown>,
+    /// Laptops' frames, by link, and those that there was no room for.
+    pub laptops: Vec<Vec<BestEffort>>,
+    pub more_laptops: Vec<usize>,
 }
 
 impl Recorder<'_> {
@@ -69,6 +74,8 @@ impl Recorder<'_> {
             hall,
             closest,
             shown: vec![Shown::default(); hall.queues.len()],
+            laptops: vec![Vec::new(); hall.links().len()],
+            more_laptops: vec![0; hall.links().len()],
         }
     }
 }
@@ -83,6 +90,20 @@ impl Watch for Recorder<'_> {
         match shown.stays.len() < MOST_DRAWN || self.closest.as_ref() == Some(stay) {
             true => shown.stays.push(*stay),
             false => shown.more += 1,
+        }
+    }
+
+    fn best_effort(&mut self, frame: &BestEffort) {
+        let link = frame.laptop.link;
+        if !self
+            .stretch
+            .meets(frame.laptop.ready / THOUSAND, frame.gone)
+        {
+            return;
+        }
+        match self.laptops[link].len() < MOST_DRAWN {
+            true => self.laptops[link].push(*frame),
+            false => self.more_laptops[link] += 1,
         }
     }
 

@@ -1,0 +1,135 @@
+//! Best-effort frames in a table's lines: what `check` says of each typing mistake.
+
+mod common;
+
+use common::said;
+use course::numbers::commas;
+use plain::table::{write_queue_in, Queue, LENGTHS};
+
+/// A level of a link, with a fixed delay and a best-effort frame.
+fn queue(level: u64, best_effort_frame: u64) -> Queue {
+    Queue {
+        link: 1,
+        from: 1,
+        to: 2,
+        speed: 100,
+        level,
+        threshold: 1_000,
+        buffer: 16_000,
+        fixed_delay: 120,
+        best_effort_frame,
+    }
+}
+
+/// A table line without its LF, of 43 columns.
+fn start(level: u64) -> String {
+    let line = String::from_utf8(write_queue_in(&queue(level, 0), 43)).unwrap();
+    line.trim_end().to_string()
+}
+
+/// What `check` says of two lines with these bytes after their fixed delays.
+fn with_frames(first: &str, second: &str) -> Vec<String> {
+    let table = format!("{}{first}\n{}{second}\n", start(1), start(2));
+    said(table.as_bytes(), b"")
+}
+
+/// What `check` says of the second line with these bytes after its fixed delay, where the first has 1,000.
+fn of_second(more: &str, words: &[&str]) {
+    let places: Vec<String> = words
+        .iter()
+        .map(|words| format!("table.txt:2:{words}"))
+        .collect();
+    assert_eq!(with_frames(" 1000", more), places, "{more}");
+}
+
+#[test]
+fn best_effort_frames() {
+    for right in ["", "    0", "   84", " 1542"] {
+        assert!(with_frames(right, right).is_empty(), "{right}");
+    }
+    assert!(with_frames("", "    0").is_empty());
+    let lacking = "44: best-effort frame: 0 differs from 1,000 in the line before, of the same link; a line without these columns means 0";
+    of_second("", &[lacking]);
+    of_second("    0", &[lacking]);
+    let other =
+        "44: best-effort frame: 1,001 differs from 1,000 in the line before, of the same link";
+    of_second(" 1001", &[other]);
+    of_second("1,000", &["45: best-effort frame: a comma"]);
+    of_second("01000", &["44: best-effort frame: a leading zero"]);
+    of_second(
+        "1000 ",
+        &["48: best-effort frame: a blank right of a digit"],
+    );
+    of_second("     ", &["44: best-effort frame: no number"]);
+    for outside in [1, 83, 1_543] {
+        let words = format!(
+            "44: best-effort frame: {} is out of range, 0 or 84 to 1,542",
+            commas(outside)
+        );
+        let field = format!("{outside:>5}");
+        let told = [1, 2].map(|line| format!("table.txt:{line}:{words}"));
+        assert_eq!(with_frames(&field, &field), told);
+    }
+}
+
+/// Too few or too many blanks before it, and what is too long.
+#[test]
+fn misplaced_best_effort_frames() {
+    for (more, words) in [
+        ("1000", "1 column too few"),
+        ("  1000", "1 column too many"),
+        ("    1000", "3 columns too many"),
+    ] {
+        let place = format!("44: best-effort frame: {words} before its number");
+        of_second(more, &[&place]);
+    }
+    of_second(
+        " 1000 ",
+        &["49: 1 column too many: the line has 49, 48 are right"],
+    );
+    of_second(
+        "  x",
+        &[
+            "46: best-effort frame: a letter, `x`",
+            "47: the line has 46 columns, 36, 43 or 48 are right",
+        ],
+    );
+}
+
+/// A line that ends too soon lacks one field or two: one mistake, whichever line it is.
+#[test]
+fn a_line_that_lacks_its_last_fields_is_one_mistake() {
+    let full = queue(1, 1_542);
+    for (length, column) in [(36, 37), (43, 44)] {
+        for (lacking, told) in [(1, 2), (2, 2), (3, 3)] {
+            let line = |level: u64| {
+                let own = Queue {
+                    level,
+                    ..full.clone()
+                };
+                let columns = if level == lacking { length } else { 48 };
+                write_queue_in(&own, columns)
+            };
+            let table: Vec<u8> = (1..=3).flat_map(line).collect();
+            let said = said(&table, b"");
+            assert_eq!(said.len(), 1, "{said:?}");
+            let place = format!("table.txt:{told}:{column}: ");
+            assert!(said[0].starts_with(&place), "{said:?}");
+        }
+    }
+}
+
+/// Two lines in one, of all lengths.
+#[test]
+fn a_missing_line_end_within_a_table() {
+    for first in LENGTHS {
+        for second in LENGTHS {
+            let mut table = write_queue_in(&queue(1, 84), first);
+            table.pop();
+            table.extend(write_queue_in(&queue(2, 84), second));
+            let words = "another line begins here: the LF before it is missing";
+            let place = format!("table.txt:1:{}: {words}", first + 1);
+            assert_eq!(said(&table, b""), [place]);
+        }
+    }
+}

@@ -1,0 +1,183 @@
+//! Laptops in SENDS, and what the command says and finds of them.
+
+mod common;
+
+use common::pages::drawn_by;
+use common::ports::{ports, two_flows};
+use common::{course as call, example, Temporary};
+use course::numbers::commas;
+use course::status::Status;
+use std::fs;
+
+/// What is said of SENDS on the example hall.
+fn mistake(sends: &str) -> String {
+    let folder = Temporary::new();
+    let path = folder.write("sends.txt", sends.as_bytes());
+    let outcome = call(&["traffic", &example("hall"), &path]);
+    assert_eq!(outcome.status, Status::Wrong, "{sends}");
+    let start = format!("{path}:");
+    let words = outcome.errors.strip_prefix(start.as_str()).unwrap();
+    words.lines().next().unwrap().to_string()
+}
+
+/// What is said of each SENDS; the instant's words are the same.
+const MISTAKES: [(&str, &str); 9] = [
+    (
+        "laptop 3 1 100\n",
+        "1:8: no laptop may be plugged in here: the table gives link 3 no best-effort frame",
+    ),
+    (
+        "laptop 9 1 100\n",
+        "1:8: the table has no link 9: it has 8 links",
+    ),
+    (
+        "laptop 65 1 100\n",
+        "1:8: link: 65 is out of range (1 to 64)",
+    ),
+    ("laptop 5 1\n", "1:11: bytes: missing"),
+    ("laptop 5 1 x\n", "1:12: bytes: `x` is no number"),
+    ("laptop 5\n", "1:9: instant: missing"),
+    (
+        "laptop 5 1000000000000 100\n",
+        "1:10: instant: 1000000000000 isn't below 1,000,000,000,000",
+    ),
+    ("laptop 5 1 100 x 2\n", "1:16: `x` isn't expected here"),
+    (
+        "# a flow's\n1.5 101 200\n",
+        "2:1: instant: `1.5`: digits alone, without separators",
+    ),
+];
+
+#[test]
+fn laptop_lines_are_judged() {
+    for (sends, words) in MISTAKES {
+        assert_eq!(mistake(sends), words, "{sends}");
+    }
+    let most = ports()[0].best_effort_frame;
+    for (bytes, words) in [
+        (0, format!("0 is out of range (1 to {})", commas(most))),
+        (
+            most + 1,
+            format!(
+                "too long: the table gives link 5 a best-effort frame of {}",
+                commas(most)
+            ),
+        ),
+    ] {
+        let sends = format!("laptop 5 1 {bytes}\n");
+        assert_eq!(mistake(&sends), format!("1:12: bytes: {words}"));
+    }
+    for instant in ["1.2345", "1,5", ".5", "5.", "-1", "1.5.5", "1.x"] {
+        let words = format!(
+            "1:10: instant: `{instant}`: µs, up to three decimals behind a point, as 99.999"
+        );
+        assert_eq!(mistake(&format!("laptop 5 {instant} 100\n")), words);
+    }
+}
+
+/// The example's frame waits for a laptop's and no longer than its bound; without the laptops it doesn't wait.
+#[test]
+fn the_example_delays_a_frame() {
+    let sends = fs::read_to_string(example("hall/laptop.txt")).unwrap();
+    let quiet: String = sends
+        .lines()
+        .filter(|line| !line.starts_with("laptop"))
+        .map(|line| format!("{line}\n"))
+        .collect();
+    let folder = Temporary::new();
+    let quiet = folder.write("quiet.txt", quiet.as_bytes());
+    let run = |path: &str| {
+        let outcome = call(&["traffic", &example("hall"), path]);
+        assert_eq!(outcome.status, Status::Fine, "{}", outcome.errors);
+        let seen = row(&outcome.printed, "5.1");
+        (outcome.printed, seen)
+    };
+    let (printed, loud) = run(&example("hall/laptop.txt"));
+    let (without, silent) = run(&quiet);
+    let port = &ports()[0];
+    // A thousandth of a µs of the laptop's frame is over; both frames are sent, up to the next instant.
+    let micros = |bytes: u64| 8_000 * bytes / port.speed;
+    let stay = (micros(port.best_effort_frame) - 1 + micros(200)).div_ceil(1_000);
+    assert_eq!((loud[0], silent[0]), (stay, micros(200).div_ceil(1_000)));
+    assert!(stay <= loud[1], "{printed}");
+    let words = "link 5 level 1: flow 101 frame 1 came at 48 behind a laptop's frame, 12.335 of 12.336 µs left\n";
+    assert!(printed.contains(words), "{printed}");
+    assert!(printed.starts_with("1 frame of 1 flow, 2 laptops' frames; those of one instant: "));
+    assert!(!without.contains("laptop"), "{without}");
+}
+
+/// The longest stay and the bound that a run's table has of a queue, as `5.1`.
+fn row(printed: &str, queue: &str) -> [u64; 2] {
+    let (link, level) = queue.split_once('.').unwrap();
+    let start = format!("{link:>6}  {level:>5} ");
+    let found = printed.lines().find(|line| line.starts_with(&start));
+    let mut words = found.unwrap().split_whitespace().skip(2);
+    [(); 2].map(|()| words.next().unwrap().parse().unwrap())
+}
+
+/// The longest stay that a search finds at a queue, and its SENDS, which give it again; nothing is late.
+fn longest(hall: &str, queue: &str) -> (u64, String) {
+    let folder = Temporary::new();
+    let out = folder.0.join("out").display().to_string();
+    let options = "--search --seconds 600 --tries 400 --queue";
+    let mut words = vec!["traffic", hall];
+    words.extend(options.split(' ').chain([queue, "--out", &out]));
+    let found = call(&words);
+    assert_eq!(found.status, Status::Fine, "{}", found.errors);
+    let stay = found.printed.split_once("longest ").unwrap().1;
+    let stay: u64 = stay.split(' ').next().unwrap().parse().unwrap();
+    let again = call(&["traffic", hall, &out]);
+    assert_eq!(again.printed.lines().last(), found.printed.lines().last());
+    assert_eq!(row(&again.printed, queue)[0], stay, "{queue}");
+    (stay, fs::read_to_string(&out).unwrap())
+}
+
+/// With laptops the search comes nearer to the bound, at the last level by a whole frame.
+#[test]
+fn the_search_uses_laptops() {
+    let micros = |frames: u64| (frames * 8 * 1_542).div_ceil(100);
+    for (queue, without, with) in [
+        ("1.1", micros(2) - 1, micros(2)),
+        ("1.2", micros(2), micros(3)),
+    ] {
+        let (stay, sends) = longest(&two_flows(0).word(), queue);
+        assert_eq!(stay, without, "{sends}");
+        assert!(!sends.contains("laptop"));
+        let (stay, sends) = longest(&two_flows(1_542).word(), queue);
+        assert_eq!(stay, with, "{sends}");
+        let just_before = |line: &str| line.starts_with("laptop 1 ") && line.ends_with(".999 1542");
+        assert!(sends.lines().any(just_before), "{sends}");
+    }
+}
+
+/// The sheet's exercise: a laptop's frame just before both flows' frames, and one at their instant, which goes last.
+#[test]
+fn the_sheets_laptop() {
+    let folder = two_flows(1_542);
+    let micros = |frames: u64| (frames * 8 * 1_542).div_ceil(100);
+    for (ready, before) in [("0.999", 1), ("1", 0)] {
+        let sends = format!("laptop 1 {ready} 1542\n1 7 1542\n1 8 1542\n");
+        let sends = folder.write("sends.txt", sends.as_bytes());
+        let drawn = drawn_by(&folder, &folder.word(), &sends, Status::Fine, call);
+        let seen = ["1.1", "1.2"].map(|queue| row(&drawn.printed, queue));
+        let stays = [micros(before + 1), micros(before + 2)];
+        assert_eq!(seen, [[stays[0], 371], [stays[1], 499]], "{ready}");
+    }
+}
+
+/// The example hall's port: more of the bound is used with laptops than without.
+#[test]
+fn the_search_of_the_hall() {
+    let table = fs::read_to_string(example("hall/table.txt")).unwrap();
+    let quiet: String = table
+        .lines()
+        .map(|line| format!("{}\n", &line[..line.len().min(43)]))
+        .collect();
+    let orders = fs::read(example("hall/orders.txt")).unwrap();
+    let folder = Temporary::with(quiet.as_bytes(), &orders);
+    for queue in ["5.1", "5.2"] {
+        let (with, _) = longest(&example("hall"), queue);
+        let (without, _) = longest(&folder.word(), queue);
+        assert!(with > without, "{queue}: {with} {without}");
+    }
+}
