@@ -2,29 +2,23 @@
 
 mod common;
 
-use common::said;
+use common::{places, said};
 use course::numbers::commas;
-use plain::table::{write_queue_in, Queue, LENGTHS};
-
-/// A level of a link, with a fixed delay and a best-effort frame.
-fn queue(level: u64, best_effort_frame: u64) -> Queue {
-    Queue {
-        link: 1,
-        from: 1,
-        to: 2,
-        speed: 100,
-        level,
-        threshold: 1_000,
-        buffer: 16_000,
-        fixed_delay: 120,
-        best_effort_frame,
-    }
-}
+use plain::table::{read_table, write_queue_in, Queue, LENGTHS};
 
 /// A table line without its LF, of 43 columns.
 fn start(level: u64) -> String {
-    let line = String::from_utf8(write_queue_in(&queue(level, 0), 43)).unwrap();
-    line.trim_end().to_string()
+    format!("   1   1   2   100{level:>2}   1000    16000    120")
+}
+
+/// A level of a link, with a fixed delay and a best-effort frame.
+fn queue(level: u64, best_effort_frame: u64) -> Queue {
+    let first = read_table(format!("{}\n", start(1)).as_bytes()).unwrap();
+    Queue {
+        level,
+        best_effort_frame,
+        ..first[0].clone()
+    }
 }
 
 /// What `check` says of two lines with these bytes after their fixed delays.
@@ -35,11 +29,7 @@ fn with_frames(first: &str, second: &str) -> Vec<String> {
 
 /// What `check` says of the second line with these bytes after its fixed delay, where the first has 1,000.
 fn of_second(more: &str, words: &[&str]) {
-    let places: Vec<String> = words
-        .iter()
-        .map(|words| format!("table.txt:2:{words}"))
-        .collect();
-    assert_eq!(with_frames(" 1000", more), places, "{more}");
+    assert_eq!(with_frames(" 1000", more), places(2, words), "{more}");
 }
 
 #[test]

@@ -2,7 +2,7 @@
 
 mod common;
 
-use common::{course, said, Temporary};
+use common::{course, places, said, Temporary};
 use std::fs;
 
 const TABLE: &str = "   1   1   2   100 1    250     4000\n   1   1   2   100 2   1000    16000\n";
@@ -18,11 +18,7 @@ fn with_delays(first: &str, second: &str) -> Vec<String> {
 
 /// What `check` says of the second line with these bytes after its buffer, where the first has a fixed delay of 250 µs.
 fn of_second(more: &str, words: &[&str]) {
-    let places: Vec<String> = words
-        .iter()
-        .map(|words| format!("table.txt:2:{words}"))
-        .collect();
-    assert_eq!(with_delays("    250", more), places, "{more}");
+    assert_eq!(with_delays("    250", more), places(2, words), "{more}");
 }
 
 /// A fixed delay is right, missing in one line of a link, out of range, or no number.

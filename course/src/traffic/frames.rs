@@ -2,49 +2,6 @@
 
 use super::slots::{sending, Slots};
 
-/// A laptop's frame that was under way when a frame came: what was left of it, and the whole of it.
-#[derive(Clone, Copy, Debug, PartialEq)]
-pub struct Behind {
-    pub left: Slots,
-    pub whole: Slots,
-}
-
-/// A frame on its way.
-#[derive(Clone, Copy, Debug, PartialEq)]
-pub struct Frame {
-    pub flow: usize,
-    /// Counted from 1 in the order in which the flow's source sends.
-    pub number: u64,
-    pub hop: usize,
-    pub bytes: u64,
-    /// The instant at which it reached its queue.
-    pub came: u64,
-    /// What it found under way then, if that was a laptop's.
-    pub behind: Option<Behind>,
-}
-
-/// A frame's stay in one queue.
-#[derive(Clone, Copy, Debug, PartialEq)]
-pub struct Stay {
-    pub frame: Frame,
-    pub queue: usize,
-    /// When its first bit is sent, on its link.
-    pub first: Slots,
-    /// The instant at which it has left.
-    pub gone: u64,
-}
-
-impl Stay {
-    pub fn length(&self) -> u64 {
-        self.gone - self.frame.came
-    }
-
-    /// When its last bit is sent.
-    pub fn end(&self) -> Slots {
-        self.first + sending(self.frame.bytes)
-    }
-}
-
 /// A frame that a source adds.
 #[derive(Clone, Copy, Debug, PartialEq)]
 pub struct Send {
@@ -73,6 +30,49 @@ pub struct Laptop {
 pub struct Sends {
     pub frames: Vec<Send>,
     pub laptops: Vec<Laptop>,
+}
+
+/// A frame on its way.
+#[derive(Clone, Copy, Debug, PartialEq)]
+pub struct Frame {
+    pub flow: usize,
+    /// Counted from 1 in the order in which the flow's source sends.
+    pub number: u64,
+    pub hop: usize,
+    pub bytes: u64,
+    /// The instant at which it reached its queue.
+    pub came: u64,
+    /// What it found under way then, if that was a laptop's.
+    pub behind: Option<Behind>,
+}
+
+/// A laptop's frame that was under way when a frame came: what was left of it, and the whole of it.
+#[derive(Clone, Copy, Debug, PartialEq)]
+pub struct Behind {
+    pub left: Slots,
+    pub whole: Slots,
+}
+
+/// A frame's stay in one queue.
+#[derive(Clone, Copy, Debug, PartialEq)]
+pub struct Stay {
+    pub frame: Frame,
+    pub queue: usize,
+    /// When its first bit is sent, on its link.
+    pub first: Slots,
+    /// The instant at which it has left.
+    pub gone: u64,
+}
+
+impl Stay {
+    pub fn length(&self) -> u64 {
+        self.gone - self.frame.came
+    }
+
+    /// When its last bit is sent.
+    pub fn end(&self) -> Slots {
+        self.first + sending(self.frame.bytes)
+    }
 }
 
 /// A laptop's frame that the link took; it is in no queue.

@@ -20,6 +20,12 @@ pub fn course(words: &[&str]) -> Outcome {
     course::run(&words)
 }
 
+/// Mistakes in a line of the table, as `check` names their places.
+pub fn places(line: usize, words: &[&str]) -> Vec<String> {
+    let place = |words| format!("table.txt:{line}:{words}");
+    words.iter().map(place).collect()
+}
+
 pub fn root() -> PathBuf {
     Path::new(env!("CARGO_MANIFEST_DIR")).join("..")
 }

@@ -11,8 +11,8 @@ pub type Started = (usize, u64, u128);
 
 #[derive(Clone)]
 struct Frame {
-    flow: usize,
-    number: u64,
+    /// Its flow, and its number there.
+    id: (usize, u64),
     hop: usize,
     bytes: u64,
     came: u64,
@@ -85,8 +85,7 @@ impl Slow<'_> {
         for send in frames.iter().filter(|send| send.instant == now) {
             sent[send.flow] += 1;
             coming.push(Frame {
-                flow: send.flow,
-                number: sent[send.flow],
+                id: (send.flow, sent[send.flow]),
                 hop: 0,
                 bytes: send.bytes,
                 came: now,
@@ -95,7 +94,7 @@ impl Slow<'_> {
             });
         }
         for mut frame in coming {
-            let hop = self.hall.flows[frame.flow].hops[frame.hop];
+            let hop = self.hall.flows[frame.id.0].hops[frame.hop];
             let link = &mut self.links[hop.link as usize - 1];
             frame.came = now;
             frame.behind = match link.under_way {
@@ -128,13 +127,11 @@ impl Slow<'_> {
             };
             let frame = link.waiting[level].pop_front().unwrap();
             let gone = now + 1;
-            let Frame {
-                flow, number, came, ..
-            } = frame;
+            let Frame { id, came, .. } = frame;
             let queue = link.queues[level];
             self.stays
-                .push((queue, flow, number, came, frame.first, gone, frame.behind));
-            if frame.hop + 1 < self.hall.flows[flow].hops.len() {
+                .push((queue, id.0, id.1, came, frame.first, gone, frame.behind));
+            if frame.hop + 1 < self.hall.flows[id.0].hops.len() {
                 let hop = frame.hop + 1;
                 link.cable
                     .push_back((gone + fixed_delay, Frame { hop, ..frame }));
