@@ -11,12 +11,6 @@ const DELAY_LINE: usize = 43;
 const BEST_EFFORT_LINE: usize = 48;
 const MOST_TABLE_BYTES: usize = QUEUES * (BEST_EFFORT_LINE + 1);
 
-#[derive(Clone, Copy)]
-pub struct Queue {
-    pub threshold: u32,
-    pub buffer: u32,
-}
-
 #[derive(Clone, Copy, PartialEq)]
 pub struct Link {
     pub from: u32,
@@ -27,6 +21,12 @@ pub struct Link {
     pub fixed_delay: u32,
     /// Bytes; 0 where none is sent.
     pub best_effort_frame: u32,
+}
+
+#[derive(Clone, Copy)]
+pub struct Queue {
+    pub threshold: u32,
+    pub buffer: u32,
 }
 
 /// The first `count` links count, and of each its first `levels` queues.

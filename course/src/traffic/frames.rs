@@ -2,6 +2,13 @@
 
 use super::slots::{sending, Slots};
 
+/// All that SENDS asks for, each by its time.
+#[derive(Clone, Debug, Default, PartialEq)]
+pub struct Sends {
+    pub frames: Vec<Send>,
+    pub laptops: Vec<Laptop>,
+}
+
 /// A frame that a source adds.
 #[derive(Clone, Copy, Debug, PartialEq)]
 pub struct Send {
@@ -25,32 +32,20 @@ pub struct Laptop {
     pub line: usize,
 }
 
-/// All that SENDS asks for, each by its time.
-#[derive(Clone, Debug, Default, PartialEq)]
-pub struct Sends {
-    pub frames: Vec<Send>,
-    pub laptops: Vec<Laptop>,
+/// A laptop's frame that the link took; it is in no queue.
+#[derive(Clone, Copy, Debug, PartialEq)]
+pub struct BestEffort {
+    pub laptop: Laptop,
+    pub first: Slots,
+    /// The first instant at or after its last bit.
+    pub gone: u64,
 }
 
-/// A frame on its way.
-#[derive(Clone, Copy, Debug, PartialEq)]
-pub struct Frame {
-    pub flow: usize,
-    /// Counted from 1 in the order in which the flow's source sends.
-    pub number: u64,
-    pub hop: usize,
-    pub bytes: u64,
-    /// The instant at which it reached its queue.
-    pub came: u64,
-    /// What it found under way then, if that was a laptop's.
-    pub behind: Option<Behind>,
-}
-
-/// A laptop's frame that was under way when a frame came: what was left of it, and the whole of it.
-#[derive(Clone, Copy, Debug, PartialEq)]
-pub struct Behind {
-    pub left: Slots,
-    pub whole: Slots,
+impl BestEffort {
+    /// When its last bit is sent.
+    pub fn end(&self) -> Slots {
+        self.first + sending(self.laptop.bytes)
+    }
 }
 
 /// A frame's stay in one queue.
@@ -75,18 +70,23 @@ impl Stay {
     }
 }
 
-/// A laptop's frame that the link took; it is in no queue.
+/// A frame on its way.
 #[derive(Clone, Copy, Debug, PartialEq)]
-pub struct BestEffort {
-    pub laptop: Laptop,
-    pub first: Slots,
-    /// The first instant at or after its last bit.
-    pub gone: u64,
+pub struct Frame {
+    pub flow: usize,
+    /// Counted from 1 in the order in which the flow's source sends.
+    pub number: u64,
+    pub hop: usize,
+    pub bytes: u64,
+    /// The instant at which it reached its queue.
+    pub came: u64,
+    /// What it found under way then, if that was a laptop's.
+    pub behind: Option<Behind>,
 }
 
-impl BestEffort {
-    /// When its last bit is sent.
-    pub fn end(&self) -> Slots {
-        self.first + sending(self.laptop.bytes)
-    }
+/// A laptop's frame that was under way when a frame came: what was left of it, and the whole of it.
+#[derive(Clone, Copy, Debug, PartialEq)]
+pub struct Behind {
+    pub left: Slots,
+    pub whole: Slots,
 }
