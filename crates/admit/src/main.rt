@@ -49,7 +49,9 @@ fn tell_cause(code: u32) {
         1 => tell(b"its columns are wrong, or the last line has no LF\n"),
         2 => tell(b"a number is out of range\n"),
         3 => tell(b"link or level is out of turn\n"),
-        4 => tell(b"from equals to, or from, to, speed or fixed delay differ within the link\n"),
+        4 => tell(
+            b"from equals to, or from, to, speed, fixed delay or best-effort frame differ within the link\n",
+        ),
         5 => tell(b"the table is too long\n"),
         _ => tell(b"the orders are too long, or too many\n"),
     }

@@ -1,4 +1,4 @@
-// Document 01's sums to check by hand, worked out by `units`. One line for each: the result in 8 columns.
+// Document 01's and W-202's sums to check by hand, worked out by `units`. One line for each: the result in 8 columns.
 use libc::STDOUT_FILENO;
 use units::Bytes;
 use units::Micros;

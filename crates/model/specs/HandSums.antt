@@ -15,6 +15,9 @@ use Rattle.model.specs.Reference.{Cause, deadlineFinding}
 unfoldable pub one : Aggregate
 one = record { rate = 1000; burst = 1542; frame = 1542 }
 
+unfoldable pub short : Aggregate
+short = record { rate = 1000; burst = 84; frame = 84 }
+
 unfoldable pub rateOnly : ℕ → Aggregate
 rateOnly r = record { rate = r; burst = 0; frame = 0 }
 
@@ -58,11 +61,13 @@ handSums =
     ∷ sum (backlog 100 0 (one ∷ []) one []) 1574
     ∷ sum (delay 100 0 [] one (one ∷ [])) 371
     ∷ sum (backlog 100 0 [] one (one ∷ [])) 1573
-    -- the same on a link with a best-effort frame of 1,542: it blocks as a frame below does, the last level too; both together block no longer than one
-    -- (their sum would give 494)
+    -- the same on a link with a best-effort frame of 1,542: it blocks as a frame below does, the last level too; both together block no longer than the
+    -- larger (their sum would give 494)
     ∷ sum (delay 100 1542 [] one []) 371
     ∷ sum (backlog 100 1542 [] one []) 1573
     ∷ sum (delay 100 1542 [] one (one ∷ [])) 371
+    ∷ sum (delay 100 1542 [] one (short ∷ [])) 371
+    ∷ sum (delay 100 84 [] one (one ∷ [])) 371
     ∷ sum (delay 100 1542 (one ∷ []) one []) 499
     ∷ sum (backlog 100 1542 (one ∷ []) one []) 1589
     -- burst after a threshold of 371, and after two (rounded at each hop it would be 1,636); the fixed delays don't count

@@ -1,6 +1,6 @@
 -- Document 01, "The run that the mission's third line speaks of": frames, links, a slot, an interval, an instant, runs and conforming sources.
--- Requests W-201, W-202: cables and best-effort frames. Instants are whole µs; a slot is the time of a bit, or any whole part of it, so that a best-effort
--- frame may start at any moment. A flow is named by its index in the list of flows, a hop by its index in the path, both from 0.
+-- Requests W-201, W-202: cables and best-effort frames. Instants are whole µs; a slot is the time of a bit, or one of any number of equal parts of it, so
+-- that a best-effort frame may start at any moment. A flow is named by its index in the list of flows, a hop by its index in the path, both from 0.
 use Prim.Native.Nat.{ℕ, zero, suc, _+_, _-_, _*_, _≤_}
 use mathlib.Core.Path.{_≡_}
 use mathlib.Core.Bool.{Bool, false, cond}

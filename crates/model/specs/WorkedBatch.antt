@@ -4,6 +4,7 @@ use Prim.Native.Nat.{ℕ, zero, suc}
 use Prim.Native.Char.{code}
 use Prim.Native.String.{String, len, charAt}
 use mathlib.Core.Path.{_≡_, refl}
+use mathlib.Core.Bool.{true, false}
 use mathlib.Core.List.{List, [], _∷_, map}
 use Rattle.model.specs.Words.{every, firstIndex, isNone, nth}
 use Rattle.model.specs.Columns.{isDigit, digits, number, field, fieldAt, padded, justified, between, prepend, lines}
@@ -14,6 +15,7 @@ use Rattle.model.specs.Formula.{ceilDiv, burstAtHop, residual, withinRat
 use Rattle.model.specs.LinkCheck.{isEmpty, levelCode, orElse, levelsFinding, rateCode, linkFinding}
 use Rattle.model.specs.Aggregates.{linkAt, queueAt, thresholdOf, fixedDelayOf, shares, allShares, sameHop, addsAt, aggregateAt, levelAggregates}
 use Rattle.model.specs.Reference.{heldFlows, heldHops, withNumber, crosses, pathDelay, firstCause, whole, atHop, start, end, noQueue, metEarlier, startsElsewhere, numberFinding, lineFindings, deadlineFinding, isHeld, roomFindings, linkCause, causeAt, linkFindings, registerFindings, findings, holds, refuse, fill, perform, decide, apply, tableOf, opened}
+use Rattle.model.specs.Consistent.{rowOf, linkConsistent}
 use Rattle.model.specs.Answers.{answerColumns, answerLine}
 use Rattle.model.specs.Batch.{Batch, lineAnswers, answerText, refusedBatch, doneBatch, tooLong, tooShort, afterTable, batch}
 
@@ -79,23 +81,26 @@ workedBatches =
     ∷ worked "   1   1   2   448 1      6      169     0\n" "" "" 1 1 ""
     ∷ worked "   1   1   2   448 1      6      169      0 \n" "" "" 1 1 ""
     -- a best-effort frame of 84: it blocks where a frame of 84 below does, both together no longer (a sum would give 22 for the second order), and at the last
-    -- level too, where one µs less is too little (22)
+    -- level of a link of two lines too, where one µs less is too little (22)
     ∷ worked
-    "   1   1   2   672 1      3       85      0   84\n   1   1   2   672 2      5       85      0   84\n   2   2   3   672 1      2       85      0   84\n"
-    " 1     1     1000      84   84       3  1   1 1\n 1     2     1000      84   84       5  1   1 2\n 1     3     1000      84   84       2  1   2 1\n"
+    "   1   1   2   672 1      3       85      0   84\n   1   1   2   672 2      5       85      0   84\n   2   2   3   672 1      2       85      0   84\n   2   2   3   672 2      2       85      0   84\n"
+    " 1     1     1000      84   84       3  1   1 1\n 1     2     1000      84   84       5  1   1 2\n 1     3     1000      84   84       2  1   2 2\n"
     "............................................................"
     0
     3
-    "     1  0   1   0 0\n     2  0   2   0 0\n     3 22   0   2 1\n"
+    "     1  0   1   0 0\n     2  0   2   0 0\n     3 22   0   2 2\n"
     -- lines of one link may differ in length, not in their best-effort frame (4)
     ∷ worked "   1   1   2   448 1      6      169\n   1   1   2   448 2      6      169      0    0\n" "" "" 0 0 ""
     ∷ worked "   1   1   2   448 1      6      169      0\n   1   1   2   448 2      6      169      0   84\n" "" "" 4 2 ""
-    -- none, and 84 to 1,542 are in range, 83 and 1,543 aren't (2), and its field begins in column 44
+    ∷ worked "   1   1   2   448 1      6      169      0   84\n   1   1   2   448 2      6      169\n" "" "" 4 2 ""
+    -- none, and 84 to 1,542 are in range, 1, 83 and 1,543 aren't (2), and its field begins in column 44
     ∷ worked "   1   1   2   448 1      6      169      0 1542\n" "" "" 0 0 ""
+    ∷ worked "   1   1   2   448 1      6      169      0    1\n" "" "" 2 1 ""
     ∷ worked "   1   1   2   448 1      6      169      0   83\n" "" "" 2 1 ""
     ∷ worked "   1   1   2   448 1      6      169      0 1543\n" "" "" 2 1 ""
     ∷ worked "   1   1   2   448 1      6      169      010084\n" "" "" 2 1 ""
-    -- 47 and 49 columns (1)
+    -- 45, 47 and 49 columns (1)
+    ∷ worked "   1   1   2   448 1      6      169      0 0\n" "" "" 1 1 ""
     ∷ worked "   1   1   2   448 1      6      169      0   0\n" "" "" 1 1 ""
     ∷ worked "   1   1   2   448 1      6      169      0    0 \n" "" "" 1 1 ""
     ∷ []
@@ -103,3 +108,11 @@ workedBatches =
 pub worked-batches : map (λ w. w .worked) workedBatches ≡ map (λ w. w .given) workedBatches
 unfolding workedBatches worked bytes bytesFrom isDigit digits number field fieldAt padded justified between prepend lines isRowLength laterField rowFields row bestEffortInRange rowInRange continues begins rowInTurn sameLink rowAgrees rowCause queueOf newLink addLevel addRow rowStep lineStep readLines readTable headFields hopField hopFields pathFields numberInRange hopsInRange headInRange flowOf withPath registrationOf registration releaseOf releaseLine kindNumber kindOfNumber kindOrder orderOfKind readOrder orderLine total largest ceilDiv burstAtHop residual withinRate delayBound backlogBound blocking interference levelResidual delay backlog isEmpty levelCode orElse levelsFinding rateCode linkFinding nth linkAt queueAt thresholdOf fixedDelayOf shares allShares sameHop addsAt aggregateAt levelAggregates heldFlows heldHops withNumber crosses pathDelay firstCause whole atHop isNone start end noQueue metEarlier startsElsewhere numberFinding lineFindings deadlineFinding every isHeld roomFindings linkCause causeAt linkFindings registerFindings findings firstIndex holds refuse fill perform decide apply tableOf opened answerColumns answerLine lineAnswers answerText refusedBatch doneBatch tooLong tooShort afterTable batch
 worked-batches = refl
+
+-- 42: the link of a registry that calls find may have these best-effort frames, 0, 84 and 1,542, and not the others.
+pub worked-links : map
+    (λ n. linkConsistent (record { from = 1; to = 2; speed = 100; levels = record { threshold = 1; buffer = 1 } ∷ []; fixedDelay = 0; bestEffort = n }))
+    (0 ∷ 1 ∷ 83 ∷ 84 ∷ 1542 ∷ 1543 ∷ [])
+    ≡ true ∷ false ∷ false ∷ true ∷ true ∷ false ∷ []
+unfolding linkConsistent rowOf rowInRange bestEffortInRange between every
+worked-links = refl

@@ -3,12 +3,12 @@
 use Prim.Native.Nat.{ℕ, zero, suc, _+_, _≤_}
 use Prim.Native.String.{String}
 use mathlib.Core.Path.{_≡_, refl, ap}
-use mathlib.Core.Bool.{cond, _&&_}
+use mathlib.Core.Bool.{cond}
 use mathlib.Core.List.{List, [], _∷_, Permᴰ·refl}
 use mathlib.Core.Option.{some, Option·none-ne-some, Option·some-injective}
 use native.Mathlib.Omega.{arith}
 use lib.ListN.{getD, getElem?}
-use lib.Dec.{eqb, ltb}
+use lib.Dec.{eqb}
 use Rattle.model.specs.Words.{All, every, filter, firstIndex, isNone, nth}
 use Rattle.model.specs.Total.{total, largest}
 use Rattle.model.specs.Formula.{ceilDiv, burstAtHop, residual, withinRate, delayBound, backlogBound, blocking, interference, levelResidual, delay, backlog}
@@ -50,14 +50,18 @@ unfolding text calls registers bytes bytesFrom isDigit digits number field field
 the-state = (refl, refl)
 
 -- With two slots a bit there are 1344 from instant to instant, as many as 84 bytes take. A best-effort frame is offered in the last one before
--- instants 1 and 2: half a bit before the flow's frame comes, and just when the link is free and that frame waits.
+-- instants 1, 2 and 3: half a bit before the flow's frame comes, just when the link is free and that frame waits, and just when that frame has left; the
+-- last one has a byte.
 abbrev pub offered : (x link slot : ℕ) → ℕ
-offered x n slot = getD (0 ∷ cond (ltb x 2 && eqb slot 1343) 84 0 ∷ []) n 0
+offered x n slot = getD (0 ∷ cond (eqb slot 1343) (getD (84 ∷ 84 ∷ 1 ∷ []) x 0) 0 ∷ []) n 0
 
 pub offers : (x n slot : ℕ) → offered x n slot ≤ bestEffortOf (linkAt table n)
 unfolding bestEffortOf linkAt nth
 offers x zero slot = omega arith
-offers x (suc zero) slot = cond-le (ltb x 2 && eqb slot 1343) 84
+offers zero (suc zero) slot = cond-le (eqb slot 1343) 84
+offers (suc zero) (suc zero) slot = cond-le (eqb slot 1343) 84
+offers (suc (suc zero)) (suc zero) slot = omega (arith, cond-le (eqb slot 1343) 1)
+offers (suc (suc (suc x))) (suc zero) slot = omega (arith, cond-le (eqb slot 1343) 0)
 offers x (suc (suc n)) slot = omega arith
 
 abbrev pub sent : ℕ → List Frame
@@ -76,11 +80,12 @@ abbrev pub alone : Run table flows
 alone = runOf table flows 2 (λ x n slot. 0) sent (λ x q l. l) (omega arith) (λ x n slot. omega arith) sends (λ x q l. Permᴰ·refl l)
 
 -- Before the arrivals of instant 1 one slot of the best-effort frame is sent. It is in no queue when the flow's frame comes, which then begins in mid-bit too;
--- the second best-effort frame isn't sent. The flow's frame has left when instant 3 comes, and nothing else is under way. Without best effort it has left at 2.
+-- the second best-effort frame isn't sent. The flow's frame has left when instant 3 comes, and the third best-effort frame is under way. Without best effort
+-- the flow's frame has left at 2.
 pub the-run : (worked .before 1 1 ≡ record { wire = run.sendingBestEffort 1342; levels = [] ∷ []; left = [] })
     × (run.inQueue 1 (worked .after 1 1) ≡ frame 0 1 ∷ [])
     × (worked .before 2 1 ≡ record { wire = run.sending 1 (frame 0 1) 1342; levels = [] ∷ []; left = [] })
-    × (worked .before 3 1 ≡ record { wire = run.idle; levels = [] ∷ []; left = frame 0 1 ∷ [] })
+    × (worked .before 3 1 ≡ record { wire = run.sendingBestEffort 14; levels = [] ∷ []; left = frame 0 1 ∷ [] })
     × (alone .before 2 1 ≡ record { wire = run.idle; levels = [] ∷ []; left = frame 0 1 ∷ [] })
 unfolding run.onWire run.inQueue runOf states goesOn upTo coming run.pastEmpty run.pick run.sendingTime run.startBestEffort run.start run.take run.send run.timeSlot run.interval run.hopOf run.next run.leftAgo run.handedOn run.moving run.reaching run.append run.enter run.emptyLevels run.emptyLink run.speedOf filter nth linkAt fixedDelayOf sameHop
 the-run = (refl, refl, refl, refl, refl)

@@ -7,8 +7,8 @@ use Rattle.model.specs.Formula.{ceilDiv, burstAtHop, residual, withinRat
 use Rattle.model.specs.Aggregates.{linkAt, queueAt, thresholdOf, fixedDelayOf, shares}
 use Rattle.model.specs.LinkCheck.{rateCode}
 use Rattle.model.specs.Reference.{pathDelay, whole, deadlineFinding}
-use Rattle.model.specs.HandSums.{one, rateOnly, link, links, along, flow, bursts, code, sum, handSums}
+use Rattle.model.specs.HandSums.{one, short, rateOnly, link, links, along, flow, bursts, code, sum, handSums}
 
 pub hand-sums : map (λ s. s .worked) handSums ≡ map (λ s. s .given) handSums
-unfolding handSums sum one rateOnly link links along flow bursts code shares linkAt queueAt thresholdOf fixedDelayOf pathDelay whole deadlineFinding nth total largest ceilDiv burstAtHop residual withinRate delayBound backlogBound blocking interference levelResidual delay backlog rateCode
+unfolding handSums sum one short rateOnly link links along flow bursts code shares linkAt queueAt thresholdOf fixedDelayOf pathDelay whole deadlineFinding nth total largest ceilDiv burstAtHop residual withinRate delayBound backlogBound blocking interference levelResidual delay backlog rateCode
 hand-sums = refl
