@@ -211,6 +211,25 @@ fn slips_with_best_effort_frames() {
     );
 }
 
+/// A slip in what blocks isn't named where a bound of the row contradicts it: here 371 and 1,573 are right, the code is wrong.
+#[test]
+fn right_bounds_contradict_a_slip() {
+    let folder = two_flows(1_542, [(370, 9_000), (374, 9_000)]);
+    let marked = |row: &str| {
+        let sheet = folder.write("sheet.txt", row.as_bytes());
+        course(&["mark", &folder.word(), &sheet, "--lines", "1-1"]).printed
+    };
+    let right = marked("1 22 0 1 1 371 1573\n");
+    assert!(right.starts_with("line 1: right\n"), "{right}");
+    let contradicted = marked("1 0 1 0 0 371 1573\n");
+    assert!(!contradicted.contains("best-effort"), "{contradicted}");
+    for row in ["1 0 1 0 0 247 1558\n", "1 0 1 0 0 247\n", "1 0 1 0 0\n"] {
+        let marked = marked(row);
+        let named = "; fits the slip: best-effort frame left out, or";
+        assert!(marked.contains(named), "{row}: {marked}");
+    }
+}
+
 /// Where a frame is below, the second slip gives nothing wrong and the third a sum: line 3 puts a flow on level 1 again.
 #[test]
 fn slips_above_a_frame() {
