@@ -225,7 +225,7 @@ fn right_bounds_contradict_a_slip() {
     assert!(!contradicted.contains("best-effort"), "{contradicted}");
     for row in ["1 0 1 0 0 247 1558\n", "1 0 1 0 0 247\n", "1 0 1 0 0\n"] {
         let marked = marked(row);
-        let named = "; fits the slip: best-effort frame left out, or";
+        let named = "best-effort frame left out, or best-effort frame left out at the last level\n";
         assert!(marked.contains(named), "{row}: {marked}");
     }
 }

@@ -100,6 +100,10 @@ fn a_frame_without_a_fixed_delay() {
         let words = format!("37: fixed delay: {columns} too few before its number{HINT}");
         assert_eq!(said_of(more), places(1, &[&words]));
     }
+    // In a link's second line too it is one mistake.
+    let second = format!("{} 1542\n{} 1542\n", start(1), &start(2)[..36]);
+    let words = format!("37: fixed delay: 2 columns too few before its number{HINT}");
+    assert_eq!(said(second.as_bytes(), b""), places(2, &[&words]));
     // With the frame in its place nothing else can be meant.
     let words = "37: fixed delay: 1 column too few before its number";
     assert_eq!(said_of("   120 1542"), places(1, &[words]));

@@ -133,11 +133,15 @@ fn moved(line: &[u8], field: &Field, count: usize, reader: &Reader) -> Vec<Mende
     let mut all = Vec::new();
     for (repaired, word) in [(few, "few"), (many, "many")] {
         let Some(repaired) = repaired else { continue };
-        let rest = (reader.faults)(&whole(&repaired));
+        let mut rest = (reader.faults)(&whole(&repaired));
         if first_class(&rest) != Some(Class::Columns) {
             let columns = counted(count, "column", "columns");
             let last = word == "few" && repaired.len() == field.last;
             let hint = if last { hint(field) } else { "" };
+            // The line before has what is behind: then it is that, and nothing differs.
+            if !hint.is_empty() && rest.iter().any(|fault| fault.column > field.last) {
+                rest.retain(|fault| fault.column < field.first);
+            }
             let words = format!("{columns} too {word} before its number{hint}");
             all.push((named(field.first, field.name, words), rest));
         }
