@@ -120,7 +120,7 @@ impl Verdict {
 
     pub fn words(&self, hall: &Hall, seen: &[Seen]) -> String {
         let Some(closest) = self.closest else {
-            return "no frame sent".to_string();
+            return "no flow's frame sent".to_string();
         };
         let place = format!(
             "{}, {} of {} µs",

@@ -74,7 +74,10 @@ fn stretch(from: u64, to: u64) -> Result<Stretch, Outcome> {
 
 impl Job<'_> {
     pub fn run(self) -> Result<Outcome, Outcome> {
-        let breaches = conform::breaches(&self.hall.flows, &self.sends.frames);
+        let mut breaches = conform::breaches(&self.hall.flows, &self.sends.frames);
+        let laptops = &self.sends.laptops;
+        breaches.extend(conform::laptop_breaches(&self.hall.queues, laptops));
+        breaches.sort_by_key(|breach| breach.line);
         let mut errors: String = breaches
             .iter()
             .map(|breach| format!("{breach}\n"))

@@ -18,7 +18,7 @@ pub fn longest(link: &Queue) -> Option<String> {
     (bytes > 0).then(|| format!("{} B", commas(bytes)))
 }
 
-/// The lane of a link that laptops may share; the next free height.
+/// The lane of a link that laptops share; the next free height.
 pub fn lane(
     drawing: &mut Drawing,
     scale: Scale,
@@ -26,14 +26,17 @@ pub fn lane(
     recorder: &Recorder,
     top: f64,
 ) -> f64 {
-    let Some(longest) = longest(link) else {
-        return top;
-    };
     let index = link.link as usize - 1;
     let (frames, more) = (&recorder.laptops[index], recorder.more_laptops[index]);
+    let limit = match longest(link) {
+        Some(longest) => format!("to {longest}"),
+        // One that doesn't conform.
+        None if !frames.is_empty() => "none allowed".to_string(),
+        None => return top,
+    };
     drawing.rect(Rect(LEFT, top, RIGHT - LEFT, HEIGHT), "class=\"lane\"");
     drawing.text((4.0, top + 11.0), "class=\"name\"", "laptops");
-    drawing.note((4.0, top + 23.0), &format!("to {longest}"));
+    drawing.note((4.0, top + 23.0), &limit);
     for frame in frames {
         one_frame(drawing, scale, link, frame, top + 3.0);
     }
