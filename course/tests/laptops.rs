@@ -147,6 +147,9 @@ fn the_example_delays_a_frame() {
     let words = "link 5 level 1: flow 101 frame 1 came at 48 behind a laptop's frame, 12.335 of 12.336 µs left\n";
     assert!(printed.contains(words), "{printed}");
     assert!(printed.starts_with("1 frame of 1 flow, 2 laptops' frames; those of one instant: "));
+    let sent = "\nlaptop on link 5: ready at 47.999, sent from 47.999 to 60.335\n\
+                laptop on link 5: ready at 50, sent from 61.935 to 74.271\n";
+    assert!(printed.contains(sent), "{printed}");
     assert!(!without.contains("laptop"), "{without}");
 }
 
@@ -224,4 +227,22 @@ fn the_search_of_the_hall() {
         let (without, _) = longest(&folder.word(), queue);
         assert!(with > without, "{queue}: {with} {without}");
     }
+}
+
+/// When laptops' frames were sent, where there are few; a link of 300 Mbit/s has no whole thousandths for 100 bytes.
+#[test]
+fn few_laptops_are_told() {
+    let table = b"   1   1   2   300 1    371     9000      0 1542\n";
+    let folder = Temporary::with(table, b"");
+    let told = |count: usize| {
+        let sends = folder.write("sends.txt", "laptop 1 1 100\n".repeat(count).as_bytes());
+        let printed = call(&["traffic", &folder.word(), &sends]).printed;
+        let lines = printed.lines().filter(|line| line.starts_with("laptop on"));
+        lines.map(str::to_string).collect::<Vec<String>>()
+    };
+    let first = "laptop on link 1: ready at 1, sent from 1 to 3.667, rounded up to thousandths";
+    assert_eq!(told(1), [first]);
+    let third = "laptop on link 1: ready at 1, sent from 6.334 to 9";
+    assert!(told(3)[2].starts_with(third));
+    assert_eq!((told(20).len(), told(21).len()), (20, 0));
 }

@@ -90,16 +90,19 @@ impl Job<'_> {
             );
             return Err(Outcome::failed(Status::Unconforming, errors));
         }
-        let (seen, end) = self.figures()?;
+        let Figures {
+            seen, end, laptops, ..
+        } = self.figures()?;
         let verdict = Verdict::of(&self.hall.queues, &seen);
         let remark = remark(&breaches, &verdict);
         self.write_page(&seen, &verdict, &remark, end)?;
         let printed = format!(
-            "{}{}\n{}\n\n{}\n{}{}\n",
+            "{}{}\n{}\n\n{}\n{}{}{}\n",
             self.preface,
             self.summary(),
             remark,
             report::table(&self.hall, &seen),
+            report::laptops(&self.hall, &laptops),
             report::delayed(&self.hall, &seen),
             verdict.words(&self.hall, &seen)
         );
@@ -137,7 +140,7 @@ impl Job<'_> {
     }
 
     /// Runs the network; the trace is written as it goes.
-    fn figures(&self) -> Result<(Vec<Seen>, u64), Outcome> {
+    fn figures(&self) -> Result<Figures<'_>, Outcome> {
         let network = Network::new(&self.hall.queues, &self.hall.flows);
         let mut figures = Figures::new(&self.hall.queues);
         let path = self.arguments.value("--trace");
@@ -151,7 +154,7 @@ impl Job<'_> {
         if let Some(trace) = trace {
             trace.finish().map_err(failed)?;
         }
-        Ok((figures.seen, figures.end))
+        Ok(figures)
     }
 
     /// Runs the network once more for the stretch that the page shows: it is known only now.

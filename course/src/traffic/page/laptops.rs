@@ -4,9 +4,10 @@ use super::charts::{Scale, LEFT, RIGHT};
 use super::lanes::instant;
 use super::stretch::Recorder;
 use super::svg::{Drawing, Rect};
-use crate::numbers::{commas, thousandths};
+use crate::numbers::commas;
 use crate::traffic::frames::BestEffort;
-use crate::traffic::slots::{before_moment, micros};
+use crate::traffic::report::sent;
+use crate::traffic::slots::before_moment;
 use plain::table::Queue;
 
 const HEIGHT: f64 = 27.0;
@@ -54,16 +55,14 @@ fn one_frame(drawing: &mut Drawing, scale: Scale, link: &Queue, frame: &BestEffo
     let speed = link.speed;
     let ready = instant(before_moment(frame.laptop.ready, speed), speed);
     let (first, end) = (instant(frame.first, speed), instant(frame.end(), speed));
-    let since = thousandths(frame.laptop.ready.into());
     drawing.raw(&format!(
         "<g class=\"laptop\" data-link=\"{}\" data-ready=\"{}\" data-bytes=\"{}\" data-gone=\"{}\">",
         link.link, frame.laptop.ready, frame.laptop.bytes, frame.gone
     ));
     drawing.raw(&format!(
-        "<title>a laptop's frame, {} bytes: ready at {since}, sent from {} to {}</title>",
+        "<title>a laptop's frame, {} bytes: {}</title>",
         commas(frame.laptop.bytes),
-        micros(frame.first, speed),
-        micros(frame.end(), speed)
+        sent(frame, speed)
     ));
     if first > ready && scale.shows(ready, first) {
         let middle = y + BAR / 2.0;
