@@ -59,6 +59,9 @@ fn best_effort_frames() {
         let field = format!("{outside:>5}");
         let told = [1, 2].map(|line| format!("table.txt:{line}:{words}"));
         assert_eq!(with_frames(&field, &field), told);
+        // In one line alone it is one mistake.
+        assert_eq!(with_frames(&field, " 1000"), told[..1]);
+        assert_eq!(with_frames(" 1000", &field), told[1..]);
     }
 }
 
