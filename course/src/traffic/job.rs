@@ -74,10 +74,7 @@ fn stretch(from: u64, to: u64) -> Result<Stretch, Outcome> {
 
 impl Job<'_> {
     pub fn run(self) -> Result<Outcome, Outcome> {
-        let mut breaches = conform::breaches(&self.hall.flows, &self.sends.frames);
-        let laptops = &self.sends.laptops;
-        breaches.extend(conform::laptop_breaches(&self.hall.queues, laptops));
-        breaches.sort_by_key(|breach| breach.line);
+        let breaches = self.breaches();
         let mut errors: String = breaches
             .iter()
             .map(|breach| format!("{breach}\n"))
@@ -115,6 +112,15 @@ impl Job<'_> {
             errors,
             status,
         })
+    }
+
+    /// Those of the sources and of the laptops, line by line.
+    fn breaches(&self) -> Vec<Breach> {
+        let mut all = conform::breaches(&self.hall.flows, &self.sends.frames);
+        let laptops = &self.sends.laptops;
+        all.extend(conform::laptop_breaches(&self.hall.queues, laptops));
+        all.sort_by_key(|breach| breach.line);
+        all
     }
 
     /// `2 frames of 2 flows; those of one instant: forwarded ones first`; before the semicolon the laptops' frames, if any.

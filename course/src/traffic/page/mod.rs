@@ -112,7 +112,7 @@ fn drawings(hall: &Hall, seen: &[Seen], verdict: &Verdict, recorder: &Recorder) 
             true => "The dotted line after a frame is its time on the cable, in no queue. ",
             false => "",
         },
-        match hall.has_laptops() || recorder.laptops.iter().any(|frames| !frames.is_empty()) {
+        match hall.has_laptops() || recorder.has_laptops() {
             true => "Laptops' frames are dark grey, in a lane of their own, for they are in no queue. ",
             false => "",
         }
@@ -166,7 +166,7 @@ fn legend(hall: &Hall, recorder: &Recorder) -> String {
             colours::waiting(index), colours::sending(index), flow_words(flow)
         );
     }
-    if recorder.laptops.iter().any(|frames| !frames.is_empty()) {
+    if recorder.has_laptops() {
         html += "<li><span class=\"swatch laptops\"></span> laptops' frames, best effort; a thin line while one waits</li>\n";
     }
     html + "</ul>\n"
