@@ -87,21 +87,20 @@ impl Job<'_> {
             );
             return Err(Outcome::failed(Status::Unconforming, errors));
         }
-        let Figures {
-            seen, end, laptops, ..
-        } = self.figures()?;
-        let verdict = Verdict::of(&self.hall.queues, &seen);
+        let figures = self.figures()?;
+        let seen = &figures.seen;
+        let verdict = Verdict::of(&self.hall.queues, seen);
         let remark = remark(&breaches, &verdict);
-        self.write_page(&seen, &verdict, &remark, end)?;
+        self.write_page(seen, &verdict, &remark, figures.end)?;
         let printed = format!(
             "{}{}\n{}\n\n{}\n{}{}{}\n",
             self.preface,
             self.summary(),
             remark,
-            report::table(&self.hall, &seen),
-            report::laptops(&self.hall, &laptops),
-            report::delayed(&self.hall, &seen),
-            verdict.words(&self.hall, &seen)
+            report::table(&self.hall, seen),
+            report::laptops(&self.hall, &figures.laptops),
+            report::delayed(&self.hall, seen),
+            verdict.words(&self.hall, seen)
         );
         let status = match verdict.kept() {
             true => Status::Fine,

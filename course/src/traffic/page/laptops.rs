@@ -12,6 +12,7 @@ use plain::table::Queue;
 
 const HEIGHT: f64 = 27.0;
 const BAR: f64 = 9.0;
+const LEAST_WITH_EDGE: f64 = 4.0;
 
 /// A link's longest best-effort frame, `1,542 B`; nothing where no laptop may be plugged in.
 pub fn longest(link: &Queue) -> Option<String> {
@@ -72,7 +73,12 @@ fn one_frame(drawing: &mut Drawing, scale: Scale, link: &Queue, frame: &BestEffo
     if scale.shows(first, end) {
         let (x, to) = (scale.x(first), scale.x(end));
         let bar = Rect(x, y, (to - x).max(0.6), BAR);
-        drawing.rect(bar, "class=\"best-effort\"");
+        // An edge, so that one right behind another can be told from it; a narrow one would be all edge.
+        let edge = match to - x > LEAST_WITH_EDGE {
+            true => " stroke=\"#fff\" stroke-width=\"0.8\"",
+            false => "",
+        };
+        drawing.rect(bar, &format!("class=\"best-effort\"{edge}"));
     }
     drawing.raw("</g>");
 }
