@@ -17,13 +17,13 @@ pub const COMMAND: Command = Command {
     usage: "FOLDER [--after N]",
     about: "every queue's figures and bounds, every flow's end-to-end bound",
     help: "\
-After the orders of orders.txt (with --after N after the first N of them): for each link its rate sum against its speed,
-for each queue rate sum, burst sum and largest frame, Res, Y, the delay bound against the threshold (µs), the backlog bound
-against the buffer (bytes), each with its per cent, rounded up. An empty queue has no bound. A link that laptops share has a
-column more, blocking, counted into Y: the larger of the largest frame below and the best-effort frame (both: they are as
-long), and which it was. For each flow the sum of the
-delay bounds of its queues, the sum of their thresholds, which is what is promised, and its deadline (µs). Where a held
-flow's path has cables that take time, their fixed delays stand beside and are counted into both sums.
+After the orders of orders.txt (with --after N after the first N of them): for each link its rate sum against its
+speed, for each queue rate sum, burst sum and largest frame, Res, Y, the delay bound against the threshold (µs), the
+backlog bound against the buffer (bytes), each with its per cent, rounded up. An empty queue has no bound. A link that
+laptops share has a column more, blocking, counted into Y: the larger of the largest frame below and the best-effort
+frame (both: they are as long), and which it was. For each flow the sum of the delay bounds of its queues, the sum of
+their thresholds, which is what is promised, and its deadline (µs). Where a held flow's path has cables that take time,
+their fixed delays stand beside and are counted into both sums.
 
 Exit status: 0; 1 a refused batch or an unreadable file; 2 usage.",
     words: 1..=1,

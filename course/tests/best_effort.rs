@@ -5,6 +5,7 @@ mod common;
 use common::{course, hall_folder, Temporary};
 use course::hall::make;
 use course::numbers::commas;
+use course::session::Session;
 use course::status::Status;
 use plain::formula::{backlog, delay, Aggregate, Link};
 use plain::table::{read_table, write_queue, Queue};
@@ -171,6 +172,38 @@ fn made_halls_with_a_port() {
     assert!(ports > 8 && plain_halls > 25, "{ports} {plain_halls}");
 }
 
+/// Whoever leaves the laptops of a made hall out doesn't get all rows right: code, place, link, level, delay and backlog
+/// are worked out over a table without best-effort frames.
+#[test]
+fn laptops_of_made_halls_matter() {
+    let mut ports = 0;
+    for seed in 1..=60 {
+        let made = make(seed);
+        let mut queues = read_table(&made.table).unwrap();
+        if queues.iter().all(|queue| queue.best_effort_frame == 0) {
+            continue;
+        }
+        ports += 1;
+        queues
+            .iter_mut()
+            .for_each(|queue| queue.best_effort_frame = 0);
+        let without: Vec<u8> = queues.iter().flat_map(write_queue).collect();
+        let session = Session::run(&hall_folder(&without, &made.orders));
+        let session = session.unwrap_or_else(|failed| panic!("{}", failed.errors));
+        let answers = course::hall::worksheet::answers(&session);
+        let row = |line: &str| {
+            let words: Vec<&str> = line.split_whitespace().take(7).collect();
+            words.join(" ") + "\n"
+        };
+        let folder = Temporary::with(&made.table, &made.orders);
+        let sheet: String = answers.lines().skip(1).map(row).collect();
+        let sheet = folder.write("sheet.txt", sheet.as_bytes());
+        let marked = course(&["mark", &folder.word(), &sheet]);
+        assert_eq!(marked.status, Status::Wrong, "{seed}");
+    }
+    assert!(ports > 12, "{ports}");
+}
+
 /// Each of the three slips in a sheet of its own, by the numbers that it gives.
 #[test]
 fn slips_with_best_effort_frames() {
@@ -209,6 +242,25 @@ fn slips_with_best_effort_frames() {
         course(&["mark", &folder.word(), &right]).status,
         Status::Fine
     );
+}
+
+/// A slip in what blocks isn't named where a bound of the row contradicts it: here 371 and 1,573 are right, the code is wrong.
+#[test]
+fn right_bounds_contradict_a_slip() {
+    let folder = two_flows(1_542, [(370, 9_000), (374, 9_000)]);
+    let marked = |row: &str| {
+        let sheet = folder.write("sheet.txt", row.as_bytes());
+        course(&["mark", &folder.word(), &sheet, "--lines", "1-1"]).printed
+    };
+    let right = marked("1 22 0 1 1 371 1573\n");
+    assert!(right.starts_with("line 1: right\n"), "{right}");
+    let contradicted = marked("1 0 1 0 0 371 1573\n");
+    assert!(!contradicted.contains("best-effort"), "{contradicted}");
+    for row in ["1 0 1 0 0 247 1558\n", "1 0 1 0 0 247\n", "1 0 1 0 0\n"] {
+        let marked = marked(row);
+        let named = "best-effort frame left out, or best-effort frame left out at the last level\n";
+        assert!(marked.contains(named), "{row}: {marked}");
+    }
 }
 
 /// Where a frame is below, the second slip gives nothing wrong and the third a sum: line 3 puts a flow on level 1 again.

@@ -2,7 +2,7 @@
 
 mod common;
 
-use common::{places, said};
+use common::{places, said, HINT};
 use course::numbers::commas;
 use plain::table::{read_table, write_queue_in, Queue, LENGTHS};
 
@@ -59,6 +59,9 @@ fn best_effort_frames() {
         let field = format!("{outside:>5}");
         let told = [1, 2].map(|line| format!("table.txt:{line}:{words}"));
         assert_eq!(with_frames(&field, &field), told);
+        // In one line alone it is one mistake.
+        assert_eq!(with_frames(&field, " 1000"), told[..1]);
+        assert_eq!(with_frames(" 1000", &field), told[1..]);
     }
 }
 
@@ -84,6 +87,29 @@ fn misplaced_best_effort_frames() {
             "47: the line has 46 columns, 36, 43 or 48 are right",
         ],
     );
+}
+
+/// A best-effort frame without a fixed delay before it: the delay is what lacks, and a line with the frame in its place
+/// would be right and mean something else.
+#[test]
+fn a_frame_without_a_fixed_delay() {
+    let said_of = |more: &str| {
+        let table = format!("{}{more}\n", &start(1)[..36]);
+        said(table.as_bytes(), b"")
+    };
+    let blank = format!("{:>12}", 1_542);
+    assert_eq!(said_of(&blank), places(1, &["37: fixed delay: no number"]));
+    for (more, columns) in [(" 1542", "2 columns"), ("1542", "3 columns")] {
+        let words = format!("37: fixed delay: {columns} too few before its number{HINT}");
+        assert_eq!(said_of(more), places(1, &[&words]));
+    }
+    // In a link's second line too it is one mistake.
+    let second = format!("{} 1542\n{} 1542\n", start(1), &start(2)[..36]);
+    let words = format!("37: fixed delay: 2 columns too few before its number{HINT}");
+    assert_eq!(said(second.as_bytes(), b""), places(2, &[&words]));
+    // With the frame in its place nothing else can be meant.
+    let words = "37: fixed delay: 1 column too few before its number";
+    assert_eq!(said_of("   120 1542"), places(1, &[words]));
 }
 
 /// A line that ends too soon lacks one field or two: one mistake, whichever line it is.

@@ -24,6 +24,8 @@ fn help_and_version_on_every_command() {
         assert!(help
             .printed
             .starts_with(&format!("usage: course {}", command.name)));
+        let long = |line: &&str| line.chars().count() > 125;
+        assert_eq!(help.printed.lines().find(long), None);
         let version = course(&[command.name, "--version"]);
         assert!(version.printed.starts_with("course 0."));
     }

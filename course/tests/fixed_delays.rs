@@ -2,7 +2,7 @@
 
 mod common;
 
-use common::{course, places, said, Temporary};
+use common::{course, places, said, Temporary, HINT};
 use std::fs;
 
 const TABLE: &str = "   1   1   2   100 1    250     4000\n   1   1   2   100 2   1000    16000\n";
@@ -53,7 +53,8 @@ fn misplaced_fixed_delays() {
         ("250", "4 columns too few"),
         ("      250", "2 columns too many"),
     ] {
-        let place = format!("37: fixed delay: {words} before its number");
+        let hint = if words.ends_with("few") { HINT } else { "" };
+        let place = format!("37: fixed delay: {words} before its number{hint}");
         of_second(more, &[&place]);
     }
 }

@@ -23,10 +23,6 @@ fn mistake(sends: &str) -> String {
 /// What is said of each SENDS; the instant's words are the same.
 const MISTAKES: [(&str, &str); 9] = [
     (
-        "laptop 3 1 100\n",
-        "1:8: no laptop may be plugged in here: the table gives link 3 no best-effort frame",
-    ),
-    (
         "laptop 9 1 100\n",
         "1:8: the table has no link 9: it has 8 links",
     ),
@@ -38,13 +34,17 @@ const MISTAKES: [(&str, &str); 9] = [
     ("laptop 5 1 x\n", "1:12: bytes: `x` is no number"),
     ("laptop 5\n", "1:9: instant: missing"),
     (
-        "laptop 5 1000000000000 100\n",
-        "1:10: instant: 1000000000000 isn't below 1,000,000,000,000",
+        "laptop 5 1000000000000.001 100\n",
+        "1:10: instant: 1000000000000.001 is out of range (0 to 1,000,000,000,000)",
+    ),
+    (
+        "laptop 5 99999999999999999999 100\n",
+        "1:10: instant: 99999999999999999999 is out of range (0 to 1,000,000,000,000)",
     ),
     ("laptop 5 1 100 x 2\n", "1:16: `x` isn't expected here"),
     (
         "# a flow's\n1.5 101 200\n",
-        "2:1: instant: `1.5`: digits alone, without separators",
+        "2:1: instant: `1.5`: a flow's instants are whole µs: digits alone, without separators",
     ),
 ];
 
@@ -53,19 +53,19 @@ fn laptop_lines_are_judged() {
     for (sends, words) in MISTAKES {
         assert_eq!(mistake(sends), words, "{sends}");
     }
-    let most = ports()[0].best_effort_frame;
-    for (bytes, words) in [
-        (0, format!("0 is out of range (1 to {})", commas(most))),
-        (
-            most + 1,
-            format!(
-                "too long: the table gives link 5 a best-effort frame of {}",
-                commas(most)
-            ),
-        ),
-    ] {
-        let sends = format!("laptop 5 1 {bytes}\n");
-        assert_eq!(mistake(&sends), format!("1:12: bytes: {words}"));
+    let folder = two_flows(1_542);
+    let sends = folder.write("sends.txt", b"laptop 2 1 100\n");
+    let said = call(&["traffic", &folder.word(), &sends]).errors;
+    assert!(said.contains(":1:8: the table has no link 2: it has 1 link\n"));
+    folder.write(
+        "orders.txt",
+        b" 1     7     1000    1542 1542     371  1   2 1\n",
+    );
+    let said = call(&["explain", &folder.word()]).printed;
+    assert!(said.contains("The table has no link 2: it has 1 link."));
+    for bytes in [0, 10_001] {
+        let words = format!("1:12: bytes: {bytes} is out of range (1 to 10,000)");
+        assert_eq!(mistake(&format!("laptop 5 1 {bytes}\n")), words);
     }
     for instant in ["1.2345", "1,5", ".5", "5.", "-1", "1.5.5", "1.x"] {
         let words = format!(
@@ -73,6 +73,50 @@ fn laptop_lines_are_judged() {
         );
         assert_eq!(mistake(&format!("laptop 5 {instant} 100\n")), words);
     }
+}
+
+/// A laptop's frame that the table doesn't allow is no mistake in SENDS: it doesn't conform, and --anyway sends it.
+#[test]
+fn laptops_that_do_not_conform() {
+    let most = ports()[0].best_effort_frame;
+    let sends = format!(
+        "0 101 200\nlaptop 5 0.999 {}\nlaptop 5 2 9000\nlaptop 3 0.999 100\nlaptop 5 3 {most}\n",
+        most + 1
+    );
+    let hall = example("hall");
+    let folder = Temporary::new();
+    let path = folder.write("sends.txt", sends.as_bytes());
+    let refused = call(&["traffic", &hall, &path]);
+    assert_eq!(refused.status, Status::Unconforming);
+    let words = format!(
+        "line 2: laptop on link 5: a frame of {} bytes; the table gives the link a best-effort frame of {}\n\
+         line 4: laptop on link 3: a frame of 100 bytes; no laptop may be plugged in here: the table gives the link no best-effort frame\n\
+         {path}: not sent: 2 sources don't conform; --anyway sends it\n",
+        commas(most + 1),
+        commas(most)
+    );
+    assert_eq!(refused.errors, words);
+    let anyway = |words: &[&str]| call(&[words, &["--anyway"]].concat());
+    let drawn = drawn_by(&folder, &hall, &path, Status::Fine, anyway);
+    let remark = "2 sources don't conform: the promise doesn't speak of this run\n";
+    assert!(drawn.printed.contains(remark), "{}", drawn.printed);
+    assert!(drawn.page.contains(">none allowed</text>"));
+    let longest = format!("laptop 5 1 {most}\nlaptop 6 1000000000000 {most}\n");
+    let longest = folder.write("longest.txt", longest.as_bytes());
+    assert_eq!(call(&["traffic", &hall, &longest]).status, Status::Fine);
+}
+
+/// The solutions' laptop of exercise four: a jumbo frame on a link to which the table gives no best-effort frame.
+#[test]
+fn a_laptop_makes_a_frame_late() {
+    let folder = Temporary::new();
+    let sends = folder.write("sends.txt", b"laptop 1 0.999 9000\n1 7 1542\n");
+    let words = ["traffic", &example("two-flows"), &sends];
+    assert_eq!(call(&words).status, Status::Unconforming);
+    let late = call(&[words.as_slice(), &["--anyway"]].concat());
+    assert_eq!(late.status, Status::Late, "{}", late.printed);
+    let words = "\na frame late: link 1 level 1, 844 of 371 µs\n";
+    assert!(late.printed.ends_with(words), "{}", late.printed);
 }
 
 /// The example's frame waits for a laptop's and no longer than its bound; without the laptops it doesn't wait.
@@ -103,6 +147,9 @@ fn the_example_delays_a_frame() {
     let words = "link 5 level 1: flow 101 frame 1 came at 48 behind a laptop's frame, 12.335 of 12.336 µs left\n";
     assert!(printed.contains(words), "{printed}");
     assert!(printed.starts_with("1 frame of 1 flow, 2 laptops' frames; those of one instant: "));
+    let sent = "\nlaptop on link 5: ready at 47.999, sent from 47.999 to 60.335\n\
+                laptop on link 5: ready at 50, sent from 61.935 to 74.271\n";
+    assert!(printed.contains(sent), "{printed}");
     assert!(!without.contains("laptop"), "{without}");
 }
 
@@ -180,4 +227,22 @@ fn the_search_of_the_hall() {
         let (without, _) = longest(&folder.word(), queue);
         assert!(with > without, "{queue}: {with} {without}");
     }
+}
+
+/// When laptops' frames were sent, where there are few; a link of 300 Mbit/s has no whole thousandths for 100 bytes.
+#[test]
+fn few_laptops_are_told() {
+    let table = b"   1   1   2   300 1    371     9000      0 1542\n";
+    let folder = Temporary::with(table, b"");
+    let told = |count: usize| {
+        let sends = folder.write("sends.txt", "laptop 1 1 100\n".repeat(count).as_bytes());
+        let printed = call(&["traffic", &folder.word(), &sends]).printed;
+        let lines = printed.lines().filter(|line| line.starts_with("laptop on"));
+        lines.map(str::to_string).collect::<Vec<String>>()
+    };
+    let first = "laptop on link 1: ready at 1, sent from 1 to 3.667, rounded up to thousandths";
+    assert_eq!(told(1), [first]);
+    let third = "laptop on link 1: ready at 1, sent from 6.334 to 9";
+    assert!(told(3)[2].starts_with(third));
+    assert_eq!((told(20).len(), told(21).len()), (20, 0));
 }

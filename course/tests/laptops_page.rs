@@ -37,6 +37,7 @@ fn laptops_are_drawn() {
     assert_eq!((bars.len(), classed("laptop").len()), (2, 2));
     for (bar, start) in bars.into_iter().zip([first, second]) {
         let (x, width) = (size(bar, "x"), size(bar, "width"));
+        assert_eq!(bar.get("stroke"), Some("#fff"));
         let end = start + micros(port.best_effort_frame);
         let off = (at(x) - start).abs().max((at(x + width) - end).abs());
         assert!(off < 0.01, "{start}: off by {off}");
@@ -53,7 +54,8 @@ fn laptops_are_named() {
         "> laptops' frames, best effort",
         ">≤1,542 B</text>",
         "cable 120 µs, laptops to 1,542 B</h2>",
-        "Laptops' frames are grey",
+        "Laptops' frames are dark grey",
+        "The light grey bar behind it is its threshold",
         "came 48, behind a laptop's frame, 12.335 of 12.336 µs left, sent from 60.335 to 61.935, stay",
         ">Link 5 level 1: flow 101 frame 1 came at 48 behind a laptop's frame",
         "<title>a laptop's frame, 1,542 bytes: ready at 50, sent from 61.935 to 74.271</title>",
@@ -84,7 +86,7 @@ fn laptops_alone_are_drawn() {
         "100",
     ]);
     assert_eq!(outcome.status, Status::Fine, "{}", outcome.errors);
-    assert!(outcome.printed.ends_with("no frame sent\n"));
+    assert!(outcome.printed.ends_with("no flow's frame sent\n"));
     let text = fs::read_to_string(&page).unwrap();
     assert_eq!(text.matches("class=\"best-effort\"").count(), 1);
     let quiet = |words: &[&str]| call(&[words, &["--from", "0", "--to", "20"]].concat());

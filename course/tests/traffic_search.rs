@@ -102,5 +102,5 @@ fn nothing_can_be_sent_without_a_flow() {
     let sends = folder.write("sends.txt", b"");
     let outcome = call(&["traffic", &folder.word(), &sends]);
     assert_eq!(outcome.status, Status::Fine);
-    assert_eq!(verdict(&outcome), "no frame sent");
+    assert_eq!(verdict(&outcome), "no flow's frame sent");
 }

@@ -50,6 +50,13 @@ pub fn mistakes(line: &Line, reader: &Reader) -> Vec<Mistake> {
         let mark = named(line.bytes.len(), "", "a CR before the LF".to_string());
         return with_rest(mark, rest, 0, reader);
     }
+    // A field left blank, the rest in place: moving what follows would give it another meaning.
+    if let [Fault {
+        what: What::Blank, ..
+    }] = faults[..]
+    {
+        return faults.iter().map(told).collect();
+    }
     if let Some((slip, rest)) = shift(line.bytes, &faults, reader) {
         let rest = rest.iter().map(told);
         return std::iter::once(slip).chain(rest).collect();
@@ -126,14 +133,30 @@ fn moved(line: &[u8], field: &Field, count: usize, reader: &Reader) -> Vec<Mende
     let mut all = Vec::new();
     for (repaired, word) in [(few, "few"), (many, "many")] {
         let Some(repaired) = repaired else { continue };
-        let rest = (reader.faults)(&whole(&repaired));
+        let mut rest = (reader.faults)(&whole(&repaired));
         if first_class(&rest) != Some(Class::Columns) {
             let columns = counted(count, "column", "columns");
-            let words = format!("{columns} too {word} before its number");
+            let last = word == "few" && repaired.len() == field.last;
+            let hint = if last { hint(field) } else { "" };
+            // The line before has what is behind: then it is that, and nothing differs.
+            if !hint.is_empty() && rest.iter().any(|fault| fault.column > field.last) {
+                rest.retain(|fault| fault.column < field.first);
+            }
+            let words = format!("{columns} too {word} before its number{hint}");
             all.push((named(field.first, field.name, words), rest));
         }
     }
     all
+}
+
+/// What the last number of a line may be instead: mended as told, it would be right and mean something else.
+fn hint(field: &Field) -> &'static str {
+    match field.name {
+        "fixed delay" => {
+            "; a best-effort frame stands behind it, in columns 44-48: write the fixed delay first, 0 where there is none"
+        }
+        _ => "",
+    }
 }
 
 fn with_blanks(line: &[u8], at: usize, count: usize) -> Option<Vec<u8>> {

@@ -7,7 +7,7 @@ use plain::columns::{lines, Field, Line};
 use plain::faults::{Class, Fault, What};
 use plain::orders;
 use plain::programs::{MOST_ORDER_BYTES, MOST_ORDER_LINES};
-use plain::table::{self, Queue, ENTRIES, MOST_TABLE_BYTES};
+use plain::table::{self, Entry, Queue, ENTRIES, MOST_TABLE_BYTES};
 
 /// The mistakes of a table text, line by line.
 pub fn table(text: &[u8]) -> Vec<Mistake> {
@@ -22,6 +22,7 @@ pub fn table(text: &[u8]) -> Vec<Mistake> {
             let (_, mut faults) = table::examine(line, before.as_ref());
             // What comes after a line that couldn't be read can't be out of turn.
             faults.retain(|fault| known || fault.class() <= Class::Range);
+            faults.retain(|fault| !out_of_range(fault));
             faults.retain(|fault| !agrees(fault, before.as_ref(), earlier.as_ref()));
             lacking_once(faults)
         };
@@ -45,9 +46,23 @@ fn agrees(fault: &Fault, before: Option<&Queue>, earlier: Option<&Queue>) -> boo
     else {
         return false;
     };
-    let named = ENTRIES.iter().find(|entry| entry.field.name == fault.field);
-    let known = named.map(|entry| (entry.get)(earlier));
+    let known = entry_of(fault).map(|entry| (entry.get)(earlier));
     earlier.link == before.link && known == Some(*value)
+}
+
+/// Whether a line differs from the one before by a number out of range, its own or the other's: that is said already.
+fn out_of_range(fault: &Fault) -> bool {
+    let What::Differs { value, before } = fault.what else {
+        return false;
+    };
+    let outside = |number: u64| entry_of(fault)?.field.fault_of(number);
+    [value, before]
+        .into_iter()
+        .any(|number| outside(number).is_some())
+}
+
+fn entry_of(fault: &Fault) -> Option<&'static Entry> {
+    ENTRIES.iter().find(|entry| entry.field.name == fault.field)
 }
 
 /// Of the fields that this line lacks, or the one before, only the first: a line that ends too soon lacks all after it.

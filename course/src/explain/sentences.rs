@@ -1,7 +1,7 @@
 //! One sentence for each answer.
 
 use crate::check;
-use crate::numbers::commas;
+use crate::numbers::{commas, counted};
 use crate::session::Step;
 use crate::titles::queue_name;
 use plain::causes;
@@ -105,10 +105,8 @@ fn no_queue(at: Hop, before: &Registry) -> String {
         ),
         None => {
             let links = before.queues.last().map_or(0, |queue| queue.link);
-            format!(
-                "The table has no link {}: it has {links} links.",
-                commas(at.link)
-            )
+            let links = counted(links as usize, "link", "links");
+            format!("The table has no link {}: it has {links}.", commas(at.link))
         }
     }
 }

@@ -6,12 +6,17 @@ pub mod worksheet;
 
 use crate::arguments::{Arguments, Choice, Command};
 use crate::folder::{cannot_write, Folder, ORDERS, TABLE};
+use crate::mark::blocking::Blocking;
+use crate::mark::slips::{Expected, Rules};
 use crate::session::{remark, Session};
 use crate::status::{Outcome, Status};
 use halls::rng::Rng;
 use halls::tables::table_text;
 use network::Network;
 use orders::Orders;
+use plain::columns::lines;
+use plain::orders::read_order;
+use plain::registry::Registry;
 use std::fs;
 use std::path::{Path, PathBuf};
 
@@ -21,11 +26,11 @@ pub const COMMAND: Command = Command {
     about: "a hall with orders that reach the usual refusals, a worksheet and, apart, the solution",
     help: "\
 Makes a bottling hall: the same seed gives the same hall. Into FOLDER, which is made, go table.txt, orders.txt and
-worksheet.txt, the queues in words and a row to fill in for each order; into FOLDER/solution go answers.txt, the right rows
-as `course mark` reads them, and explained.txt. The orders reach 0, 10 to 17 and 20 to 23; then about half of the flows
-are released, and what was turned away and what was released is registered again. Two halls of three have a long fibre
-run: a link with a fixed delay; one in three has a maintenance port: a link with a best-effort frame. Files that exist
-aren't overwritten.
+worksheet.txt, the queues in words and a row to fill in for each order; into FOLDER/solution go answers.txt, the right
+rows as `course mark` reads them, and explained.txt. The orders reach 0, 10 to 17 and 20 to 23; then about half of the
+flows are released, and what was turned away and what was released is registered again. Two halls of three have a long
+fibre run: a link with a fixed delay; one in three has a maintenance port: a link with a best-effort frame, without
+which a row would be another. Files that exist aren't overwritten.
 
 Exit status: 0; 1 a file that can't be written; 2 usage.",
     words: 0..=0,
@@ -43,22 +48,50 @@ pub struct Made {
     pub first_part: usize,
 }
 
-/// The hall of a seed: the first drawn whose orders reach every wanted answer.
+/// The hall of a seed: the first drawn whose orders reach every wanted answer. Where it has a port, laptops must matter to a
+/// row; until they do, ones with a port are drawn.
 pub fn make(seed: u64) -> Made {
     let mut index = 0;
+    let mut wants_port = false;
     loop {
         let mut rng = Rng::new(seed, index);
         let mut network = Network::random(&mut rng);
         network.plug_in(&mut Rng::new(!seed, index));
-        if let Some(orders) = Orders::random(&mut rng, &network) {
+        index += 1;
+        if wants_port && !network.has_port() {
+            continue;
+        }
+        let Some(orders) = Orders::random(&mut rng, &network) else {
+            continue;
+        };
+        if !network.has_port() || laptops_matter(&network, &orders) {
             return Made {
                 table: table_text(&network.queues),
                 orders: orders.text.concat(),
                 first_part: orders.first_part,
             };
         }
-        index += 1;
+        wants_port = true;
     }
+}
+
+/// Whether somebody who leaves best-effort frames out fills in another row.
+fn laptops_matter(network: &Network, orders: &Orders) -> bool {
+    let left_out = Rules {
+        blocking: Some(Blocking::LeftOut),
+        ..Rules::TRUE
+    };
+    let mut registry = Registry::over(network.queues.clone());
+    orders.text.iter().any(|line| {
+        let order = read_order(&lines(line)[0]);
+        let row = |rules: &Rules| {
+            let (answer, work) = rules.answer_to(&registry, order.as_ref().ok()?);
+            Some(Expected::of(&answer, work.as_ref(), &registry))
+        };
+        let differ = row(&Rules::TRUE) != row(&left_out);
+        registry.step(order);
+        differ
+    })
 }
 
 fn hall(arguments: &Arguments) -> Result<Outcome, Outcome> {

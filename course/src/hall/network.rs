@@ -93,6 +93,10 @@ impl Network {
         }
     }
 
+    pub fn has_port(&self) -> bool {
+        self.queues.iter().any(|queue| queue.best_effort_frame > 0)
+    }
+
     fn add(&mut self, ends: (u64, u64), speed: u64, limits: &[(u64, u64)]) {
         let link = self.queues.last().map_or(1, |queue| queue.link + 1);
         for (index, &(threshold, buffer)) in limits.iter().enumerate() {

@@ -112,6 +112,10 @@ impl Follower {
     /// Whether these rules give the row where the true ones don't.
     fn fits(&self, order: &Order, row: &Row, truth: &Expected) -> bool {
         let own = self.expected(order);
+        // What blocks is in both bounds: one that the slip wouldn't give contradicts it.
+        if self.rules.blocking.is_some() && own.wrong_bounds(row) != [false; 3] {
+            return false;
+        }
         let wrong = truth.wrong_bounds(row);
         let given = (0..3).filter(|&index| wrong[index]);
         own.answer == row.answer

@@ -1,18 +1,27 @@
 //! Document 01's "conforms": over instants s to s+t inclusive, 8000 × bytes is at most
-//! 8000 × b + r × t; and frames from 84 bytes to the flow's largest.
+//! 8000 × b + r × t; and frames from 84 bytes to the flow's largest. A laptop's are no longer than
+//! its link's best-effort frame.
 
-use super::frames::Send;
+use super::frames::{Laptop, Send};
 use crate::numbers::commas;
 use plain::orders::{Flow, SMALLEST_FRAME};
+use plain::table::Queue;
 use std::fmt;
 
 /// The first frame by which a source doesn't conform.
 #[derive(Clone, Debug, PartialEq)]
 pub struct Breach {
     pub line: usize,
-    /// The flow's number.
-    pub flow: u64,
+    pub who: Who,
     pub what: What,
+}
+
+#[derive(Clone, Debug, PartialEq)]
+pub enum Who {
+    /// The flow's number.
+    Flow(u64),
+    /// The number of the link on which laptops send.
+    Laptop(u64),
 }
 
 #[derive(Clone, Debug, PartialEq)]
@@ -20,6 +29,11 @@ pub enum What {
     Size {
         bytes: u64,
         largest: u64,
+    },
+    /// A laptop's frame that the table doesn't allow; 0 is none.
+    TooLong {
+        bytes: u64,
+        best_effort_frame: u64,
     },
     /// 8000 × the bytes of this window are above what it allows.
     Window {
@@ -33,7 +47,11 @@ pub enum What {
 
 impl fmt::Display for Breach {
     fn fmt(&self, out: &mut fmt::Formatter) -> fmt::Result {
-        write!(out, "line {}: flow {}", self.line, self.flow)?;
+        write!(out, "line {}: ", self.line)?;
+        match self.who {
+            Who::Flow(number) => write!(out, "flow {number}")?,
+            Who::Laptop(link) => write!(out, "laptop on link {link}")?,
+        }
         match self.what {
             What::Size { bytes, largest } => write!(
                 out,
@@ -41,6 +59,10 @@ impl fmt::Display for Breach {
                 commas(bytes),
                 commas(largest)
             ),
+            What::TooLong {
+                bytes,
+                best_effort_frame,
+            } => too_long(out, bytes, best_effort_frame),
             What::Window {
                 from,
                 to,
@@ -57,6 +79,21 @@ impl fmt::Display for Breach {
                 commas(may_go)
             ),
         }
+    }
+}
+
+fn too_long(out: &mut fmt::Formatter, bytes: u64, most: u64) -> fmt::Result {
+    write!(out, ": a frame of {} bytes; ", commas(bytes))?;
+    match most {
+        0 => write!(
+            out,
+            "no laptop may be plugged in here: the table gives the link no best-effort frame"
+        ),
+        most => write!(
+            out,
+            "the table gives the link a best-effort frame of {}",
+            commas(most)
+        ),
     }
 }
 
@@ -123,11 +160,34 @@ pub fn breaches(flows: &[Flow], sends: &[Send]) -> Vec<Breach> {
             source.broken = true;
             found.push(Breach {
                 line: send.line,
-                flow: flow.number,
+                who: Who::Flow(flow.number),
                 what,
             });
         }
     }
     found.sort_by_key(|breach| breach.line);
+    found
+}
+
+/// The first laptop's frame on each link that is longer than the link's field.
+pub fn laptop_breaches(queues: &[Queue], laptops: &[Laptop]) -> Vec<Breach> {
+    let mut found: Vec<Breach> = Vec::new();
+    for laptop in laptops {
+        let number = laptop.link as u64 + 1;
+        let of_link = queues.iter().find(|queue| queue.link == number);
+        let best_effort_frame = of_link.map_or(0, |queue| queue.best_effort_frame);
+        let who = Who::Laptop(number);
+        let known = found.iter().any(|breach| breach.who == who);
+        if laptop.bytes > best_effort_frame && !known {
+            found.push(Breach {
+                line: laptop.line,
+                who,
+                what: What::TooLong {
+                    bytes: laptop.bytes,
+                    best_effort_frame,
+                },
+            });
+        }
+    }
     found
 }

@@ -32,7 +32,12 @@ pub struct Figures<'a> {
     pub seen: Vec<Seen>,
     /// The last instant at which a frame reached a next queue or its destination, or a laptop's had left its link.
     pub end: u64,
+    /// The first laptops' frames that links took: where there are more than are told, one more.
+    pub laptops: Vec<BestEffort>,
 }
+
+/// With more laptops' frames none is told by itself.
+pub const MOST_TOLD: usize = 20;
 
 impl Watch for Figures<'_> {
     fn stay(&mut self, stay: &Stay) {
@@ -64,6 +69,9 @@ impl Watch for Figures<'_> {
 
     fn best_effort(&mut self, frame: &BestEffort) {
         self.end = self.end.max(frame.gone);
+        if self.laptops.len() <= MOST_TOLD {
+            self.laptops.push(*frame);
+        }
     }
 }
 
@@ -73,6 +81,7 @@ impl<'a> Figures<'a> {
             queues,
             seen: vec![Seen::default(); queues.len()],
             end: 0,
+            laptops: Vec::new(),
         }
     }
 }
@@ -120,7 +129,7 @@ impl Verdict {
 
     pub fn words(&self, hall: &Hall, seen: &[Seen]) -> String {
         let Some(closest) = self.closest else {
-            return "no frame sent".to_string();
+            return "no flow's frame sent".to_string();
         };
         let place = format!(
             "{}, {} of {} µs",

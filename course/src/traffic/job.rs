@@ -74,7 +74,7 @@ fn stretch(from: u64, to: u64) -> Result<Stretch, Outcome> {
 
 impl Job<'_> {
     pub fn run(self) -> Result<Outcome, Outcome> {
-        let breaches = conform::breaches(&self.hall.flows, &self.sends.frames);
+        let breaches = self.breaches();
         let mut errors: String = breaches
             .iter()
             .map(|breach| format!("{breach}\n"))
@@ -87,18 +87,20 @@ impl Job<'_> {
             );
             return Err(Outcome::failed(Status::Unconforming, errors));
         }
-        let (seen, end) = self.figures()?;
-        let verdict = Verdict::of(&self.hall.queues, &seen);
+        let figures = self.figures()?;
+        let seen = &figures.seen;
+        let verdict = Verdict::of(&self.hall.queues, seen);
         let remark = remark(&breaches, &verdict);
-        self.write_page(&seen, &verdict, &remark, end)?;
+        self.write_page(seen, &verdict, &remark, figures.end)?;
         let printed = format!(
-            "{}{}\n{}\n\n{}\n{}{}\n",
+            "{}{}\n{}\n\n{}\n{}{}{}\n",
             self.preface,
             self.summary(),
             remark,
-            report::table(&self.hall, &seen),
-            report::delayed(&self.hall, &seen),
-            verdict.words(&self.hall, &seen)
+            report::table(&self.hall, seen),
+            report::laptops(&self.hall, &figures.laptops),
+            report::delayed(&self.hall, seen),
+            verdict.words(&self.hall, seen)
         );
         let status = match verdict.kept() {
             true => Status::Fine,
@@ -109,6 +111,15 @@ impl Job<'_> {
             errors,
             status,
         })
+    }
+
+    /// Those of the sources and of the laptops, line by line.
+    fn breaches(&self) -> Vec<Breach> {
+        let mut all = conform::breaches(&self.hall.flows, &self.sends.frames);
+        let laptops = &self.sends.laptops;
+        all.extend(conform::laptop_breaches(&self.hall.queues, laptops));
+        all.sort_by_key(|breach| breach.line);
+        all
     }
 
     /// `2 frames of 2 flows; those of one instant: forwarded ones first`; before the semicolon the laptops' frames, if any.
@@ -134,7 +145,7 @@ impl Job<'_> {
     }
 
     /// Runs the network; the trace is written as it goes.
-    fn figures(&self) -> Result<(Vec<Seen>, u64), Outcome> {
+    fn figures(&self) -> Result<Figures<'_>, Outcome> {
         let network = Network::new(&self.hall.queues, &self.hall.flows);
         let mut figures = Figures::new(&self.hall.queues);
         let path = self.arguments.value("--trace");
@@ -148,7 +159,7 @@ impl Job<'_> {
         if let Some(trace) = trace {
             trace.finish().map_err(failed)?;
         }
-        Ok((figures.seen, figures.end))
+        Ok(figures)
     }
 
     /// Runs the network once more for the stretch that the page shows: it is known only now.

@@ -1,11 +1,11 @@
 //! The table of a run: what was seen of each queue beside its bound and limits.
 
-use super::figures::Seen;
-use super::frames::Stay;
+use super::figures::{Seen, MOST_TOLD};
+use super::frames::{BestEffort, Stay};
 use super::hall::Hall;
-use super::slots::micros;
+use super::slots::{micros, Slots};
 use crate::bounds::aligned;
-use crate::numbers::commas;
+use crate::numbers::{commas, thousandths};
 
 /// Each with its unit.
 pub const HEADINGS: [(&str, &str); 8] = [
@@ -78,6 +78,36 @@ pub fn behind(hall: &Hall, stay: &Stay) -> Option<String> {
     Some(format!(
         "behind a laptop's frame, {left} of {whole} µs left"
     ))
+}
+
+/// `ready at 50, sent from 61.935 to 74.271`.
+pub fn sent(frame: &BestEffort, speed: u64) -> String {
+    let ends = [frame.first, frame.end()];
+    let rounded = ends.iter().any(|end| end % Slots::from(speed) > 0);
+    format!(
+        "ready at {}, sent from {}{}",
+        thousandths(frame.laptop.ready.into()),
+        ends.map(|end| micros(end, speed)).join(" to "),
+        if rounded {
+            ", rounded up to thousandths"
+        } else {
+            ""
+        }
+    )
+}
+
+/// When each laptop's frame was sent, where they are few.
+pub fn laptops(hall: &Hall, frames: &[BestEffort]) -> String {
+    let line = |frame: &BestEffort| {
+        let link = frame.laptop.link as u64 + 1;
+        let of_link = hall.queues.iter().find(|queue| queue.link == link);
+        let words = of_link.map(|queue| sent(frame, queue.speed));
+        format!("laptop on link {link}: {}\n", words.unwrap_or_default())
+    };
+    match frames.len() > MOST_TOLD {
+        true => String::new(),
+        false => frames.iter().map(line).collect(),
+    }
 }
 
 /// For each queue the frame that had the most of a laptop's before it.

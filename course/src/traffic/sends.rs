@@ -11,6 +11,8 @@ use plain::orders::Flow;
 use plain::table::Queue;
 
 const MOST_BYTES: u64 = 65_535;
+/// No laptop's frame is longer, not even where it doesn't conform.
+const MOST_LAPTOP_BYTES: u64 = 10_000;
 /// What is held in memory at once.
 pub const MOST_FRAMES: u64 = 5_000_000;
 
@@ -56,11 +58,10 @@ pub fn read(text: &str, flows: &[Flow], queues: &[Queue]) -> Result<Lines, Mista
 }
 
 fn read_laptop(words: &mut Words, queues: &[Queue]) -> Result<Laptop, Mistake> {
-    let link = words.port(queues)?;
     Ok(Laptop {
-        link,
+        link: words.link(queues)?,
         ready: words.moment()?,
-        bytes: words.laptop_bytes(queues, link)?,
+        bytes: words.number("bytes", 1, MOST_LAPTOP_BYTES)?,
         line: words.line,
     })
 }

@@ -1,7 +1,7 @@
 //! The words of a line of SENDS, taken one after the other.
 
 use super::slots::THOUSAND;
-use crate::numbers::commas;
+use crate::numbers::{commas, counted};
 use crate::rows::Word;
 use plain::orders::{Flow, NUMBER};
 use plain::table::{Queue, MOST_LINKS};
@@ -74,8 +74,12 @@ impl<'a> Words<'a> {
             return self.mistake(format!("{name}: missing"));
         };
         if word.contains([',', '.', '\'', '_']) {
+            let whole = match name == "instant" && word.contains('.') {
+                true => "a flow's instants are whole µs: ",
+                false => "",
+            };
             return self.mistake(format!(
-                "{name}: `{word}`: digits alone, without separators"
+                "{name}: `{word}`: {whole}digits alone, without separators"
             ));
         }
         if !word.bytes().all(|byte| byte.is_ascii_digit()) {
@@ -107,36 +111,16 @@ impl<'a> Words<'a> {
         }
     }
 
-    /// The index of a link on which a laptop may send.
-    pub fn port(&mut self, queues: &[Queue]) -> Result<usize, Mistake> {
+    /// The index of one of the table's links.
+    pub fn link(&mut self, queues: &[Queue]) -> Result<usize, Mistake> {
         let number = self.number("link", 1, MOST_LINKS)?;
-        let of_link = queues.iter().find(|queue| queue.link == number);
-        let why = match of_link.map(|queue| queue.best_effort_frame) {
-            Some(1..) => return Ok(number as usize - 1),
-            Some(0) => format!(
-                "no laptop may be plugged in here: the table gives link {number} no best-effort frame"
-            ),
-            None => {
-                let links = queues.last().map_or(0, |queue| queue.link);
-                format!("the table has no link {number}: it has {links} links")
-            }
-        };
-        self.next -= 1;
-        self.mistake(why)
-    }
-
-    /// The bytes of a laptop's frame on a link.
-    pub fn laptop_bytes(&mut self, queues: &[Queue], link: usize) -> Result<u64, Mistake> {
-        let of_link = queues.iter().find(|queue| queue.link == link as u64 + 1);
-        let most = of_link.map_or(0, |queue| queue.best_effort_frame);
-        if self.peek().and_then(|word| word.parse().ok()) > Some(most) {
-            return self.mistake(format!(
-                "bytes: too long: the table gives link {} a best-effort frame of {}",
-                link + 1,
-                commas(most)
-            ));
+        let links = queues.last().map_or(0, |queue| queue.link);
+        if number <= links {
+            return Ok(number as usize - 1);
         }
-        self.number("bytes", 1, most)
+        self.next -= 1;
+        let links = counted(links as usize, "link", "links");
+        self.mistake(format!("the table has no link {number}: it has {links}"))
     }
 
     /// An instant in thousandths of a µs: digits, or up to three decimals behind a point.
@@ -152,17 +136,17 @@ impl<'a> Words<'a> {
                 "instant: `{word}`: µs, up to three decimals behind a point, as 99.999"
             ));
         }
-        let micros = whole
-            .parse::<u64>()
-            .ok()
-            .filter(|&micros| micros < MOST_INSTANT);
-        let Some(micros) = micros else {
+        let thousandths = format!("{part:0<3}").parse::<u64>().unwrap_or(0);
+        let most = MOST_INSTANT * THOUSAND;
+        let micros = whole.parse::<u64>().ok();
+        let moment =
+            micros.and_then(|micros| micros.checked_mul(THOUSAND)?.checked_add(thousandths));
+        let Some(moment) = moment.filter(|&moment| moment <= most) else {
             let most = commas(MOST_INSTANT);
-            return self.mistake(format!("instant: {word} isn't below {most}"));
+            return self.mistake(format!("instant: {word} is out of range (0 to {most})"));
         };
         self.next += 1;
-        let thousandths = format!("{part:0<3}").parse::<u64>().unwrap_or(0);
-        Ok(micros * THOUSAND + thousandths)
+        Ok(moment)
     }
 
     pub fn end(&self) -> Result<(), Mistake> {

@@ -26,6 +26,9 @@ pub fn places(line: usize, words: &[&str]) -> Vec<String> {
     words.iter().map(place).collect()
 }
 
+/// What `check` adds where a line ends in what seems a fixed delay with too few columns before it.
+pub const HINT: &str = "; a best-effort frame stands behind it, in columns 44-48: write the fixed delay first, 0 where there is none";
+
 pub fn root() -> PathBuf {
     Path::new(env!("CARGO_MANIFEST_DIR")).join("..")
 }

@@ -104,7 +104,7 @@ fn drawings(hall: &Hall, seen: &[Seen], verdict: &Verdict, recorder: &Recorder) 
     let Stretch { from, to } = recorder.stretch;
     let mut html = format!(
         "<section id=\"stretch\" data-from=\"{from}\" data-to=\"{to}\">\n<h2>Instants {} to {}</h2>\n\
-         <p>A lane for each level: a frame waits in the light shade of its flow and is sent in the dark one. The grey bar behind it is its threshold, \
+         <p>A lane for each level: a frame waits in the light shade of its flow and is sent in the dark one. The light grey bar behind it is its threshold, \
          the black line its end; the frame with a black edge comes closest. {}{}Below, the bytes in the queue; the dashed line is the buffer.</p>\n",
         commas(from),
         commas(to),
@@ -112,8 +112,8 @@ fn drawings(hall: &Hall, seen: &[Seen], verdict: &Verdict, recorder: &Recorder) 
             true => "The dotted line after a frame is its time on the cable, in no queue. ",
             false => "",
         },
-        match hall.has_laptops() {
-            true => "Laptops' frames are grey, in a lane of their own, for they are in no queue. ",
+        match hall.has_laptops() || recorder.has_laptops() {
+            true => "Laptops' frames are dark grey, in a lane of their own, for they are in no queue. ",
             false => "",
         }
     );
@@ -166,7 +166,7 @@ fn legend(hall: &Hall, recorder: &Recorder) -> String {
             colours::waiting(index), colours::sending(index), flow_words(flow)
         );
     }
-    if recorder.laptops.iter().any(|frames| !frames.is_empty()) {
+    if recorder.has_laptops() {
         html += "<li><span class=\"swatch laptops\"></span> laptops' frames, best effort; a thin line while one waits</li>\n";
     }
     html + "</ul>\n"

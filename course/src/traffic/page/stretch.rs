@@ -78,6 +78,11 @@ impl Recorder<'_> {
             more_laptops: vec![0; hall.links().len()],
         }
     }
+
+    /// Whether a laptop's frame is shown.
+    pub fn has_laptops(&self) -> bool {
+        self.laptops.iter().any(|frames| !frames.is_empty())
+    }
 }
 
 impl Watch for Recorder<'_> {
