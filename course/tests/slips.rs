@@ -6,11 +6,12 @@ use common::hall_folder;
 use course::hall::make;
 use course::mark::marks;
 use course::mark::sheet::Row;
-use course::mark::slips::{Expected, Rules};
+use course::mark::slips::Expected;
 use course::session::Session;
 use plain::causes;
 use plain::orders::{code_of, Order};
 use plain::registry::{Answer, Registry};
+use plain::slips::Slips;
 
 /// What becomes of an order that was answered so.
 fn carry_out(registry: &mut Registry, order: &Order, answer: &Answer) {
@@ -23,13 +24,13 @@ fn carry_out(registry: &mut Registry, order: &Order, answer: &Answer) {
 }
 
 /// The rows of a trainee who makes one slip all along, without the longest stays.
-fn sheet(session: &Session, rules: Rules) -> Vec<Row> {
-    let mut registry = Registry::slipping(session.registry.queues.clone(), rules.slips);
+fn sheet(session: &Session, slips: Slips) -> Vec<Row> {
+    let mut registry = Registry::slipping(session.registry.queues.clone(), slips);
     let mut rows = Vec::new();
     for step in &session.steps {
         let (answer, work) = match &step.order {
             Ok(order) => {
-                let answered = rules.answer_to(&registry, order);
+                let answered = registry.answer_to(order);
                 carry_out(&mut registry, order, &answered.0);
                 answered
             }
@@ -48,14 +49,14 @@ fn sheet(session: &Session, rules: Rules) -> Vec<Row> {
 
 #[test]
 fn each_slip_is_recognised() {
-    let each = Rules::each();
+    let each = Slips::EACH;
     let mut by_answer = vec![0; each.len()];
     let mut by_bounds = vec![0; each.len()];
     for seed in 0..120 {
         let made = make(seed);
         let folder = hall_folder(&made.table, &made.orders);
         let session = Session::run(&folder).unwrap_or_else(|failed| panic!("{}", failed.errors));
-        let right = sheet(&session, Rules::TRUE);
+        let right = sheet(&session, Slips::NONE);
         assert!(marks(&session, &right, &(1..=u64::MAX))
             .iter()
             .all(|mark| mark.right));
@@ -88,7 +89,7 @@ fn a_changed_bound_is_wrong() {
     for (index, step) in session.steps.iter().enumerate() {
         let truth = Expected::of(&step.answer, step.work.as_ref(), &session.registry);
         for (bound, count) in changed.iter_mut().enumerate() {
-            let mut rows = sheet(&session, Rules::TRUE);
+            let mut rows = sheet(&session, Slips::NONE);
             rows[index].bounds = truth.bounds;
             assert!(marks(&session, &rows, &all)[index].right);
             rows[index].bounds[bound] = Some(truth.bounds[bound].map_or(7, |value| value + 1));
@@ -109,9 +110,9 @@ fn a_share_stored_early_refuses_one_link_too_soon() {
     let read = |name: &str| std::fs::read(common::root().join("examples/hall").join(name)).unwrap();
     let folder = hall_folder(&read("table.txt"), &read("orders.txt"));
     let session = Session::run(&folder).unwrap_or_else(|failed| panic!("{}", failed.errors));
-    let (name, rules) = Rules::each()[2];
-    assert!(rules.slips.stored_early);
-    let rows = sheet(&session, rules);
+    let (name, slips) = Slips::EACH[2];
+    assert!(slips.stored_early);
+    let rows = sheet(&session, slips);
     assert_eq!(rows[25].answer, [22, 0, 2, 2]);
     assert_eq!(rows[25].bounds[0], Some(1_837));
     let found = marks(&session, &rows, &(1..=u64::MAX));

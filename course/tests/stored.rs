@@ -51,7 +51,7 @@ fn each_slip_in_one_sheet() {
         Status::Wrong,
     );
     let outcome = course(&["mark", &folder.display().to_string(), &sheet]);
-    for (name, _) in course::mark::slips::Rules::each() {
+    for (name, _) in plain::slips::Slips::EACH {
         let line = format!("slip: {name}: line ");
         assert!(outcome.printed.contains(&line), "{name}");
     }

@@ -85,6 +85,14 @@ impl Registry {
         }
     }
 
+    /// The same flows by rules of which some are broken.
+    pub fn by(&self, slips: Slips) -> Registry {
+        Registry {
+            slips,
+            ..self.clone()
+        }
+    }
+
     /// A flow in the lowest free slot, unjudged; nothing where there is none.
     pub fn put_in(&mut self, flow: &Flow) {
         if let Some(free) = self.slots.iter_mut().find(|slot| slot.is_none()) {

@@ -1,7 +1,21 @@
-//! Document 01, "Where trainees and programs slip": each slip is a switch that turns one rule wrong, so that an answer can
-//! be recognised by the slip that gives it. All else goes by the rules; with no switch on, everything does.
+//! Document 01, "Where trainees and programs slip", and slips with W-202's best-effort frames: each is a switch that turns
+//! one rule wrong, so that an answer can be recognised by the slip that gives it. All else goes by the rules; with no switch on, everything does.
 
 use crate::formula::{burst_at_hop, growth, Sums};
+
+/// How what can be under way is taken.
+#[derive(Clone, Copy, Debug, Default, PartialEq)]
+pub enum Blocking {
+    /// By the rule: the larger of the frame below and the best-effort frame.
+    #[default]
+    Larger,
+    /// The frame below alone.
+    LeftOut,
+    /// The frame below alone where there is none: at the last level that carries a flow.
+    LeftOutAtTheLast,
+    /// Both, one after the other.
+    Added,
+}
 
 /// The rules that are broken; none by default.
 #[derive(Clone, Copy, Debug, Default, PartialEq)]
@@ -18,6 +32,7 @@ pub struct Slips {
     pub fraction_dropped: bool,
     /// A burst is rounded up at each hop in place of once.
     pub rounded_each_hop: bool,
+    pub blocking: Blocking,
 }
 
 const NO_SLIP: Slips = Slips {
@@ -27,20 +42,24 @@ const NO_SLIP: Slips = Slips {
     source_burst: false,
     fraction_dropped: false,
     rounded_each_hop: false,
+    blocking: Blocking::Larger,
 };
 
 impl Slips {
     pub const NONE: Slips = NO_SLIP;
 
-    /// Each slip by itself, in document 01's order, with its name.
+    /// Each slip by itself, in document 01's order and then W-202's, with its name.
     #[rustfmt::skip]
-    pub const EACH: [(&'static str, Slips); 6] = [
+    pub const EACH: [(&'static str, Slips); 9] = [
         ("only the levels below checked", Slips { only_below: true, ..Slips::NONE }),
         ("largest frame left on release", Slips { frame_left: true, ..Slips::NONE }),
         ("first links stored before a refusal at the last", Slips { stored_early: true, ..Slips::NONE }),
         ("source's burst at every hop", Slips { source_burst: true, ..Slips::NONE }),
         ("fraction dropped", Slips { fraction_dropped: true, ..Slips::NONE }),
         ("rounding at each hop", Slips { rounded_each_hop: true, ..Slips::NONE }),
+        ("best-effort frame left out", Slips { blocking: Blocking::LeftOut, ..Slips::NONE }),
+        ("best-effort frame left out at the last level", Slips { blocking: Blocking::LeftOutAtTheLast, ..Slips::NONE }),
+        ("best-effort frame added to the frame below", Slips { blocking: Blocking::Added, ..Slips::NONE }),
     ];
 
     /// Burst at a hop after earlier hops with these thresholds.
@@ -53,6 +72,20 @@ impl Slips {
             return burst + grown;
         }
         burst_at_hop(burst, rate, earlier.sum())
+    }
+
+    /// A level's sums, with what blocks it.
+    pub fn sums(&self, sums: Sums) -> Sums {
+        let best_effort_frame = match self.blocking {
+            Blocking::LeftOut => 0,
+            Blocking::LeftOutAtTheLast if sums.below == 0 => 0,
+            Blocking::Added => sums.best_effort_frame + sums.below,
+            Blocking::Larger | Blocking::LeftOutAtTheLast => sums.best_effort_frame,
+        };
+        Sums {
+            best_effort_frame,
+            ..sums
+        }
     }
 
     /// The delay bound, µs.

@@ -93,7 +93,7 @@ impl Work {
 }
 
 impl LinkWork {
-    /// A link's levels with these figures. A slip may round a bound.
+    /// A link's levels with these figures. A slip may take another frame for what blocks, or round a bound.
     pub fn of(levels: Vec<(Queue, Aggregate)>, slips: &Slips) -> LinkWork {
         let figures: Vec<Aggregate> = levels.iter().map(|(_, figures)| *figures).collect();
         let (number, link) = levels
@@ -104,7 +104,7 @@ impl LinkWork {
             if figures[p].is_empty() || sum >= limit {
                 return None;
             }
-            let sums = Sums::of(link, &figures, p);
+            let sums = slips.sums(Sums::of(link, &figures, p));
             Some(Bounds {
                 sums,
                 delay: slips.delay(&sums),

@@ -6,8 +6,7 @@ pub mod worksheet;
 
 use crate::arguments::{Arguments, Choice, Command};
 use crate::folder::{cannot_write, Folder, ORDERS, TABLE};
-use crate::mark::blocking::Blocking;
-use crate::mark::slips::{Expected, Rules};
+use crate::mark::slips::Expected;
 use crate::session::{remark, Session};
 use crate::status::{Outcome, Status};
 use halls::rng::Rng;
@@ -17,6 +16,7 @@ use orders::Orders;
 use plain::columns::lines;
 use plain::orders::read_order;
 use plain::registry::Registry;
+use plain::slips::{Blocking, Slips};
 use std::fs;
 use std::path::{Path, PathBuf};
 
@@ -77,18 +77,18 @@ pub fn make(seed: u64) -> Made {
 
 /// Whether somebody who leaves best-effort frames out fills in another row.
 fn laptops_matter(network: &Network, orders: &Orders) -> bool {
-    let left_out = Rules {
-        blocking: Some(Blocking::LeftOut),
-        ..Rules::TRUE
+    let left_out = Slips {
+        blocking: Blocking::LeftOut,
+        ..Slips::NONE
     };
     let mut registry = Registry::over(network.queues.clone());
     orders.text.iter().any(|line| {
         let order = read_order(&lines(line)[0]);
-        let row = |rules: &Rules| {
-            let (answer, work) = rules.answer_to(&registry, order.as_ref().ok()?);
+        let row = |by: &Registry| {
+            let (answer, work) = by.answer_to(order.as_ref().ok()?);
             Some(Expected::of(&answer, work.as_ref(), &registry))
         };
-        let differ = row(&Rules::TRUE) != row(&left_out);
+        let differ = row(&registry) != row(&registry.by(left_out));
         registry.step(order);
         differ
     })

@@ -1,6 +1,5 @@
 //! `course mark`: a trainee's answers, row by row, with the slip that gives a wrong one.
 
-pub mod blocking;
 pub mod sheet;
 pub mod slips;
 
@@ -11,8 +10,9 @@ use crate::numbers::{commas, counted};
 use crate::session::{remark, Session, Step};
 use crate::status::{Outcome, Status};
 use plain::registry::Answer;
+use plain::slips::Slips;
 use sheet::{Row, BOUND_NAMES};
-use slips::{Expected, Followers, Rules, Why};
+use slips::{Expected, Followers, Why};
 use std::ops::RangeInclusive;
 use std::path::Path;
 
@@ -230,7 +230,7 @@ fn summary(marks: &[Mark], right: usize) -> String {
         commas(right),
         counted(marks.len(), "row", "rows")
     );
-    for (name, _) in Rules::each() {
+    for (name, _) in Slips::EACH {
         let fitting = marks.iter().filter(|mark| mark.slips.contains(&name));
         let lines: Vec<String> = fitting.map(|mark| commas(mark.line)).collect();
         if !lines.is_empty() {

@@ -1,12 +1,11 @@
 //! Which slip gives a wrong row.
 
-use super::blocking::Blocking;
 use super::sheet::Row;
 use plain::causes;
 use plain::orders::Order;
 use plain::registry::{Answer, Registry};
-use plain::slips::Slips;
-use plain::work::{LinkWork, Work};
+use plain::slips::{Blocking, Slips};
+use plain::work::Work;
 
 /// What a row should hold.
 #[derive(Clone, Debug, PartialEq)]
@@ -16,43 +15,6 @@ pub struct Expected {
     pub bounds: [Option<u128>; 3],
 }
 
-/// The rules of which one may be broken: one of document 01's slips, or one with best-effort frames.
-#[derive(Clone, Copy, Debug, PartialEq)]
-pub struct Rules {
-    pub slips: Slips,
-    pub blocking: Option<Blocking>,
-}
-
-impl Rules {
-    pub const TRUE: Rules = Rules {
-        slips: Slips::NONE,
-        blocking: None,
-    };
-
-    /// Each slip by itself with its name, in the order in which they are told.
-    pub fn each() -> Vec<(&'static str, Rules)> {
-        let broken = |slips, blocking| Rules { slips, blocking };
-        let first = Slips::EACH.map(|(name, slips)| (name, broken(slips, None)));
-        let last = Blocking::EACH.map(|(name, one)| (name, broken(Slips::NONE, Some(one))));
-        first.into_iter().chain(last).collect()
-    }
-
-    /// What an order would be answered over a registry with these slips.
-    pub fn answer_to(&self, registry: &Registry, order: &Order) -> (Answer, Option<Work>) {
-        match self.blocking {
-            None => registry.answer_to(order),
-            Some(blocking) => blocking.answer_to(registry, order),
-        }
-    }
-
-    fn link_work(&self, registry: &Registry, link: u64) -> LinkWork {
-        match self.blocking {
-            None => registry.link_work(link, None),
-            Some(blocking) => blocking.link_work(registry, link, None),
-        }
-    }
-}
-
 fn numbers(answer: &Answer) -> [u64; 4] {
     [answer.code, answer.slot, answer.link, answer.level]
 }
@@ -60,15 +22,10 @@ fn numbers(answer: &Answer) -> [u64; 4] {
 impl Expected {
     /// `last` holds the flows that are held after all orders.
     pub fn of(answer: &Answer, work: Option<&Work>, last: &Registry) -> Expected {
-        Expected::by(&Rules::TRUE, answer, work, last)
-    }
-
-    /// The same by these rules.
-    fn by(rules: &Rules, answer: &Answer, work: Option<&Work>, last: &Registry) -> Expected {
         let deciding = work.and_then(Work::deciding);
         let bounds = deciding.and_then(|level| level.bounds);
         let stay = deciding.map(|level| {
-            let link = rules.link_work(last, level.queue.link);
+            let link = last.link_work(level.queue.link, None);
             let found = link.levels.iter().find(|other| other.queue == level.queue);
             let bounds = found.and_then(|other| other.bounds);
             bounds.map_or(0, |bounds| bounds.delay)
@@ -97,7 +54,6 @@ impl Expected {
 /// A registry that goes along with the trainee's own rows, by rules of which one may be broken.
 struct Follower {
     name: &'static str,
-    rules: Rules,
     registry: Registry,
     /// The flows that are held in truth after all orders, by the same rules.
     last: Registry,
@@ -105,15 +61,16 @@ struct Follower {
 
 impl Follower {
     fn expected(&self, order: &Order) -> Expected {
-        let (answer, work) = self.rules.answer_to(&self.registry, order);
-        Expected::by(&self.rules, &answer, work.as_ref(), &self.last)
+        let (answer, work) = self.registry.answer_to(order);
+        Expected::of(&answer, work.as_ref(), &self.last)
     }
 
     /// Whether these rules give the row where the true ones don't.
     fn fits(&self, order: &Order, row: &Row, truth: &Expected) -> bool {
         let own = self.expected(order);
         // What blocks is in both bounds: one that the slip wouldn't give contradicts it.
-        if self.rules.blocking.is_some() && own.wrong_bounds(row) != [false; 3] {
+        let by_rule = self.registry.slips.blocking == Blocking::Larger;
+        if !by_rule && own.wrong_bounds(row) != [false; 3] {
             return false;
         }
         let wrong = truth.wrong_bounds(row);
@@ -159,19 +116,14 @@ pub struct Followers {
 impl Followers {
     /// `last` is the true registry after all orders.
     pub fn new(last: &Registry) -> Followers {
-        let follower = |(name, rules): (&'static str, Rules)| {
-            let mut held = last.clone();
-            held.slips = rules.slips;
-            Follower {
-                name,
-                rules,
-                registry: Registry::slipping(last.queues.clone(), rules.slips),
-                last: held,
-            }
+        let follower = |(name, slips): (&'static str, Slips)| Follower {
+            name,
+            registry: Registry::slipping(last.queues.clone(), slips),
+            last: last.by(slips),
         };
         Followers {
-            true_rules: follower(("", Rules::TRUE)),
-            slipping: Rules::each().into_iter().map(follower).collect(),
+            true_rules: follower(("", Slips::NONE)),
+            slipping: Slips::EACH.map(follower).into(),
         }
     }
 

@@ -39,7 +39,7 @@ levelFigures sums link = upTo levelsMost (λ p. figureAt sums (entryAt link p))
 unfoldable pub levelsWith : (sums : List ℕ) (e : ℕ) (share : Aggregate) → List Aggregate
 levelsWith sums e share = set (levelFigures sums (linkIn e)) (levelIn e) (together (figureAt sums e) share)
 
--- What the check of a link asks of its levels.
+-- What the check of a link asks of its levels, with room for a best-effort frame of any 32 bits.
 abbrev pub Summable : List Aggregate → Type 0
 Summable levels = (total (λ a. a .rate) levels < 2 ^ 40) × (total (λ a. a .burst) levels + 2 * largest (λ a. a .frame) levels ≤ 2 ^ 39)
 

@@ -1,4 +1,4 @@
--- Document 01, "Whole batch", worked out from the definitions; and batches that show what counts as a line, and which refusal comes first.
+-- Document 01, "Whole batch", worked out from the definitions; batches that show what counts as a line, and which refusal comes first; and links that 42 judges.
 -- By computation. Assumes nothing.
 use Prim.Native.Nat.{ℕ, zero, suc}
 use Prim.Native.Char.{code}
