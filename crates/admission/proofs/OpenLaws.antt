@@ -38,7 +38,7 @@ free-counts m zero i = refl
 free-counts m (suc n) i = rw (free-count m i) (omega (arith, free-counts m n (suc i)))
 
 no-figures : (m : ℕ) (t : Table) (e : ℕ) → figureAt (replicate m 0) e ≡ lookup.aggregateAt t [] (hopAt e)
-unfolding figureAt lookup.aggregateAt lookup.allShares total largest
+unfolding figureAt lookup.sharesAt lookup.aggregateAt lookup.allShares total largest
 no-figures m t e = λ i. record { rate = zeros m (3 * e) i; burst = zeros m (3 * e + 1) i; frame = zeros m (3 * e + 2) i }
 
 module _ (text table : List ℕ) (v : Verdict) (filled : TableFilled text v table)

@@ -11,9 +11,10 @@ use Rattle.model.specs.Orders.{Flow}
 use Rattle.model.specs.Formula.{Aggregate}
 use Rattle.model.specs.QueueTable.{Table}
 use Rattle.model.specs.Aggregates as model
+use Rattle.model.specs.Aggregates.{sharesAt}
 use Rattle.model.specs.WithFlow.{together}
 use Rattle.model.specs.Laws.Aggregates.{hop-same}
-use Rattle.model.specs.Laws.Figures.{sharesAt, shares-nothing, shares-other, shares-here, aggregate-alone, aggregate-more}
+use Rattle.model.specs.Laws.Figures.{shares-nothing, shares-other, shares-here, aggregate-alone, aggregate-more}
 use Rattle.queue_table.specs.View.{tableOf, hopAt, AllQueues}
 use Rattle.figures.specs.View.{sumNumbers, figureAt, growthAt, ShareBounded, Below, figureStored, FlowOf, PathAdded, Figures}
 use Rattle.figures.proofs.FigureLaws.{stored-length, stored-here, stored-other, stored-below}

@@ -9,7 +9,7 @@ use lib.ListN.{length, getD, set, List·getD-eq-default}
 use lib.Seq.{getD-set-same, getD-set-other}
 use Rattle.model.specs.Total.{total, largest}
 use Rattle.model.specs.QueueTable.{Table}
-use Rattle.model.specs.Aggregates.{allShares, aggregateAt}
+use Rattle.model.specs.Aggregates.{allShares, sharesAt, aggregateAt}
 use Rattle.model.specs.Laws.List.{before-next}
 use Rattle.figures.specs.View.{sumNumbers, figureAt, Below, Figures}
 
@@ -29,7 +29,7 @@ zero-all i sums h z j = go (decLt j i)
     go (no ge) = omega (arith, List·getD-eq-default sums 0 {n = j} (omega arith))
 
 pub figures-none : (t : Table) (sums : List ℕ) → length sums ≡ sumNumbers → Below 0 sums → Figures t [] sums
-unfolding figureAt aggregateAt allShares total largest
+unfolding figureAt sharesAt aggregateAt allShares total largest
 figures-none t sums long below =
     record { long = long; same = λ e lt i. record { rate = none-at (3 * e) i; burst = none-at (3 * e + 1) i; frame = none-at (3 * e + 2) i } }
   where

@@ -14,8 +14,9 @@ use Rattle.model.specs.Orders.{Flow}
 use Rattle.model.specs.Formula.{Aggregate}
 use Rattle.model.specs.QueueTable.{Table}
 use Rattle.model.specs.Aggregates as model
+use Rattle.model.specs.Aggregates.{sharesAt}
 use Rattle.model.specs.Laws.Aggregates.{hop-same}
-use Rattle.model.specs.Laws.Figures.{sharesAt, aggregate-alone}
+use Rattle.model.specs.Laws.Figures.{aggregate-alone}
 use Rattle.queue_table.specs.View.{hopAt}
 use Rattle.figures.specs.View.{sumNumbers, figureAt, raised, FrameRaised}
 use Rattle.figures.proofs.EntryLaws.{other-entry}

@@ -6,7 +6,7 @@ use mathlib.Core.Option.{Option, none, some}
 use lib.Dec.{eqb}
 use Rattle.model.specs.Words.{andThen, nth}
 use Rattle.model.specs.Total.{total, largest}
-use Rattle.model.specs.Formula.{Aggregate, burstAtHop}
+use Rattle.model.specs.Formula.{Aggregate, hopGrowth, burstAtHop}
 use Rattle.model.specs.QueueTable.{Queue, Link, Table}
 use Rattle.model.specs.Orders.{Hop, Flow}
 
@@ -20,6 +20,11 @@ queueAt t h = andThen (linkAt t (h .link)) λ l. nth (l .levels) (h .level)
 unfoldable pub thresholdOf : Option Queue → ℕ
 thresholdOf none = 0
 thresholdOf (some q) = q .threshold
+
+-- A link's speed, in bits per µs.
+unfoldable pub speedOf : Option Link → ℕ
+speedOf none = 0
+speedOf (some l) = l .speed
 
 unfoldable pub fixedDelayOf : Option Link → ℕ
 fixedDelayOf none = 0
@@ -37,9 +42,9 @@ source f = record { rate = f .rate; burst = f .burst; frame = f .frame }
 abbrev pub grown : Aggregate → (sum : ℕ) → Aggregate
 grown a sum = record { rate = a .rate; burst = burstAtHop (a .rate) (a .burst) sum; frame = a .frame }
 
--- What a hop adds to S for the hops after it: its threshold.
+-- What a hop adds to S for the hops after it, by the threshold of its queue and the speed of its link.
 abbrev pub growth : Table → Hop → ℕ
-growth t h = thresholdOf (queueAt t h)
+growth t h = hopGrowth (thresholdOf (queueAt t h)) (speedOf (linkAt t (h .link)))
 
 -- A flow's share at one of its hops is what it adds there.
 pub record Share : Type 0 where
@@ -63,14 +68,17 @@ sameHop a b = eqb (a .link) (b .link) && eqb (a .level) (b .level)
 unfoldable pub addsAt : Hop → (Aggregate → ℕ) → Share → ℕ
 addsAt q measure e = cond (sameHop q (e .hop)) (measure (e .adds)) 0
 
--- Sum of rates, sum of bursts, largest frame (0 where none).
-unfoldable pub aggregateAt : Table → List Flow → Hop → Aggregate
-aggregateAt t fs q =
+-- What shares add at queue `q`: sum of rates, sum of bursts, largest frame (0 where none).
+unfoldable pub sharesAt : Hop → List Share → Aggregate
+sharesAt q es =
     record {
-      rate = total (addsAt q (λ a. a .rate)) (allShares t fs);
-      burst = total (addsAt q (λ a. a .burst)) (allShares t fs);
-      frame = largest (addsAt q (λ a. a .frame)) (allShares t fs);
+      rate = total (addsAt q (λ a. a .rate)) es;
+      burst = total (addsAt q (λ a. a .burst)) es;
+      frame = largest (addsAt q (λ a. a .frame)) es;
     }
+
+unfoldable pub aggregateAt : Table → List Flow → Hop → Aggregate
+aggregateAt t fs q = sharesAt q (allShares t fs)
 
 -- One aggregate for each of the queues, which are those of link `link` from level `n` on.
 unfoldable pub levelAggregates : Table → List Flow → (link n : ℕ) → List Queue → List Aggregate

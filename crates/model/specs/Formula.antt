@@ -1,5 +1,5 @@
 -- Document 01, "The book": the threshold-based model in whole units. Bytes on the wire, kbit/s, µs; a link's speed in Mbit/s.
--- The equations are those of source 000. Request W-202: the link's best-effort frame.
+-- The equations are those of source 000. Requests W-202, W-208: the link's best-effort frame, a hop's part of S.
 use Prim.Native.Nat.{ℕ, _+_, _-_, _*_, _/_, max}
 use mathlib.Core.Bool.{Bool}
 use mathlib.Core.List.{List}
@@ -10,7 +10,15 @@ use Rattle.model.specs.Total.{total, largest}
 unfoldable pub ceilDiv : ℕ → ℕ → ℕ
 ceilDiv a b = (a + (b - 1)) / b
 
--- Burst at a hop: `sum` is the sum of the thresholds of the earlier hops, rounded once (section III).
+-- The shortest sending time, µs: the smallest frame has 672 bits (84 bytes), and a link of `speed` Mbit/s sends so many bits per µs.
+unfoldable pub shortestSending : (speed : ℕ) → ℕ
+shortestSending speed = ceilDiv 672 speed
+
+-- A hop's part of S: a frame can't leave a queue sooner than that, so only the rest of the threshold can bunch frames; never below zero.
+unfoldable pub hopGrowth : (threshold speed : ℕ) → ℕ
+hopGrowth threshold speed = threshold - shortestSending speed
+
+-- Burst at a hop: `sum` is S, the sum of the earlier hops' parts, rounded once (section III).
 unfoldable pub burstAtHop : (rate burst sum : ℕ) → ℕ
 burstAtHop rate burst sum = burst + ceilDiv (rate * sum) 8000
 

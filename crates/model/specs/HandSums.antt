@@ -1,4 +1,4 @@
--- Document 01, "Sums to check by hand", the starred ones, and those of requests W-201 and W-202: 100 Mbit/s, flows of rate 1,000, burst and frame 1,542.
+-- Document 01, "Sums to check by hand", the starred ones, and those of requests W-201, W-202 and W-208: 100 Mbit/s, flows of rate 1,000, burst and frame 1,542.
 -- That each comes out as given is shown in `Laws.HandSums`.
 use Prim.Native.Nat.{ℕ}
 use mathlib.Core.List.{List, [], _∷_, map}
@@ -21,12 +21,16 @@ short = record { rate = 1000; burst = 84; frame = 84 }
 unfoldable pub rateOnly : ℕ → Aggregate
 rateOnly r = record { rate = r; burst = 0; frame = 0 }
 
--- Links of one level with a threshold of 371, and with a fixed delay; those of a path, the last one's given.
-unfoldable pub link : (fixedDelay : ℕ) → Link
-link fixedDelay = record { from = 1; to = 2; speed = 100; fixedDelay = fixedDelay; bestEffort = 0; levels = record { threshold = 371; buffer = 2000 } ∷ [] }
+-- Links of one level; those of a path with thresholds of 371, the last one's fixed delay given; that path behind another first link.
+unfoldable pub link : (speed threshold fixedDelay : ℕ) → Link
+link speed threshold fixedDelay =
+    record { from = 1; to = 2; speed = speed; fixedDelay = fixedDelay; bestEffort = 0; levels = record { threshold = threshold; buffer = 2000 } ∷ [] }
 
 unfoldable pub links : (last : ℕ) → Table
-links last = link 295 ∷ link 296 ∷ link last ∷ []
+links last = link 100 371 295 ∷ link 100 371 296 ∷ link 100 371 last ∷ []
+
+unfoldable pub behind : (speed threshold : ℕ) → Table
+behind speed threshold = link speed threshold 0 ∷ links 296
 
 unfoldable pub along : List Hop
 along = record { link = 1; level = 1 } ∷ record { link = 2; level = 1 } ∷ record { link = 3; level = 1 } ∷ []
@@ -35,8 +39,8 @@ unfoldable pub flow : Flow
 flow = record { number = 7; rate = 1000; burst = 1542; frame = 1542; deadline = 2000; path = along }
 
 -- The bursts of the flow at its hops.
-unfoldable pub bursts : List ℕ
-bursts = map (λ s. s .adds .burst) (shares (links 296) flow 0 along)
+unfoldable pub bursts : Table → List ℕ
+bursts t = map (λ s. s .adds .burst) (shares t flow 0 along)
 
 -- The code of a cause, 0 where there is none.
 unfoldable pub code : Option Cause → ℕ
@@ -70,9 +74,15 @@ handSums =
     ∷ sum (delay 100 84 [] one (one ∷ [])) 371
     ∷ sum (delay 100 1542 (one ∷ []) one []) 499
     ∷ sum (backlog 100 1542 (one ∷ []) one []) 1589
-    -- burst after a threshold of 371, and after two (rounded at each hop it would be 1,636); the fixed delays don't count
-    ∷ sum (getD bursts 1 0) 1589
-    ∷ sum (getD bursts 2 0) 1635
+    -- burst after a threshold of 371, and after two (whole thresholds give 1,589 and 1,635; rounded at each hop the second would be 1,634); the fixed delays don't count
+    ∷ sum (getD (bursts (links 296)) 1 0) 1588
+    ∷ sum (getD (bursts (links 296)) 2 0) 1633
+    -- after thresholds of 375 and 376: a shortest sending time of 6 or of 8 µs, where it is 7, would give 1,589 or 1,588
+    ∷ sum (getD (bursts (behind 100 375)) 1 0) 1588
+    ∷ sum (getD (bursts (behind 100 376)) 1 0) 1589
+    -- the speed is the earlier hop's, 10 Mbit/s before 100; a threshold below the shortest sending time adds nothing
+    ∷ sum (getD (bursts (behind 10 371)) 1 0) 1580
+    ∷ sum (getD (bursts (behind 100 6)) 1 0) 1542
     -- held rates 99,000, new 999 and new 1,000
     ∷ sum (rateCode 100 (rateOnly 99000 ∷ rateOnly 999 ∷ [])) 0
     ∷ sum (rateCode 100 (rateOnly 99000 ∷ rateOnly 1000 ∷ [])) 21

@@ -18,6 +18,7 @@ pub mod WorkedBatch
 pub mod Consistent
 pub mod Admissible
 pub mod Outcomes
+pub mod WholeThresholds
 pub mod Part
 pub mod Run
 pub mod Punctual

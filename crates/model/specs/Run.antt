@@ -12,7 +12,7 @@ use Rattle.model.specs.Words.{All, filter, andThen, nth}
 use Rattle.model.specs.Total.{total}
 use Rattle.model.specs.QueueTable.{Queue, Link, Table}
 use Rattle.model.specs.Orders.{Hop, Flow}
-use Rattle.model.specs.Aggregates.{linkAt, fixedDelayOf, bestEffortOf, sameHop}
+use Rattle.model.specs.Aggregates.{linkAt, speedOf, fixedDelayOf, bestEffortOf, sameHop}
 
 -- A frame: its flow, the hop it is at, its bytes, the instant it reached this queue, and the instant its source sent it (which nothing here reads; `Delivery` does).
 pub record Frame : Type 0 where
@@ -144,11 +144,6 @@ emptyLevels (q ∷ qs) = [] ∷ emptyLevels qs
 unfoldable pub emptyLink : Option Link → LinkState
 emptyLink none = record { wire = idle; levels = []; left = [] }
 emptyLink (some k) = record { wire = idle; levels = emptyLevels (k .levels); left = [] }
-
--- A link's speed, in bits per µs.
-unfoldable pub speedOf : Option Link → ℕ
-speedOf none = 0
-speedOf (some k) = k .speed
 
 -- What a source may add at instant `x`: a frame of a flow, at its first hop, of 84 bytes up to the flow's largest.
 pub record Sends (fs : List Flow) (x : ℕ) (f : Frame) : Type 0 where

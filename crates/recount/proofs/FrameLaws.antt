@@ -11,7 +11,7 @@ use Rattle.model.specs.Total.{largest}
 use Rattle.model.specs.Formula.{Aggregate}
 use Rattle.model.specs.QueueTable.{Table}
 use Rattle.model.specs.Orders.{Flow, Hop}
-use Rattle.model.specs.Aggregates.{shares, allShares, aggregateAt}
+use Rattle.model.specs.Aggregates.{shares, allShares, sharesAt, aggregateAt}
 use Rattle.model.specs.Reference.{Slot, heldFlows}
 use Rattle.model.specs.WithFlow.{together}
 use Rattle.model.specs.Laws.Figures.{aggregate-more}
@@ -36,14 +36,14 @@ pub record Raising (slots pool before sums : List ℕ) (at slot : ℕ) : Type 0 
 
 -- A flow without hops is nowhere.
 frame-nowhere : (t : Table) (f : Flow) (q : Hop) → f .path ≡ [] → aggregateAt t (f ∷ []) q .frame ≡ 0
-unfolding aggregateAt allShares shares largest
+unfolding sharesAt aggregateAt allShares shares largest
 frame-nowhere t f q e = rw e
 
 module _ (slots pool : List ℕ) where
   -- Slot i has its flow's largest frame, and a free one has none.
   frame-next : (t : Table) (i e : ℕ) → i < slotCount → Dec (countAt slots i ≡ 0)
       → frameOf t (rest slots pool i) e ≡ max (aggregateAt t (flowIn slots pool i ∷ []) (hopAt e) .frame) (frameOf t (rest slots pool (i + 1)) e)
-  unfolding flowAt aggregateAt together
+  unfolding flowAt sharesAt aggregateAt together
   frame-next t i e lt (yes free) =
       let path : flowIn slots pool i .path ≡ [] = ap (λ (n : ℕ). map hopAt (take n (drop (countsFrom i 0 slots) pool))) free in
       ap (λ fs. aggregateAt t fs (hopAt e) .frame) (flows-free slots pool i lt free)
@@ -76,7 +76,7 @@ module _ (slots pool : List ℕ) where
           }
 
       pub raising-all : slotCount ≤ slot → FramesRaised slots pool before sums
-      unfolding slotsFrom heldFlows aggregateAt allShares largest
+      unfolding slotsFrom heldFlows sharesAt aggregateAt allShares largest
       raising-all end =
           record {
             long = so-far .long;

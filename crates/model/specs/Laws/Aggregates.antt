@@ -15,7 +15,7 @@ use Rattle.model.specs.Formula.{Aggregate}
 use Rattle.model.specs.Laws.Formula.{AtMost}
 use Rattle.model.specs.QueueTable.{Queue, Table}
 use Rattle.model.specs.Orders.{Hop, Flow}
-use Rattle.model.specs.Aggregates.{Share, growth, shares, allShares, sameHop, addsAt, aggregateAt, levelAggregates}
+use Rattle.model.specs.Aggregates.{Share, growth, shares, allShares, sameHop, addsAt, sharesAt, aggregateAt, levelAggregates}
 use Rattle.model.specs.Laws.Test.{and-both, both-and, or-neither}
 use Rattle.model.specs.Reference.{crosses}
 
@@ -47,7 +47,7 @@ module _ (t : Table) where
       largest-append m (shares t f 0 (f .path)) (allShares t fs) ∙ ap (λ n. max (largest m (shares t f 0 (f .path))) n) (largest-all m fs)
 
   pub aggregate-part : {part fs : List Flow} → Part part fs → (q : Hop) → AtMost (aggregateAt t part q) (aggregateAt t fs q)
-  unfolding aggregateAt
+  unfolding sharesAt aggregateAt
   aggregate-part {part} {fs} p q = record { rate = sum (λ a. a .rate); burst = sum (λ a. a .burst); frame = most (λ a. a .frame) }
     where
       sum : (m : Aggregate → ℕ) → total (addsAt q m) (allShares t part) ≤ total (addsAt q m) (allShares t fs)
@@ -82,7 +82,7 @@ module _ (t : Table) where
 
   pub aggregate-off : (f : Flow) (fs : List Flow) (link p : ℕ) → crosses link (f .path) ≡ false
       → AtMost (aggregateAt t (f ∷ fs) (record { link = link; level = p })) (aggregateAt t fs (record { link = link; level = p }))
-  unfolding aggregateAt allShares
+  unfolding sharesAt aggregateAt allShares
   aggregate-off f fs link p off = record { rate = sum (λ a. a .rate); burst = sum (λ a. a .burst); frame = most (λ a. a .frame) }
     where
       q : Hop

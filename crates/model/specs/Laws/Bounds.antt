@@ -14,7 +14,7 @@ use Rattle.model.specs.Total.{total, largest}
 use Rattle.model.specs.Formula.{Aggregate, backlog, backlogBound}
 use Rattle.model.specs.QueueTable.{Queue, Link, Table}
 use Rattle.model.specs.Orders.{Hop, Flow}
-use Rattle.model.specs.Aggregates.{Share, linkAt, queueAt, growth, shares, allShares, sameHop, addsAt, aggregateAt, levelAggregates}
+use Rattle.model.specs.Aggregates.{Share, linkAt, queueAt, growth, shares, allShares, sameHop, addsAt, sharesAt, aggregateAt, levelAggregates}
 use Rattle.model.specs.Reference.{State, heldFlows}
 use Rattle.model.specs.Consistent.{tableConsistent}
 use Rattle.model.specs.Admissible.{own}
@@ -96,13 +96,13 @@ module _ (s : State) (r : StateRules s) (h : Hop) where
       (all-imp (heldFlows (s .slots)) (λ f m. frame-range f (m .range)) (r .flows .flows))
 
   frame-small : figures .frame ≤ 1542
-  unfolding aggregateAt addsAt
+  unfolding sharesAt aggregateAt addsAt
   frame-small =
       largest-le (addsAt h (λ a. a .frame)) 1542 (allShares (s .table) (heldFlows (s .slots)))
       (all-imp (allShares (s .table) (heldFlows (s .slots))) (λ e m. le-trans (cond-le (sameHop h (e .hop)) (e .adds .frame)) (m .1)) frames)
 
   none-there : figures .frame ≡ 0 → (figures .rate ≡ 0) × (figures .burst ≡ 0)
-  unfolding aggregateAt
+  unfolding sharesAt aggregateAt
   none-there z = (zero-there (λ a. a .rate), zero-there (λ a. a .burst))
     where
       zero-there : (m : Aggregate → ℕ) → total (addsAt h m) (allShares (s .table) (heldFlows (s .slots))) ≡ 0

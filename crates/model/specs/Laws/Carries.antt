@@ -12,7 +12,7 @@ use Rattle.model.specs.Laws.Total.{largest-append}
 use Rattle.model.specs.Formula.{Aggregate}
 use Rattle.model.specs.QueueTable.{Table}
 use Rattle.model.specs.Orders.{Hop, Flow}
-use Rattle.model.specs.Aggregates.{Share, growth, shares, allShares, sameHop, addsAt, aggregateAt}
+use Rattle.model.specs.Aggregates.{Share, growth, shares, allShares, sameHop, addsAt, sharesAt, aggregateAt}
 use Rattle.model.specs.Laws.All.{all-member}
 use Rattle.model.specs.Laws.Aggregates.{same-hop, hop-same}
 use Rattle.model.specs.Admissible.{Carries}
@@ -53,7 +53,7 @@ module _ (t : Table) (q : Hop) where
       (one-positive _ _ (subst (λ n. 1 ≤ n) (largest-append frameAt (shares t f 0 (f .path)) (allShares t fs)) p))
 
   pub frame-carries : (fs : List Flow) → 1 ≤ aggregateAt t fs q .frame → Carries fs q
-  unfolding aggregateAt
+  unfolding sharesAt aggregateAt
   frame-carries fs p = some-flow fs p
 
   -- A hop at the queue adds its flow's largest frame.
@@ -78,5 +78,5 @@ module _ (t : Table) (q : Hop) where
       omega (arith, flow-frame f k m, largest-append frameAt (shares t g 0 (g .path)) (allShares t fs))
 
   pub carries-frame : (fs : List Flow) → All (λ f. 1 ≤ f .frame) fs → Carries fs q → 1 ≤ aggregateAt t fs q .frame
-  unfolding aggregateAt
+  unfolding sharesAt aggregateAt
   carries-frame fs a c = le-trans (all-member (λ f. 1 ≤ f .frame) a (c .among)) (flow-frame (c .flow) (c .among) (c .hop))

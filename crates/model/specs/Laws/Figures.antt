@@ -19,20 +19,11 @@ use Rattle.model.specs.Laws.LinkSteps.{Empty}
 use Rattle.model.specs.Formula.{Aggregate}
 use Rattle.model.specs.QueueTable.{Queue, Table}
 use Rattle.model.specs.Orders.{Hop, Flow}
-use Rattle.model.specs.Aggregates.{Share, source, grown, growth, queueAt, shares, allShares, sameHop, addsAt, aggregateAt, levelAggregates}
+use Rattle.model.specs.Aggregates.{Share, source, grown, growth, queueAt, shares, allShares, sameHop, addsAt, sharesAt, aggregateAt, levelAggregates}
 use Rattle.model.specs.Schedulable.{Named}
 use Rattle.model.specs.WithFlow.{noFlow, together}
 use Rattle.model.specs.Laws.All.{append-all, all-imp}
 use Rattle.model.specs.Reference.{Cause, crosses, atHop, metEarlier}
-
--- What a list of shares adds at a queue.
-unfoldable pub sharesAt : Hop → List Share → Aggregate
-sharesAt q es =
-    record {
-      rate = total (addsAt q (λ a. a .rate)) es;
-      burst = total (addsAt q (λ a. a .burst)) es;
-      frame = largest (addsAt q (λ a. a .frame)) es;
-    }
 
 -- The path crosses the link of the hop `h` there alone.
 pub record Crossed (path before : List Hop) (h : Hop) (after : List Hop) : Type 0 where
@@ -115,7 +106,7 @@ module _ (t : Table) where
 
   -- A queue whose rate sum is 0 has no largest frame, since no flow has the rate 0.
   pub carried : (fs : List Flow) → All (λ f. 1 ≤ f .rate) fs → (q : Hop) → aggregateAt t fs q .rate ≡ 0 → aggregateAt t fs q .frame ≡ 0
-  unfolding aggregateAt allShares total largest together
+  unfolding sharesAt aggregateAt allShares total largest together
   carried [] a q z = refl
   carried (f ∷ fs) a q z =
       let rates = ap (λ (a : Aggregate). a .rate) (added f fs q) in
@@ -233,7 +224,7 @@ module _ (t : Table) where
 
   -- Flows that add nothing at a queue.
   aggregate-none : (q : Hop) (fs : List Flow) → All (λ f. sharesAt q (shares t f 0 (f .path)) ≡ noFlow) fs → aggregateAt t fs q ≡ noFlow
-  unfolding aggregateAt allShares total largest noFlow
+  unfolding sharesAt aggregateAt allShares total largest noFlow
   aggregate-none q [] a = refl
   aggregate-none q (f ∷ fs) a =
       added f fs q

@@ -12,8 +12,8 @@ use borrow.Author.Tests.{eq-eqb, ne-eqb}
 use Rattle.model.specs.Total.{total}
 use Rattle.model.specs.QueueTable.{Link, Table}
 use Rattle.model.specs.Orders.{Hop, Flow}
-use Rattle.model.specs.Aggregates.{linkAt, fixedDelayOf, sameHop}
-use Rattle.model.specs.Run.{Frame, Sends, Run, hopOf, next, leftAgo, handedOn, moving, isAt, reaching, enter, emptyLink, speedOf, window}
+use Rattle.model.specs.Aggregates.{linkAt, speedOf, fixedDelayOf, sameHop}
+use Rattle.model.specs.Run.{Frame, Sends, Run, hopOf, next, leftAgo, handedOn, moving, isAt, reaching, enter, emptyLink, window}
 use Rattle.model.specs.Delivery.{ofFlow, atHop, onCable}
 use Rattle.model.specs.Laws.Aggregates.{hop-same}
 use Rattle.model.specs.Laws.Total.{total-ext, total-append, total-map, total-filter, total-below, total-same, total-zeros, total-perm}

@@ -11,8 +11,8 @@ use borrow.Author.Tests.{leb-true, leb-false, lt-leb}
 use Rattle.model.specs.Words.{All}
 use Rattle.model.specs.QueueTable.{Table}
 use Rattle.model.specs.Orders.{Hop, Flow}
-use Rattle.model.specs.Aggregates.{linkAt, bestEffortOf}
-use Rattle.model.specs.Run.{Frame, LinkState, History, next, moving, reaching, enter, interval, emptyLink, speedOf, Sends, Run}
+use Rattle.model.specs.Aggregates.{linkAt, speedOf, bestEffortOf}
+use Rattle.model.specs.Run.{Frame, LinkState, History, next, moving, reaching, enter, interval, emptyLink, Sends, Run}
 use Rattle.model.specs.Laws.Run.Cables.{handed-same}
 
 module _ (t : Table) (fs : List Flow) (grain : ℕ) (offered : (x link slot : ℕ) → ℕ) (sent : ℕ → List Frame) (order : (x : ℕ) → Hop → List Frame → List Frame) where

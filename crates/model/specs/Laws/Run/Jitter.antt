@@ -9,9 +9,9 @@ use lib.ListN.{getElem?}
 use Rattle.model.specs.Words.{All}
 use Rattle.model.specs.QueueTable.{Table}
 use Rattle.model.specs.Orders.{Hop, Flow}
-use Rattle.model.specs.Aggregates.{linkAt, queueAt, thresholdOf, fixedDelayOf, growth}
+use Rattle.model.specs.Aggregates.{linkAt, queueAt, thresholdOf, speedOf, fixedDelayOf, growth}
 use Rattle.model.specs.Schedulable.{Named, FlowMeets, Schedulable}
-use Rattle.model.specs.Run.{Frame, Sends, Run, hopOf, next, speedOf, inQueue}
+use Rattle.model.specs.Run.{Frame, Sends, Run, hopOf, next, inQueue}
 use Rattle.model.specs.Laws.All.{all-imp, all-at}
 use Rattle.model.specs.Laws.Run.Instants.{at-each}
 use Rattle.model.specs.Laws.Run.Standing.{hop, moved, known-hop, moved-all, arrivals-all}

@@ -13,11 +13,11 @@ use Rattle.model.specs.Words.{All, nth}
 use Rattle.model.specs.Total.{total}
 use Rattle.model.specs.QueueTable.{Queue, Link, Table}
 use Rattle.model.specs.Orders.{Hop, Flow}
-use Rattle.model.specs.Aggregates.{linkAt, queueAt, thresholdOf, bestEffortOf, aggregateAt}
+use Rattle.model.specs.Aggregates.{linkAt, queueAt, thresholdOf, speedOf, bestEffortOf, sharesAt, aggregateAt}
 use Rattle.model.specs.Laws.Test.{and-then}
 use Rattle.model.specs.Laws.Carries.{flow-frame}
 use Rattle.model.specs.Schedulable.{LinkMeets, Schedulable}
-use Rattle.model.specs.Run.{Frame, Run, Conforming, hopOf, speedOf, inQueue}
+use Rattle.model.specs.Run.{Frame, Run, Conforming, hopOf, inQueue}
 use Rattle.model.specs.Laws.List.{index-below}
 use Rattle.model.specs.Laws.All.{member-at, all-at, all-imp}
 use Rattle.model.specs.Laws.Run.Instants.{at-earlier}
@@ -61,7 +61,7 @@ module _ (t : Table) (fs : List Flow) (sch : Schedulable t fs) (r : Run t fs) (c
   threshold-is h q e = ap thresholdOf e
 
   frame-most : (f : Frame) (o : OnTime t fs f) (h : Hop) → hopOf fs f ≡ some h → f .length ≤ aggregateAt t fs h .frame
-  unfolding aggregateAt
+  unfolding sharesAt aggregateAt
   frame-most f o h e =
       omega (arith, o .short, flow-frame t h (o .flow) (member-at fs (f .flow) (o .known)) (member-at (o .flow .path) (f .hop) (sym (known-hop fs f (o .flow) (o .known)) ∙ e)))
 

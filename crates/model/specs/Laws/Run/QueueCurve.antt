@@ -12,7 +12,7 @@ use Rattle.model.specs.Total.{total}
 use Rattle.model.specs.Formula.{Aggregate, burstAtHop}
 use Rattle.model.specs.QueueTable.{Table}
 use Rattle.model.specs.Orders.{Hop, Flow}
-use Rattle.model.specs.Aggregates.{growth, Share, shares, allShares, sameHop, addsAt, aggregateAt}
+use Rattle.model.specs.Aggregates.{growth, Share, shares, allShares, sameHop, addsAt, sharesAt, aggregateAt}
 use Rattle.model.specs.Schedulable.{Schedulable}
 use Rattle.model.specs.Run.{Frame, Run, Conforming, hopOf, isAt}
 use Rattle.model.specs.Delivery.{anyBirth, ofFlow, atHop}
@@ -136,7 +136,7 @@ module _ (t : Table) (fs : List Flow) (sch : Schedulable t fs) (r : Run t fs) (c
 
   -- Where the network and the one link meet.
   pub queue-curve : Curve h (aggregateAt t fs q .burst) (aggregateAt t fs q .rate) (λ x. bytes (r .arrivals x (q .link) (q .level)))
-  unfolding aggregateAt bytes
+  unfolding sharesAt aggregateAt bytes
   queue-curve =
       curve-le h (aggregateAt t fs q .burst) (aggregateAt t fs q .rate) (λ x. bytes (r .arrivals x (q .link) (q .level))) (λ x. total (flowsShare q 0 fs) (moved r x)) less
       (flows-curve 0 fs

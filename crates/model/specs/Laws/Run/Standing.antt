@@ -9,9 +9,9 @@ use lib.ListN.{length, getElem?}
 use Rattle.model.specs.Words.{All, andThen}
 use Rattle.model.specs.QueueTable.{Table}
 use Rattle.model.specs.Orders.{Hop, Flow}
-use Rattle.model.specs.Aggregates.{linkAt, fixedDelayOf}
+use Rattle.model.specs.Aggregates.{linkAt, speedOf, fixedDelayOf}
 use Rattle.model.specs.Laws.Aggregates.{same-hop}
-use Rattle.model.specs.Run.{Frame, Run, hopOf, next, handedOn, moving, isAt, reaching, enter, emptyLink, speedOf}
+use Rattle.model.specs.Run.{Frame, Run, hopOf, next, handedOn, moving, isAt, reaching, enter, emptyLink}
 use Rattle.model.specs.Delivery.{onCable}
 use Rattle.model.specs.Laws.All.{all-imp, all-append, map-all, all-perm, filter-all, member-all}
 use Rattle.model.specs.Laws.Run.Cables.{since-all, handed-all}
