@@ -87,7 +87,7 @@ pub the-run : (worked .before 1 1 ≡ record { wire = run.sendingBestEffort 1342
     × (worked .before 2 1 ≡ record { wire = run.sending 1 (frame 0 1) 1342; levels = [] ∷ []; left = [] })
     × (worked .before 3 1 ≡ record { wire = run.sendingBestEffort 14; levels = [] ∷ []; left = frame 0 1 ∷ [] })
     × (alone .before 2 1 ≡ record { wire = run.idle; levels = [] ∷ []; left = frame 0 1 ∷ [] })
-unfolding run.onWire run.inQueue runOf states goesOn upTo coming run.pastEmpty run.pick run.sendingTime run.startBestEffort run.start run.take run.send run.timeSlot run.interval run.hopOf run.next run.leftAgo run.handedOn run.moving run.reaching run.append run.enter run.emptyLevels run.emptyLink run.speedOf filter nth linkAt fixedDelayOf sameHop
+unfolding run.onWire run.inQueue runOf states goesOn upTo coming run.pastEmpty run.pick run.sendingTime run.startBestEffort run.start run.take run.send run.timeSlot run.interval run.hopOf run.next run.leftAgo run.handedOn run.moving run.reaching run.append run.enter run.emptyLevels run.emptyLink speedOf filter nth linkAt fixedDelayOf sameHop
 the-run = (refl, refl, refl, refl, refl)
 
 pub conforming : Conforming flows sent

@@ -138,7 +138,7 @@ pub the-run : (worked .before 1 1 ≡ record { wire = run.sending 2 (frame 1 0) 
     ≡ record { flow = 1; hop = 1; length = 84; since = 8; born = 1 }
     ∷ record { flow = 0; hop = 2; length = 84; since = 8; born = 1 }
     ∷ [])
-unfolding stays delivered ofFlow atHop leftSince onCable framesAt alongPath total run.onWire run.inQueue runOf states goesOn upTo coming run.pastEmpty run.pick run.sendingTime run.startBestEffort run.start run.take run.send run.timeSlot run.interval run.hopOf run.next run.leftAgo run.handedOn run.moving run.reaching run.append run.enter run.emptyLevels run.emptyLink run.speedOf filter isNone nth linkAt fixedDelayOf sameHop
+unfolding stays delivered ofFlow atHop leftSince onCable framesAt alongPath total run.onWire run.inQueue runOf states goesOn upTo coming run.pastEmpty run.pick run.sendingTime run.startBestEffort run.start run.take run.send run.timeSlot run.interval run.hopOf run.next run.leftAgo run.handedOn run.moving run.reaching run.append run.enter run.emptyLevels run.emptyLink speedOf filter isNone nth linkAt fixedDelayOf sameHop
 the-run = (refl, refl, refl, refl, refl, refl)
 
 -- Sources that add nothing from instant `last` on, and each no more than its burst in all, conform.
