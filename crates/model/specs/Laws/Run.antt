@@ -12,6 +12,7 @@ pub mod ArrivalCurve
 pub mod BoundSums
 pub mod LevelBounds
 pub mod Standing
+pub mod LeastStay
 pub mod Jitter
 pub mod Conservation
 pub mod NoLoss

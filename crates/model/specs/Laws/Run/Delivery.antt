@@ -15,8 +15,8 @@ use Rattle.model.specs.QueueTable.{Table}
 use Rattle.model.specs.Orders.{Hop, Flow}
 use Rattle.model.specs.Aggregates.{linkAt, fixedDelayOf}
 use Rattle.model.specs.Schedulable.{FlowMeets, Schedulable}
-use Rattle.model.specs.Reference.{pathDelay}
-use Rattle.model.specs.Run.{Frame, Run, Conforming, hopOf, next, window, inQueue}
+use Rattle.model.specs.Reference.{hopDelay, pathDelay}
+use Rattle.model.specs.Run.{Frame, Run, Conforming, hopOf, window, inQueue}
 use Rattle.model.specs.Delivery.{delivered, InTime, alike, anyBirth, ofFlow, atHop, onCable, framesAt, alongPath, deliveredUpTo, Conserved, NoneLost, Arrives}
 use Rattle.model.specs.Laws.All.{all-append, all-at, all-imp, filter-all}
 use Rattle.model.specs.Laws.Total.{total-zero}
@@ -25,11 +25,11 @@ use Rattle.model.specs.Laws.Run.Windows.{window-at, window-has}
 use Rattle.model.specs.Laws.Run.Cables.{since-all}
 use Rattle.model.specs.Laws.Run.InQueue.{queue-each}
 use Rattle.model.specs.Laws.Run.Standing.{moved, Stands, stands, stands-cable}
-use Rattle.model.specs.Laws.Run.Jitter.{sumBefore, upstream, cables, OnTime, Placed, meets, leaves, placed, moves}
+use Rattle.model.specs.Laws.Run.Jitter.{sumBefore, OnTime, Placed, meets, leaves, placed, moves}
 use Rattle.model.specs.Laws.Run.NotLate.{earlier, queue-placed}
 use Rattle.model.specs.Laws.Run.NoLoss.{conserved}
 
-delay-most : (t : Table) (path : List Hop) (i : ℕ) → cables t path i + upstream t path i ≤ pathDelay t path
+delay-most : (t : Table) (path : List Hop) (i : ℕ) → sumBefore (hopDelay t) path i ≤ pathDelay t path
 unfolding sumBefore pathDelay total
 delay-most t path zero = omega arith
 delay-most t [] (suc i) = omega arith
@@ -68,8 +68,8 @@ module _ (t : Table) (fs : List Flow) (sch : Schedulable t fs) (r : Run t fs) wh
       record {
         flow = o .flow;
         known = o .known;
-        path = omega (arith, o .jitter, p .0 .1, e);
-        deadline = omega (arith, o .jitter, p .0 .1, e, meets t fs sch r f o .deadline);
+        path = omega (arith, o .inTime, p .0 .1, e);
+        deadline = omega (arith, o .inTime, p .0 .1, e, meets t fs sch r f o .deadline);
       })
       (filter-all (λ f. OnTime t fs f × (f .since ≡ x)) (λ f. isNone (hopOf fs f)) (moved r x) (moves t fs sch r x (earlier t fs sch r conforming x)))
 
@@ -89,11 +89,10 @@ module _ (t : Table) (fs : List Flow) (sch : Schedulable t fs) (r : Run t fs) wh
   module _ (conforming : Conforming fs (r .sent)) (j : ℕ) (flow : Flow) (known : getElem? fs j ≡ some flow) where
     -- A frame that is in a queue or leaves it will be behind the cable within the sum of its path's thresholds and fixed delays.
     young : (y n level : ℕ) (f : Frame) → Placed t fs y n level f → f .flow ≡ j → y + fixedDelayOf (linkAt t n) ≤ f .born + pathDelay t (flow .path)
-    unfolding next
     young y n level f p e =
-        let o = leaves t fs sch r (y + fixedDelayOf (linkAt t n)) y n level f refl p in
+        let o = p .onTime in
         let same : o .flow ≡ flow = Option·some-injective (o .flow) flow (sym (o .known) ∙ ap (getElem? fs) e ∙ known) in
-        omega (arith, o .jitter, delay-most t (o .flow .path) (suc (f .hop)), ap (λ z. pathDelay t (z .path)) same)
+        omega (arith, leaves t fs sch r y n level f p, delay-most t (o .flow .path) (suc (f .hop)), ap (λ z. pathDelay t (z .path)) same)
 
     module _ (born x length : ℕ) (late : born + pathDelay t (flow .path) ≤ x) where
       gone : (y n level : ℕ) (f : Frame) → x < y + fixedDelayOf (linkAt t n) → Placed t fs y n level f → ofFlow (alike born length) j f ≡ 0

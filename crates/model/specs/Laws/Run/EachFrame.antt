@@ -52,7 +52,7 @@ module _ (P : ℕ → Frame → Type 0) where
     interval-each =
         interval-keeps (Each P) grain offered (λ slot k. take-each slot (k .wire) (k .levels) (k .left)) (λ k. send-each (k .wire) (k .levels) (k .left))
 
-  append-each : (new : ℕ → List Frame) → ((n : ℕ) → All (P n) (new n)) →
+  pub append-each : (new : ℕ → List Frame) → ((n : ℕ) → All (P n) (new n)) →
       (n : ℕ) (qs : List (List Frame)) → EachLevel P n qs → EachLevel P n (append new n qs)
   unfolding append
   append-each new k n [] h = tt
@@ -63,7 +63,7 @@ module _ (P : ℕ → Frame → Type 0) where
   unfolding enter
   enter-each new l k w h = record { wire = w; levels = append-each new k 1 (l .levels) h; left = tt }
 
-  empty-levels : (n : ℕ) (qs : List Queue) → EachLevel P n (emptyLevels qs)
+  pub empty-levels : (n : ℕ) (qs : List Queue) → EachLevel P n (emptyLevels qs)
   unfolding emptyLevels
   empty-levels n [] = tt
   empty-levels n (q ∷ qs) = (tt, empty-levels (suc n) qs)
@@ -74,7 +74,7 @@ module _ (P : ℕ → Frame → Type 0) where
   empty-each (some k) = record { wire = tt; levels = empty-levels 1 (k .levels); left = tt }
 
 module _ (P Q : ℕ → Frame → Type 0) (up : (n : ℕ) (f : Frame) → P n f → Q n f) where
-  levels-up : (n : ℕ) (qs : List (List Frame)) → EachLevel P n qs → EachLevel Q n qs
+  pub levels-up : (n : ℕ) (qs : List (List Frame)) → EachLevel P n qs → EachLevel Q n qs
   levels-up n [] h = tt
   levels-up n (q ∷ qs) h = (all-imp q (up n) (h .0), levels-up (suc n) qs (h .1))
 

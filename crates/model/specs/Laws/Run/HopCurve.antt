@@ -1,5 +1,5 @@
 -- The network: while no frame has been late, the frames of one flow that reach one of its hops obey the curve of the burst at that hop and the flow's rate.
--- Net of cables they were sent at most the thresholds of the earlier hops before they came, and all of them by a conforming source. Assumes nothing.
+-- Net of cables and shortest sending times they were sent at most S before they came, and all of them by a conforming source. Assumes nothing.
 use Prim.Native.Nat.{ℕ, suc, _+_, _-_, _≤_, _<_}
 use mathlib.Core.Path.{_≡_, refl, sym, ap, _∙_}
 use mathlib.Core.Bool.{Bool, true, false, cond, _&&_, and-false}
@@ -23,7 +23,7 @@ use Rattle.model.specs.Laws.Test.{cond-le}
 use Rattle.model.specs.Laws.Run.Windows.{window-mono, window-zero, window-join, window-within}
 use Rattle.model.specs.Laws.Run.ArrivalCurve.{Curve}
 use Rattle.model.specs.Laws.Run.Standing.{moved}
-use Rattle.model.specs.Laws.Run.Jitter.{sumBefore, upstream, cable, cables, OnTime, NotLate, moves}
+use Rattle.model.specs.Laws.Run.Jitter.{sumBefore, upstream, leastDelay, soonest, OnTime, NotLate, moves}
 use Rattle.model.specs.Laws.Run.Conservation.{reached, source, conserved}
 
 -- Whether an instant is one of `count` from `first` on, and the bytes of frames that were sent at such an instant.
@@ -38,7 +38,7 @@ module _ (t : Table) (fs : List Flow) (sch : Schedulable t fs) (r : Run t fs) (h
   -- Who comes to hop `i` in instants `s` to `s + n` was sent in so many instants from `first` on.
   module _ (i s n : ℕ) where
     abbrev first : ℕ
-    first = s - (cables t (fl .path) i + upstream t (fl .path) i)
+    first = s - (soonest t (fl .path) i + upstream t (fl .path) i)
 
     abbrev count : ℕ
     count = suc (n + upstream t (fl .path) i)
@@ -60,10 +60,10 @@ module _ (t : Table) (fs : List Flow) (sch : Schedulable t fs) (r : Run t fs) (h
             at-hop m = ap (λ z. sumBefore m (z .path) (f .hop)) same ∙ ap (sumBefore m (fl .path)) (eqb-true (f .hop) i k)
 
             from : first ≤ f .born
-            from = omega (arith, o .jitter, u, at-hop (growth t), at-hop (cable t))
+            from = omega (arith, o .jitter, u, at-hop (growth t), at-hop (leastDelay t))
 
             to : f .born < first + count
-            to = omega (arith, o .notSooner, v, at-hop (cable t))
+            to = omega (arith, o .notSooner, v, at-hop (leastDelay t))
 
     reached-young : (x : ℕ) → s ≤ x → x ≤ s + n → x ≤ h → reached t fs r (atHop anyBirth j i) x ≤ reached t fs r (atHop (bornIn first count) j i) x
     unfolding reached

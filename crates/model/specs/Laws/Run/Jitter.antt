@@ -1,4 +1,4 @@
--- The network: while no frame has been late, a frame reaches a hop at most the thresholds of the earlier hops later than the cables alone make it.
+-- The network: while no frame has been late, a frame reaches a hop at most S later than cables and shortest sending times alone make it, and in all at most the earlier hops' thresholds and cables after it was sent.
 -- Induction over all earlier instants, not over paths, so that cycles of links do no harm. Assumes nothing.
 use Prim.Native.Nat.{ℕ, zero, suc, _+_, _*_, _≤_, _<_}
 use mathlib.Core.Path.{_≡_, refl, sym, ap, _∙_}
@@ -7,17 +7,20 @@ use mathlib.Core.Option.{some, Option·none-ne-some}
 use native.Mathlib.Omega.{arith}
 use lib.ListN.{getElem?}
 use Rattle.model.specs.Words.{All}
+use Rattle.model.specs.Formula.{shortestSending, hopGrowth}
 use Rattle.model.specs.QueueTable.{Table}
 use Rattle.model.specs.Orders.{Hop, Flow}
 use Rattle.model.specs.Aggregates.{linkAt, queueAt, thresholdOf, speedOf, fixedDelayOf, growth}
+use Rattle.model.specs.Reference.{hopDelay}
 use Rattle.model.specs.Schedulable.{Named, FlowMeets, Schedulable}
 use Rattle.model.specs.Run.{Frame, Sends, Run, hopOf, next, inQueue}
-use Rattle.model.specs.Laws.All.{all-imp, all-at}
+use Rattle.model.specs.Laws.All.{all-imp, all-imp₂, all-at}
 use Rattle.model.specs.Laws.Run.Instants.{at-each}
 use Rattle.model.specs.Laws.Run.Standing.{hop, moved, known-hop, moved-all, arrivals-all}
 use Rattle.model.specs.Laws.Run.OneLink.{EachLevel, OnWire, Each}
 use Rattle.model.specs.Laws.Run.EachFrame.{interval-each, enter-each, empty-each, levels-both, wire-both}
 use Rattle.model.specs.Laws.Run.InQueue.{each-queue}
+use Rattle.model.specs.Laws.Run.LeastStay.{least-stay}
 
 -- The sum of a measure over a path's hops before index `i`.
 unfoldable pub sumBefore : (measure : Hop → ℕ) → List Hop → (i : ℕ) → ℕ
@@ -25,24 +28,25 @@ sumBefore m path zero = 0
 sumBefore m [] (suc i) = 0
 sumBefore m (h ∷ path) (suc i) = m h + sumBefore m path i
 
--- How late a frame may be at a hop, and the time that it has been on cables.
+-- S at a hop, and the least time from the source to there: at each hop before it the shortest sending time and the cable.
 abbrev pub upstream : Table → List Hop → (i : ℕ) → ℕ
 upstream t path i = sumBefore (growth t) path i
 
-abbrev pub cable : Table → Hop → ℕ
-cable t h = fixedDelayOf (linkAt t (h .link))
+abbrev pub leastDelay : Table → Hop → ℕ
+leastDelay t h = shortestSending (speedOf (linkAt t (h .link))) + fixedDelayOf (linkAt t (h .link))
 
-abbrev pub cables : Table → List Hop → (i : ℕ) → ℕ
-cables t path i = sumBefore (cable t) path i
+abbrev pub soonest : Table → List Hop → (i : ℕ) → ℕ
+soonest t path i = sumBefore (leastDelay t) path i
 
--- A frame of a flow, which has come to its hop in time, and no sooner than cables allow.
+-- A frame of a flow, which has come to its hop no sooner than that and at most S later, and within the thresholds and cables before it.
 pub record OnTime (t : Table) (fs : List Flow) (f : Frame) : Type 0 where
   pub flow : Flow
   pub known : getElem? fs (f .flow) ≡ some flow
   pub long : 84 ≤ f .length
   pub short : f .length ≤ flow .frame
-  pub notSooner : f .born + cables t (flow .path) (f .hop) ≤ f .since
-  pub jitter : f .since ≤ f .born + cables t (flow .path) (f .hop) + upstream t (flow .path) (f .hop)
+  pub notSooner : f .born + soonest t (flow .path) (f .hop) ≤ f .since
+  pub jitter : f .since ≤ f .born + soonest t (flow .path) (f .hop) + upstream t (flow .path) (f .hop)
+  pub inTime : f .since ≤ f .born + sumBefore (hopDelay t) (flow .path) (f .hop)
 
 -- It stands in queue (link, level), and at instant `x` it is not past its threshold.
 pub record Placed (t : Table) (fs : List Flow) (x link level : ℕ) (f : Frame) : Type 0 where
@@ -76,26 +80,37 @@ module _ (t : Table) (fs : List Flow) (sch : Schedulable t fs) (r : Run t fs) wh
       let n = named f o h e in
       rw (n .found) (sch .thresholds h (n .queue) (n .found))
 
-  -- A frame that leaves a queue in time reaches the next hop in time, behind the cable.
-  pub leaves : (x y n level : ℕ) (f : Frame) → y + fixedDelayOf (linkAt t n) ≡ x → Placed t fs y n level f → OnTime t fs (next x f)
-  unfolding next
-  leaves x y n level f d p =
+  -- What the hop of a frame adds to a sum over the hops before.
+  hop-adds : (m : Hop → ℕ) (n level : ℕ) (f : Frame) (o : OnTime t fs f) → hopOf fs f ≡ some (hop n level) →
+      sumBefore m (o .flow .path) (suc (f .hop)) ≡ sumBefore m (o .flow .path) (f .hop) + m (hop n level)
+  hop-adds m n level f o here = sum-next m (o .flow .path) (f .hop) (hop n level) (sym (known-hop fs f (o .flow) (o .known)) ∙ here)
+
+  -- A frame that leaves a queue within its threshold is behind the cable in time.
+  pub leaves : (y n level : ℕ) (f : Frame) (p : Placed t fs y n level f) →
+      y + fixedDelayOf (linkAt t n) ≤ f .born + sumBefore (hopDelay t) (p .onTime .flow .path) (suc (f .hop))
+  leaves y n level f p = omega (arith, p .onTime .inTime, p .soon, hop-adds (hopDelay t) n level f (p .onTime) (p .here))
+
+  -- So it reaches the next hop in time, and having stayed the shortest sending time or longer, it does no sooner.
+  reaches : (x y n level : ℕ) (f : Frame) → y + fixedDelayOf (linkAt t n) ≡ x → f .since + shortestSending (speedOf (linkAt t n)) ≤ y →
+      Placed t fs y n level f → OnTime t fs (next x f)
+  unfolding next hopGrowth
+  reaches x y n level f d stay p =
       let o = p .onTime in
-      let here : getElem? (o .flow .path) (f .hop) ≡ some (hop n level) = sym (known-hop fs f (o .flow) (o .known)) ∙ p .here in
-      let later = sum-next (cable t) (o .flow .path) (f .hop) (hop n level) here in
+      let least = hop-adds (leastDelay t) n level f o (p .here) in
       record {
         flow = o .flow;
         known = o .known;
         long = o .long;
         short = o .short;
-        notSooner = omega (arith, o .notSooner, p .came, d, later);
-        jitter = omega (arith, o .jitter, p .soon, d, later, sum-next (growth t) (o .flow .path) (f .hop) (hop n level) here);
+        notSooner = omega (arith, o .notSooner, stay, d, least);
+        jitter = omega (arith, o .jitter, p .soon, d, least, hop-adds (growth t) n level f o (p .here));
+        inTime = omega (arith, d, leaves y n level f p);
       }
 
   added : (x : ℕ) (f : Frame) → Sends fs x f → OnTime t fs f
   unfolding sumBefore
   added x f s =
-      let first : cables t (s .flow .path) (f .hop) ≡ 0 = ap (cables t (s .flow .path)) (s .first) in
+      let first : soonest t (s .flow .path) (f .hop) ≡ 0 = ap (soonest t (s .flow .path)) (s .first) in
       record {
         flow = s .flow;
         known = s .known;
@@ -103,6 +118,7 @@ module _ (t : Table) (fs : List Flow) (sch : Schedulable t fs) (r : Run t fs) wh
         short = s .most;
         notSooner = omega (arith, s .since, s .born, first);
         jitter = omega (arith, s .since, s .born);
+        inTime = omega (arith, s .since, s .born);
       }
 
   -- Each frame of each link, before the arrivals of an instant.
@@ -113,7 +129,8 @@ module _ (t : Table) (fs : List Flow) (sch : Schedulable t fs) (r : Run t fs) wh
   unfolding next
   moved-on-time x each =
       moved-all t fs r (λ f. OnTime t fs f × (f .since ≡ x)) x
-      (λ n y d. all-imp (r .before y n .left) (λ f p. (leaves x y n (p .0) f d (p .1), refl)) (each y (omega (arith, d)) n .left))
+      (λ n y d.
+      all-imp₂ (r .before y n .left) (λ f stay p. (reaches x y n (p .0) f d stay (p .1), refl)) (least-stay t fs r y n) (each y (omega (arith, d)) n .left))
       (all-imp (r .sent x) (λ f s. (added x f s, s .since)) (r .sends x))
 
   pub arrived : (x : ℕ) → All (λ f. OnTime t fs f × (f .since ≡ x)) (moved r x) →
