@@ -5,6 +5,7 @@ use mathlib.Core.Path.{_≡_, refl, sym, ap, subst, _∙_}
 use mathlib.Core.Bool.{true, false, _&&_}
 use mathlib.Core.List.{List, [], map}
 use mathlib.Core.Option.{none, some}
+use native.Mathlib.Nat.{le-trans}
 use native.Mathlib.Omega.{arith}
 use lib.ListN.{length, set, take, length-map}
 use lib.Seq.{length-take-le}
@@ -14,6 +15,7 @@ use Rattle.model.specs.Columns.{between}
 use Rattle.model.specs.Laws.Columns.{between-true}
 use Rattle.model.specs.Laws.Test.{and-both}
 use Rattle.model.specs.Laws.All.{all-imp}
+use Rattle.model.specs.Laws.Formula.{growth-most}
 use Rattle.model.specs.Orders as line
 use Rattle.model.specs.Orders.{Order, register, registering, kindNumber, flowOf, headInRange, hopsInRange, numberInRange}
 use Rattle.model.specs.Aggregates as lookup
@@ -89,7 +91,7 @@ hops-ranged table formed right entries named few =
     each e q = (
       queue-low table e q (formed .few),
       rw (sym (growth-named table e q), queue-named table e q)
-          (threshold-below (tableOf table) right (hopAt e) _ (queue-named table e q)),
+          (le-trans (growth-most _ _) (threshold-below (tableOf table) right (hopAt e) _ (queue-named table e q))),
     )
 
 pub stepped-same : {o o′ : Order} {table slots pool slots′ pool′ sums′ : List ℕ} {r : Answer} → o ≡ o′

@@ -10,7 +10,7 @@ use lib.Arith.{digits-div, digits-mod}
 use lib.ListN.{length, getD, drop}
 use Rattle.model.specs.Laws.All.{all-getD}
 use Rattle.model.specs.Sizes.{levelsMost, queuesMost, thresholdsMost}
-use Rattle.model.specs.Formula.{Aggregate, burstAtHop}
+use Rattle.model.specs.Formula.{Aggregate, hopGrowth, burstAtHop}
 use Rattle.model.specs.Laws.Formula.{ceilDiv-le}
 use Rattle.model.specs.Aggregates as model
 use Rattle.model.specs.Orders.{Hop, Flow}
@@ -18,7 +18,7 @@ use Rattle.model.specs.Laws.Aggregates.{same-hop}
 use Rattle.units.specs.View.{AtSource}
 use Rattle.queue_table.specs.View.{entryAt, tableOf, hopAt, isQueue, AllQueues}
 use Rattle.figures.specs.View.{growthAt, ShareBounded, Hops, FlowOf}
-use Rattle.queue_table.proofs.EntryLaws.{threshold-named}
+use Rattle.queue_table.proofs.EntryLaws.{threshold-named, speed-named}
 use Rattle.link_check.proofs.Laws.{mapped-next, mapped-end}
 
 -- Two entries that name one queue are equal.
@@ -42,7 +42,7 @@ entry-hop link p h =
 -- What a queue of the table adds to S is what the model says.
 pub growth-named : (table : List ℕ) (e : ℕ) → isQueue table e ≡ true → model.growth (tableOf table) (hopAt e) ≡ growthAt table e
 unfolding growthAt
-growth-named table e named = threshold-named table e named
+growth-named table e named = ap₂ hopGrowth (threshold-named table e named) (speed-named table e named)
 
 -- The hop at `i` and what it adds to S, which is `sum` over those before it.
 abbrev pub HopAt : (table entries : List ℕ) (sum i : ℕ) → Type 0

@@ -8,7 +8,7 @@ use lib.ListN.{length, getD, set}
 use Rattle.model.specs.Words.{All}
 use Rattle.model.specs.Sizes.{levelsMost, queuesMost, hopsMost}
 use Rattle.model.specs.Total.{total, largest}
-use Rattle.model.specs.Formula.{Aggregate}
+use Rattle.model.specs.Formula.{Aggregate, hopGrowth}
 use Rattle.model.specs.QueueTable.{Table}
 use Rattle.model.specs.Orders.{Hop, Flow}
 use Rattle.model.specs.Aggregates.{source, aggregateAt}
@@ -58,7 +58,7 @@ figureStored sums e a = set (set (set sums (figureNumbers * e) (a .rate)) (figur
 
 -- What queue `e` adds to S for the hops after it.
 unfoldable pub growthAt : (table : List ℕ) (e : ℕ) → ℕ
-growthAt table e = thresholdAt table e
+growthAt table e = hopGrowth (thresholdAt table e) (speedAt table (linkIn e))
 
 -- A flow's share at any of its hops is at most this.
 abbrev pub ShareBounded : Aggregate → Type 0

@@ -7,9 +7,12 @@ ghost use Rattle.model.specs.Aggregates.{grown};
 ghost use Rattle.units.specs.View.{aggregateOf, AtSource};
 ghost use Rattle.queue_table.specs.View.{tableNumbers};
 ghost use Rattle.figures.specs.View.{growthAt};
+use queue_table::link_at;
+use queue_table::link_of;
 use queue_table::queue_at;
 use units::Aggregate;
 use units::Micros;
+use units::hop_growth;
 
 // A flow's share at a hop, and S past it.
 pub(crate) struct AtHop {
@@ -26,9 +29,10 @@ pub(crate) fn share_at(share: Aggregate, sum: Micros, e: usize, table: &[u32]) -
 {
     let there = share.grown(sum);
     let queue = queue_at(e, table);
-    let threshold = queue.threshold;
+    let link = link_at(link_of(e), table);
+    let growth = hop_growth(queue.threshold, link.speed);
     AtHop {
         share: there,
-        past: Micros(sum.0 + threshold.0),
+        past: Micros(sum.0 + growth.0),
     }
 }

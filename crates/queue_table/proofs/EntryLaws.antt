@@ -12,7 +12,7 @@ use borrow.Author.Tests.{ltb-true}
 use Rattle.model.specs.Sizes.{linksMost, levelsMost, queuesMost}
 use Rattle.model.specs.Aggregates as model
 use Rattle.model.specs.Laws.Test.{and-both}
-use Rattle.queue_table.specs.View.{entryAt, linkIn, levelIn, queueAt, linkCount, levelsAt, fixedDelayAt, thresholdAt, linkAt, tableOf, hopAt, isQueue}
+use Rattle.queue_table.specs.View.{entryAt, linkIn, levelIn, queueAt, linkCount, levelsAt, speedAt, fixedDelayAt, thresholdAt, linkAt, tableOf, hopAt, isQueue}
 use Rattle.queue_table.proofs.LookupLaws.{link-found, queue-found}
 
 -- An entry is that of its link and level.
@@ -36,6 +36,10 @@ module _ (table : List ℕ) (e : ℕ) (named : isQueue table e ≡ true) where
   pub threshold-named : model.thresholdOf (model.queueAt (tableOf table) (hopAt e)) ≡ thresholdAt table e
   unfolding model.thresholdOf queueAt
   threshold-named = ap model.thresholdOf queue-named ∙ ap (thresholdAt table) (entry-same e)
+
+  pub speed-named : model.speedOf (model.linkAt (tableOf table) (hopAt e .link)) ≡ speedAt table (linkIn e)
+  unfolding model.speedOf hopAt linkAt
+  speed-named = ap model.speedOf (link-found table (linkIn e) (queue-within .0))
 
   pub fixed-named : model.fixedDelayOf (model.linkAt (tableOf table) (hopAt e .link)) ≡ fixedDelayAt table (linkIn e)
   unfolding model.fixedDelayOf hopAt linkAt

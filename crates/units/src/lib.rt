@@ -3,13 +3,13 @@
 //
 // Why nothing overflows. A rate is at most 10,000,000 kbit/s: a flow's by its range, a sum because a link's speed is at most
 // 10,000 Mbit/s and the rate rule comes before every formula that takes one. A path has at most 12 hops and a threshold is at most 100,000 µs, so
-// thresholds sum to at most 1,200,000 and a burst at a hop is below 2^31. A queue's backlog passed its check, so its burst
+// S is at most 1,200,000 and a burst at a hop is below 2^31. A queue's backlog passed its check, so its burst
 // sum is at most its buffer, below 2^32; with one flow more, the eight burst sums of a link and Y stay below 2^40, whatever
 // the number of flows. Then 8000 × 2^40 and 10,000,000 × 2^40 + 10,000,000 are below 2^64.
 ghost use mathlib.Core.Path.{_≡_};
 ghost use Prim.Native.Nat.{_+_, _*_, _^_, max, _≤_, _<_};
 ghost use Rattle.model.specs.Sizes.{thresholdsMost};
-ghost use Rattle.model.specs.Formula.{ceilDiv, burstAtHop, residual, withinRate, delayBound, backlogBound};
+ghost use Rattle.model.specs.Formula.{ceilDiv, shortestSending, hopGrowth, burstAtHop, residual, withinRate, delayBound, backlogBound};
 ghost use Rattle.model.specs.Aggregates.{grown};
 ghost use Rattle.model.specs.WithFlow.{together};
 ghost use Rattle.units.specs.View.{aggregateOf, AtSource};
@@ -39,7 +39,30 @@ fn ceil_div(a: u64, b: u64) -> u64
     (a + (b - 1)) / b
 }
 
-// The burst of a flow at a hop, where the thresholds of the earlier hops sum to `sum`.
+// The shortest sending time on a link of `speed` Mbit/s: that of the smallest frame, 672 bits. 0 where the speed is 0, which no table has.
+pub fn shortest_sending(speed: u32) -> Micros
+    ensures { λ r. ⌜ r .0 ≡ shortestSending speed ⌝ }
+{
+    if speed == 0 {
+        return Micros(0);
+    }
+    Micros(ceil_div(672, speed as u64))
+}
+
+// A hop's part of S, never below 0.
+pub fn hop_growth(threshold: Micros, speed: u32) -> Micros
+    ensures { λ r. ⌜ r .0 ≡ hopGrowth (threshold .0) speed ⌝ }
+{
+    let least = shortest_sending(speed);
+    let t = threshold.0;
+    let s = least.0;
+    if t < s {
+        return Micros(0);
+    }
+    Micros(t - s)
+}
+
+// The burst of a flow at a hop, where S over the earlier hops is `sum`.
 pub fn burst_at_hop(rate: Rate, burst: Bytes, sum: Micros) -> Bytes
     requires { ⌜ (rate .0 ≤ 10000000) × ((burst .0 ≤ 1000000) × (sum .0 ≤ thresholdsMost)) ⌝ }
     ensures { λ r. ⌜ r .0 ≡ burstAtHop (rate .0) (burst .0) (sum .0) ⌝ }
