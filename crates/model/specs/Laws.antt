@@ -19,6 +19,7 @@ pub mod Table
 pub mod Reference
 pub mod Room
 pub mod Reached
+pub mod WholeThresholds
 pub mod Schedulable
 pub mod Carries
 pub mod Levels

@@ -1,25 +1,28 @@
--- The headline facts in a page: what one call on the reference model (document 01: the plain book) does, when a registration is admitted, when room lacks, and that no frame is late or lost and every one arrives.
+-- The headline facts in a page: what one call on the reference model (document 01: the plain book) does, when a registration is admitted, when room lacks, that no frame is late or lost and every one arrives, and that nothing admitted by whole thresholds is lost.
 -- Each is a fact of another file, said again in the paper's terms. Assumes nothing.
 use Prim.Native.Nat.{ℕ}
 use mathlib.Core.Path.{_≡_}
 use mathlib.Core.Bool.{true}
 use mathlib.Core.Logic.{_↔_}
 use mathlib.Core.List.{List}
+use Rattle.model.specs.Words.{All}
 use Rattle.model.specs.Columns.{Line}
 use Rattle.model.specs.QueueTable.{Table, readTable}
-use Rattle.model.specs.Orders.{Flow, register, kindNumber, orderLine}
+use Rattle.model.specs.Orders.{Flow, Order, register, kindNumber, orderLine}
 use Rattle.model.specs.Timely.{Timely}
 use Rattle.model.specs.Laws.Run.Punctual.{punctual}
 use Rattle.model.specs.Laws.Run.Delivery.{in-time, none-lost, arrives}
 use Rattle.model.specs.Reference.{State, Call, heldFlows, callOrder, apply, step, opened, final}
 use Rattle.model.specs.Codes.{Listed, TextListed, BatchListed}
-use Rattle.model.specs.Batch.{batch}
+use Rattle.model.specs.Batch.{lineAnswers, batch}
 use Rattle.model.specs.Consistent.{flowsConsistent, consistent}
 use Rattle.model.specs.Part.{Part}
 use Rattle.model.specs.Outcomes.{NoneApplies, Decided, earlyFindings, NoRoom, Full}
+use Rattle.model.specs.WholeThresholds as whole
 use Rattle.model.specs.Laws.Order.{call-readable, line-readable}
 use Rattle.model.specs.Laws.Consistent.{flows-rules, rules-flows, flows-part}
 use Rattle.model.specs.Laws.Reached.{state-rules, rules-state, apply-keeps, reached}
+use Rattle.model.specs.Laws.WholeThresholds.{flows-less, order-same, lines-same}
 use Rattle.model.specs.Laws.Schedulable.{schedulable}
 use Rattle.model.specs.Laws.Decided.{decided, listed}
 use Rattle.model.specs.Laws.Codes.{read-listed, returned-listed}
@@ -78,6 +81,18 @@ reached-consistent text calls = rules-state (final (opened text) calls) (reached
 -- After any list of calls on any table text no frame is late.
 pub reached-timely : (text : List ℕ) (calls : List Call) → let s = final (opened text) calls in Timely (s .table) (heldFlows (s .slots))
 reached-timely text calls = no-frame-late (final (opened text) calls) (reached-consistent text calls)
+
+-- Nothing admitted by whole thresholds, before W-208, is lost: a set of flows that was consistent by them is consistent.
+pub whole-consistent : (t : Table) (fs : List Flow) → whole.flowsConsistent t fs ≡ true → flowsConsistent t fs ≡ true
+whole-consistent = flows-less
+
+-- An order that was carried out by them is carried out just the same, on any state: the same answer, slot and next state.
+pub whole-order : (s : State) (o : Order) → whole.apply s o .answer .code ≡ 0 → apply s o ≡ whole.apply s o
+whole-order = order-same
+
+-- Order lines that were all carried out by them, one after the other, are answered just the same.
+pub whole-lines : (s : State) (ls : List Line) → All (λ a. a .code ≡ 0) (whole.lineAnswers s ls) → lineAnswers s ls ≡ whole.lineAnswers s ls
+whole-lines = lines-same
 
 -- Mission, line 1: what a table text is refused for, what a batch returns, and that a refused one writes nothing.
 pub text-listed : (text : List ℕ) → TextListed text (readTable text)

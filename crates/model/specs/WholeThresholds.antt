@@ -1,4 +1,4 @@
--- The count before request W-208, by which a hop added its whole threshold to S. It stands here for one fact alone: nothing that it admitted is lost (`Results`).
+-- The count before request W-208, by which a hop added its whole threshold to S. It stands here for three facts of `Results` alone: nothing that it admitted is lost.
 use Prim.Native.Nat.{ℕ, suc, _+_}
 use mathlib.Core.Bool.{Bool, _&&_}
 use mathlib.Core.List.{List, [], _∷_, _++_, map}

@@ -46,7 +46,7 @@ cause-code : (n : ℕ) (w : Finding) → linkCause n w ≡ none → w .code ≡ 
 unfolding linkCause
 cause-code n w z = eqb-true _ _ (unless-none _ _ z)
 
-code-cause : (n : ℕ) (w : Finding) → w .code ≡ 0 → linkCause n w ≡ none
+pub code-cause : (n : ℕ) (w : Finding) → w .code ≡ 0 → linkCause n w ≡ none
 unfolding linkCause
 code-cause n w z = rw (eq-eqb (w .code) 0 z)
 
