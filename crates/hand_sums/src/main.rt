@@ -1,4 +1,5 @@
-// Document 01's and W-202's sums to check by hand, worked out by `units`. One line for each: the result in 8 columns.
+// The sums to check by hand of document 01, W-202 and W-208, worked out by `units`. One line for each: the result in 8 columns.
+ghost use Prim.Native.Nat.{_≤_};
 use libc::STDOUT_FILENO;
 use units::Bytes;
 use units::Micros;
@@ -21,6 +22,25 @@ fn with_best_effort() {
     show(units::delay_bound(Bytes(1542 + alone.0 + 1542), Bytes(1542), below).0);
 }
 
+// The burst behind two hops with these thresholds on links of this speed; a threshold of 0 stands for no hop.
+fn show_burst(first: u64, second: u64, speed: u32)
+    requires { ⌜ (first ≤ 1000) × (second ≤ 1000) ⌝ }
+{
+    let a = units::hop_growth(Micros(first), speed);
+    let b = units::hop_growth(Micros(second), speed);
+    show(units::burst_at_hop(Rate(1000), Bytes(1542), Micros(a.0 + b.0)).0);
+}
+
+// After a threshold of 371 and after two, after 375 and 376; after 371 at 10 Mbit/s, after a threshold below the shortest sending time.
+fn show_bursts() {
+    show_burst(371, 0, 100);
+    show_burst(371, 371, 100);
+    show_burst(375, 0, 100);
+    show_burst(376, 0, 100);
+    show_burst(371, 0, 10);
+    show_burst(6, 0, 100);
+}
+
 fn main() {
     // Level 1 alone, then level 2 below it, then level 1 with level 2 below it.
     let res = units::residual_rate(100, Rate(0));
@@ -32,9 +52,7 @@ fn main() {
     show(units::delay_bound(Bytes(3084), Bytes(1542), res).0);
     show(units::backlog_bound(Rate(1000), Bytes(1542), Bytes(3084), res).0);
     with_best_effort();
-    // Bursts after one threshold of 371 and after two.
-    show(units::burst_at_hop(Rate(1000), Bytes(1542), Micros(371)).0);
-    show(units::burst_at_hop(Rate(1000), Bytes(1542), Micros(742)).0);
+    show_bursts();
     // Held rates 99,000, and 999 or 1,000 more: 1 where the rate rule is met.
     show(units::within_rate(100, Rate(99_999)) as u64);
     show(units::within_rate(100, Rate(100_000)) as u64);

@@ -36,6 +36,14 @@ worked : (table orders area : String) (code line : ℕ) (area′ : String) → W
 worked table orders area code line area′ =
     record { worked = batch (bytes table) (bytes orders) (bytes area); given = record { code = code; line = line; area = bytes area′ } }
 
+growthTable : String
+growthTable =
+    "   1   1   2    10 1   1000     2000\n   2   2   3   100 1     91     1040\n   3   2   4   100 1     90     1040\n   4   2   5   100 1     91     1039\n   5   2   6   100 1     96     1108\n"
+
+growthOrders : String
+growthOrders =
+    " 1     1     8000     100  100    2000  2   1 1   5 1\n 2     1\n 1     1     8000     100  100    2000  2   1 1   3 1\n 1     1     8000     100  100    2000  2   1 1   4 1\n 1     1     8000     100  100    2000  2   1 1   2 1\n"
+
 pub workedBatches : List Worked
 workedBatches =
     -- the whole batch, in an area four bytes longer than it needs
@@ -103,10 +111,14 @@ workedBatches =
     ∷ worked "   1   1   2   448 1      6      169      0 0\n" "" "" 1 1 ""
     ∷ worked "   1   1   2   448 1      6      169      0   0\n" "" "" 1 1 ""
     ∷ worked "   1   1   2   448 1      6      169      0    0 \n" "" "" 1 1 ""
+    -- a burst that has grown at a hop of 10 Mbit/s, by its threshold of 1,000 less 68: admitted where threshold and buffer of the hop behind are just as large as
+    -- the bounds, and not with one less (22, 23); by whole thresholds the last order would be refused, too
+    ∷ worked growthTable growthOrders "...................................................................................................." 0 5
+    "     1  0   1   0 0\n     2  0   1   0 0\n     3 22   0   3 1\n     4 23   0   4 1\n     5  0   1   0 0\n"
     ∷ []
 
 pub worked-batches : map (λ w. w .worked) workedBatches ≡ map (λ w. w .given) workedBatches
-unfolding workedBatches worked bytes bytesFrom isDigit digits number field fieldAt padded justified between prepend lines isRowLength laterField rowFields row bestEffortInRange rowInRange continues begins rowInTurn sameLink rowAgrees rowCause queueOf newLink addLevel addRow rowStep lineStep readLines readTable headFields hopField hopFields pathFields numberInRange hopsInRange headInRange flowOf withPath registrationOf registration releaseOf releaseLine kindNumber kindOfNumber kindOrder orderOfKind readOrder orderLine total largest ceilDiv shortestSending hopGrowth burstAtHop residual withinRate delayBound backlogBound blocking interference levelResidual delay backlog isEmpty levelCode orElse levelsFinding rateCode linkFinding nth linkAt queueAt thresholdOf speedOf fixedDelayOf shares allShares sameHop addsAt sharesAt aggregateAt levelAggregates heldFlows heldHops withNumber crosses pathDelay firstCause whole atHop isNone start end noQueue metEarlier startsElsewhere numberFinding lineFindings deadlineFinding every isHeld roomFindings linkCause causeAt linkFindings registerFindings findings firstIndex holds refuse fill perform decide apply tableOf opened answerColumns answerLine lineAnswers answerText refusedBatch doneBatch tooLong tooShort afterTable batch
+unfolding workedBatches worked growthTable growthOrders bytes bytesFrom isDigit digits number field fieldAt padded justified between prepend lines isRowLength laterField rowFields row bestEffortInRange rowInRange continues begins rowInTurn sameLink rowAgrees rowCause queueOf newLink addLevel addRow rowStep lineStep readLines readTable headFields hopField hopFields pathFields numberInRange hopsInRange headInRange flowOf withPath registrationOf registration releaseOf releaseLine kindNumber kindOfNumber kindOrder orderOfKind readOrder orderLine total largest ceilDiv shortestSending hopGrowth burstAtHop residual withinRate delayBound backlogBound blocking interference levelResidual delay backlog isEmpty levelCode orElse levelsFinding rateCode linkFinding nth linkAt queueAt thresholdOf speedOf fixedDelayOf shares allShares sameHop addsAt sharesAt aggregateAt levelAggregates heldFlows heldHops withNumber crosses pathDelay firstCause whole atHop isNone start end noQueue metEarlier startsElsewhere numberFinding lineFindings deadlineFinding every isHeld roomFindings linkCause causeAt linkFindings registerFindings findings firstIndex holds refuse fill perform decide apply tableOf opened answerColumns answerLine lineAnswers answerText refusedBatch doneBatch tooLong tooShort afterTable batch
 worked-batches = refl
 
 -- 42: the link of a registry that calls find may have these best-effort frames, 0, 84 and 1,542, and not the others.

@@ -1,6 +1,5 @@
--- `hand_sums::main` meets what its callees ask: the residual rates are numerals.
+-- `hand_sums::main` meets what its callees ask: the rates are numerals.
 -- Assumes nothing.
-use native.Mathlib.Omega.{arith}
 use Rattle.model.specs.Formula.{residual}
 use borrow.Author.Needs.{needs}
 use Rattle.hand_sums.proofs.main.Statement.{statement}
@@ -10,4 +9,4 @@ pub main-spec : {M : Type 1} → statement M
 unfolding residual
 main-spec =
     tie.close
-    (tie.spec (λ c κs. search needs) (λ c κs. search needs) (λ c κs. omega arith) (λ c κs. search needs) (λ c κs. omega arith) (λ c κs. search needs) (λ c κs. omega arith) (λ c κs. search needs) (λ c κs. omega arith) (λ c κs. search needs) (λ c κs. omega arith) (λ c κs. search needs) (λ c κs. omega arith) (λ c κs. search needs) (λ c κs. search needs) (λ c κs. search needs) (λ c κs. search needs) (λ c κs. search needs) (λ c κs. search needs) (λ c κs. search needs) (λ c. search needs) (λ c κs. search needs) (λ c κs. search needs) (λ c. search needs) (λ c κs. search needs) (λ c. search needs))
+    (tie.spec (λ c κs. search needs) (λ c κs. search needs) (λ c κs. search needs) (λ c κs. search needs) (λ c κs. search needs) (λ c κs. search needs) (λ c κs. search needs) (λ c κs. search needs) (λ c κs. search needs) (λ c κs. search needs) (λ c κs. search needs) (λ c κs. search needs) (λ c κs. search needs) (λ c κs. search needs) (λ c κs. search needs) (λ c κs. search needs) (λ c κs. search needs) (λ c. search needs) (λ c κs. search needs) (λ c κs. search needs) (λ c. search needs) (λ c κs. search needs) (λ c. search needs))

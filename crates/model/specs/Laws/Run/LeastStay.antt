@@ -7,7 +7,7 @@ use mathlib.Core.Option.{Option, none, some}
 use native.Mathlib.Omega.{arith}
 use native.Mathlib.Nat.{mul-le-mul-left, le-of-mul-le-mul-left}
 use Rattle.model.specs.Words.{All}
-use Rattle.model.specs.Formula.{ceilDiv, shortestSending}
+use Rattle.model.specs.Formula.{shortestSending}
 use Rattle.model.specs.QueueTable.{Link, Table}
 use Rattle.model.specs.Orders.{Flow}
 use Rattle.model.specs.Aggregates.{linkAt, speedOf}
@@ -94,11 +94,10 @@ in-micros (suc c) since x h = go (x - since) refl
     speed : ℕ
     speed = suc c
 
-    go : (stay : ℕ) → x - since ≡ stay → since + ceilDiv 672 speed ≤ x
-    go zero e = absurd (omega (arith, h, mul-le-mul-left speed (at-most e)))
-      where
-        at-most : x - since ≡ 0 → x ≤ since
-        at-most e = omega arith
+    go : (stay : ℕ) → x - since ≡ stay → since + shortestSending speed ≤ x
+    go zero e =
+        let early : x ≤ since = omega arith in
+        absurd (omega (arith, h, mul-le-mul-left speed early))
     go (suc d) e =
         let sum : x ≡ since + suc d = omega arith in
         omega (arith, sum, ceilDiv-le 672 speed (suc d) (omega arith) (omega (arith, h, ap (λ z. speed * z) sum)))
