@@ -315,9 +315,12 @@ registries = [
         (reg(hops=2, path=[(1, 1), (2, 1)], deadline=21999), said(20)),
         (reg(hops=2, path=[(1, 1), (2, 1)], deadline=22000), said(0, 1)),
     ]),
-    (three(1651), [(through, said(0, 1))]),                      # 1,635 after two thresholds of 371, and 16 (15.42)
-    (three(1650), [(through, said(23, 0, 3, 1))]),
-    (three(1651, 12000), [                                       # 1,113 of thresholds and 12,000 of cables; the bursts are as before
+    (three(1649), [(through, said(0, 1))]),                      # 1,633 after two thresholds of 371, each less 7, and 16 (15.42)
+    (three(1648), [(through, said(23, 0, 3, 1))]),
+    (three(2000), [(through, said(0, 1))]
+        + damaged((SUMS, 25, 1589, 1588), (SUMS, 49, 1635, 1633))                # kept by whole thresholds
+        + damaged((TABLE, link(0, 2), 200, 100))),               # a faster first link adds more to S: 1,634 at the third
+    (three(1649, 12000), [                                       # 1,113 of thresholds and 12,000 of cables; the bursts are as before
         (reg(deadline=13112, hops=3, path=[(1, 1), (2, 1), (3, 1)]), said(20)),
         (reg(deadline=13113, hops=3, path=[(1, 1), (2, 1), (3, 1)]), said(0, 1)),
         *damaged((TABLE, link(2, 4), 8001, 8000)),               # one µs more of cable at the last hop
