@@ -7,7 +7,7 @@ use native.Mathlib.Omega.{arith}
 use Rattle.model.specs.Words.{Pairs}
 use Rattle.model.specs.Total.{total}
 use Rattle.model.specs.Laws.Total.{total-mono, largest-mono}
-use Rattle.model.specs.Formula.{Aggregate, ceilDiv, hopGrowth, residual, delayBound, backlogBound, blocking, interference, levelResidual, delay, backlog}
+use Rattle.model.specs.Formula.{Aggregate, ceilDiv, shortestSending, hopGrowth, residual, delayBound, backlogBound, blocking, interference, levelResidual, delay, backlog}
 
 -- Rounded up to at most `c`.
 pub ceilDiv-le : (a b c : ℕ) → 1 ≤ b → a ≤ c * b → ceilDiv a b ≤ c
@@ -29,10 +29,14 @@ ceilDiv-mono a a′ b b′ ha h hb =
     let fits : a′ ≤ c * b′ = le-ceilDiv a′ b′ c h (le-refl c) in
     ceilDiv-le a b c (omega arith) (omega (arith, mul-le-mul-left c hb))
 
--- A hop's part of S is at most its threshold.
+-- A hop's part of S is at most its threshold, and at least what the shortest sending time leaves of it.
 pub growth-most : (threshold speed : ℕ) → hopGrowth threshold speed ≤ threshold
 unfolding hopGrowth
 growth-most threshold speed = omega arith
+
+pub growth-least : (threshold speed : ℕ) → threshold ≤ shortestSending speed + hopGrowth threshold speed
+unfolding hopGrowth
+growth-least threshold speed = omega arith
 
 -- One aggregate is at most another: in rate sum, burst sum and largest frame.
 pub record AtMost (a b : Aggregate) : Type 0 where

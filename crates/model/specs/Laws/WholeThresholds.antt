@@ -16,13 +16,13 @@ use Rattle.model.specs.Laws.Total.{total-mono, largest-mono}
 use Rattle.model.specs.Laws.Test.{and-both, both-and, every-all, all-every}
 use Rattle.model.specs.Laws.All.{all-imp}
 use Rattle.model.specs.Columns.{Line}
-use Rattle.model.specs.Formula.{Aggregate, hopGrowth, burstAtHop}
-use Rattle.model.specs.Laws.Formula.{AtMost, ceilDiv-mono}
+use Rattle.model.specs.Formula.{Aggregate, burstAtHop}
+use Rattle.model.specs.Laws.Formula.{AtMost, ceilDiv-mono, growth-most}
 use Rattle.model.specs.QueueTable.{Queue, Link, Table}
 use Rattle.model.specs.Orders.{Hop, Flow, Order, register, release, rejected, orderLine}
 use Rattle.model.specs.LinkCheck.{Finding}
 use Rattle.model.specs.Laws.LinkCheck.{link-mono}
-use Rattle.model.specs.Aggregates.{Share, linkAt, queueAt, thresholdOf, source, grown, growth, shares, allShares, sameHop, addsAt, sharesAt, aggregateAt, levelAggregates}
+use Rattle.model.specs.Aggregates.{Share, linkAt, queueAt, thresholdOf, speedOf, source, grown, growth, shares, allShares, sameHop, addsAt, sharesAt, aggregateAt, levelAggregates}
 use Rattle.model.specs.Reference.{State, Cause, Answer, Outcome, heldFlows, withNumber, firstCause, lineFindings, deadlineFinding, roomFindings, linkCause, causeAt, linkFindings, registerFindings, findings, refuse, decide, apply}
 use Rattle.model.specs.Outcomes.{earlyFindings}
 use Rattle.model.specs.Consistent.{flowInRange, flowConsistent, flowsConsistent}
@@ -87,10 +87,10 @@ module _ (t : Table) where
   -- A path's shares, before those of other flows.
   path-less : (f : Flow) {sum sum′ : ℕ} → sum ≤ sum′ → (path : List Hop) {es es′ : List Share} → Pairs NoMore es es′
       → Pairs NoMore (shares t f sum path ++ es) (whole.shares t f sum′ path ++ es′)
-  unfolding shares whole.shares hopGrowth
+  unfolding shares whole.shares
   path-less f h [] p = p
   path-less f {sum} {sum′} h (g ∷ path) p =
-      let later : sum + growth t g ≤ sum′ + thresholdOf (queueAt t g) = omega arith in
+      let later : sum + growth t g ≤ sum′ + thresholdOf (queueAt t g) = omega (arith, growth-most (thresholdOf (queueAt t g)) (speedOf (linkAt t (g .link)))) in
       pair (record { hop = refl; adds = grown-mono (source f) h }) (path-less f later path p)
 
   all-less : (fs : List Flow) → Pairs NoMore (allShares t fs) (whole.allShares t fs)

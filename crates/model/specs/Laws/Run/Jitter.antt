@@ -7,7 +7,7 @@ use mathlib.Core.Option.{some, Option·none-ne-some}
 use native.Mathlib.Omega.{arith}
 use lib.ListN.{getElem?}
 use Rattle.model.specs.Words.{All}
-use Rattle.model.specs.Formula.{shortestSending, hopGrowth}
+use Rattle.model.specs.Formula.{shortestSending}
 use Rattle.model.specs.QueueTable.{Table}
 use Rattle.model.specs.Orders.{Hop, Flow}
 use Rattle.model.specs.Aggregates.{linkAt, queueAt, thresholdOf, speedOf, fixedDelayOf, growth}
@@ -15,6 +15,7 @@ use Rattle.model.specs.Reference.{hopDelay}
 use Rattle.model.specs.Schedulable.{Named, FlowMeets, Schedulable}
 use Rattle.model.specs.Run.{Frame, Sends, Run, hopOf, next, inQueue}
 use Rattle.model.specs.Laws.All.{all-imp, all-imp₂, all-at}
+use Rattle.model.specs.Laws.Formula.{growth-least}
 use Rattle.model.specs.Laws.Run.Instants.{at-each}
 use Rattle.model.specs.Laws.Run.Standing.{hop, moved, known-hop, moved-all, arrivals-all}
 use Rattle.model.specs.Laws.Run.OneLink.{EachLevel, OnWire, Each}
@@ -93,7 +94,7 @@ module _ (t : Table) (fs : List Flow) (sch : Schedulable t fs) (r : Run t fs) wh
   -- So it reaches the next hop in time, and having stayed the shortest sending time or longer, it does no sooner.
   reaches : (x y n level : ℕ) (f : Frame) → y + fixedDelayOf (linkAt t n) ≡ x → f .since + shortestSending (speedOf (linkAt t n)) ≤ y →
       Placed t fs y n level f → OnTime t fs (next x f)
-  unfolding next hopGrowth
+  unfolding next
   reaches x y n level f d stay p =
       let o = p .onTime in
       let least = hop-adds (leastDelay t) n level f o (p .here) in
@@ -103,7 +104,16 @@ module _ (t : Table) (fs : List Flow) (sch : Schedulable t fs) (r : Run t fs) wh
         long = o .long;
         short = o .short;
         notSooner = omega (arith, o .notSooner, stay, d, least);
-        jitter = omega (arith, o .jitter, p .soon, d, least, hop-adds (growth t) n level f o (p .here));
+        jitter =
+            omega (
+              arith,
+              o .jitter,
+              p .soon,
+              d,
+              least,
+              hop-adds (growth t) n level f o (p .here),
+              growth-least (thresholdOf (queueAt t (hop n level))) (speedOf (linkAt t n)),
+            );
         inTime = omega (arith, d, leaves y n level f p);
       }
 
