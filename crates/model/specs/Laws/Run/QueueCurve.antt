@@ -74,7 +74,7 @@ module _ (t : Table) (fs : List Flow) (sch : Schedulable t fs) (r : Run t fs) (c
   abbrev sum : (Aggregate → ℕ) → List Share → ℕ
   sum measure es = total (addsAt q measure) es
 
-  -- The curve of flow `j` at its hop `i`, before which the thresholds sum to `s`.
+  -- The curve of flow `j` at its hop `i`, before which S is `s`.
   abbrev HopCurve : Flow → (j i s : ℕ) → Type 0
   HopCurve fl j i s = Curve h (burstAtHop (fl .rate) (fl .burst) s) (fl .rate) (reached t fs r (atHop anyBirth j i))
 
