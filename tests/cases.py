@@ -254,7 +254,13 @@ def three(buffer, fixed=0):
     return "".join(row(l, l, l + 1, 100, 1, 371, b, d) for l, b, d in [(1, 2000, None), (2, 2000, fixed // 3), (3, buffer, fixed - fixed // 3)])
 
 
+def behind(speed, threshold, buffer):
+    """A link of this speed and threshold, then one at 100 Mbit/s with this buffer."""
+    return row(1, 1, 2, speed, 1, threshold, 2000) + row(2, 2, 3, 100, 1, 371, buffer)
+
+
 through = reg(deadline=1113, hops=3, path=[(1, 1), (2, 1), (3, 1)])
+onward = reg(deadline=5000, hops=2, path=[(1, 1), (2, 1)])
 first = (reg(number=7, deadline=1000), said(0, 1))
 second = reg(number=8, deadline=1000, path=[(1, 2)])
 both = [first, (second, said(0, 2))]
@@ -315,11 +321,11 @@ registries = [
         (reg(hops=2, path=[(1, 1), (2, 1)], deadline=21999), said(20)),
         (reg(hops=2, path=[(1, 1), (2, 1)], deadline=22000), said(0, 1)),
     ]),
-    (three(1649), [(through, said(0, 1))]),                      # 1,633 after two thresholds of 371, each less 7, and 16 (15.42)
+    (three(1649), [(through, said(0, 1))]                        # 1,633 after two thresholds of 371, and 16 (15.42)
+        + damaged((SUMS, 25, 1589, 1588), (SUMS, 49, 1635, 1633))        # figures by whole thresholds
+        + damaged((TABLE, link(0, 2), 200, 100))                 # another speed of the first link: 1,634 at the third
+        + damaged((TABLE, queue(0, 0), 6, 371))),                # a threshold below the shortest sending time
     (three(1648), [(through, said(23, 0, 3, 1))]),
-    (three(2000), [(through, said(0, 1))]
-        + damaged((SUMS, 25, 1589, 1588), (SUMS, 49, 1635, 1633))                # kept by whole thresholds
-        + damaged((TABLE, link(0, 2), 200, 100))),               # a faster first link adds more to S: 1,634 at the third
     (three(1649, 12000), [                                       # 1,113 of thresholds and 12,000 of cables; the bursts are as before
         (reg(deadline=13112, hops=3, path=[(1, 1), (2, 1), (3, 1)]), said(20)),
         (reg(deadline=13113, hops=3, path=[(1, 1), (2, 1), (3, 1)]), said(0, 1)),
@@ -408,6 +414,11 @@ registries = [
         + damaged((TABLE, COUNT, 2, 1))                          # a link of no levels
         + damaged((TABLE, COUNT, 65, 1))
         + [put(SLOTS, slot(2, 0), 7), put(POOL, 2, 999), (reg(), said(12))]),    # a free slot, a free entry: nothing wrong
+    (behind(100, 375, 1604), [(onward, said(0, 1))]),            # 1,588 after a threshold of 375, and 16
+    (behind(100, 376, 1604), [(onward, said(23, 0, 2, 1))]),     # 1,589 after 376
+    (behind(10, 2468, 1858), [(onward, said(0, 1))]),            # 68 µs less at 10 Mbit/s, the earlier link's speed: 1,842
+    (behind(10, 2468, 1857), [(onward, said(23, 0, 2, 1))]),
+    (behind(100, 6, 2000), [(onward, said(22, 0, 1, 1))]),       # a threshold below the shortest sending time
 ]
 
 

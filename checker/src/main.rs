@@ -1,7 +1,8 @@
 //! The checker's commands.
 
+use checker::sim::Fault;
 use checker::{bench, compare, lists, simulate, vectors};
-use halls::tables::Bounds;
+use halls::tables::{Bounds, Count};
 use std::io::Write;
 use std::path::Path;
 use std::process::ExitCode;
@@ -115,7 +116,7 @@ fn run_simulate(options: &[&str]) -> Option<bool> {
     let count = number(options, "--count")?;
     let outcome = simulate::run(seed, count).and_then(|report| {
         report.print();
-        let sent = report.halls > 0 && report.best_effort[1] > 0;
+        let sent = report.halls > 0 && report.best_effort[1] > 0 && report.shortest[0] > 0;
         Ok(sent && catches_mistakes(seed)?)
     });
     Some(outcome.unwrap_or_else(|what| {
@@ -127,28 +128,42 @@ fn run_simulate(options: &[&str]) -> Option<bool> {
 /// A mistake shows in one of so many halls, mostly in one of the first.
 const MISTAKEN_HALLS: u64 = 1_000;
 
-/// Whether the search finds something where bounds leave the best-effort frame out.
+/// What a bound may be mistaken about.
+const MISTAKES: [(&str, Count); 2] = [
+    ("best-effort frame left out", simulate::WITHOUT_BEST_EFFORT),
+    ("source's burst at every hop", simulate::WITHOUT_GROWTH),
+];
+
+/// Whether the search finds each mistake in thresholds, and in buffers.
 fn catches_mistakes(seed: u64) -> Result<bool, String> {
-    let (delays, backlogs) = (simulate::left_out, simulate::left_out);
-    let right = Bounds::RIGHT;
-    let mistakes = [
-        ("thresholds", Bounds { delays, ..right }),
-        ("buffers", Bounds { backlogs, ..right }),
-    ];
-    for (name, bounds) in mistakes {
-        let halls = simulate::run_by(seed, MISTAKEN_HALLS, bounds, |trial| trial);
-        let mut shown = None;
-        for (found, number) in halls.zip(1..) {
-            if let Some(fault) = found? {
-                shown = Some((fault, number));
-                break;
-            }
-        }
-        let Some((fault, number)) = shown else {
-            println!("best-effort frame left out of {name}: doesn't show");
-            return Ok(false);
+    for (mistake, count) in MISTAKES {
+        let delays = Bounds {
+            delays: count,
+            ..Bounds::RIGHT
         };
-        println!("best-effort frame left out of {name}: shows in hall {number}, {fault:?}");
+        let backlogs = Bounds {
+            backlogs: count,
+            ..Bounds::RIGHT
+        };
+        for (limits, bounds) in [("thresholds", delays), ("buffers", backlogs)] {
+            let found = first_fault(seed, bounds)?;
+            let Some((fault, number)) = found else {
+                println!("{limits}, {mistake}: doesn't show");
+                return Ok(false);
+            };
+            println!("{limits}, {mistake}: shows in hall {number}, {fault:?}");
+        }
     }
     Ok(true)
+}
+
+/// The first that the search finds, and the number of the hall.
+fn first_fault(seed: u64, bounds: Bounds) -> Result<Option<(Fault, u64)>, String> {
+    let halls = simulate::run_by(seed, MISTAKEN_HALLS, bounds, |trial| trial);
+    for (found, number) in halls.zip(1..) {
+        if let Some(fault) = found? {
+            return Ok(Some((fault, number)));
+        }
+    }
+    Ok(None)
 }

@@ -2,11 +2,10 @@
 //! where bounds don't count them.
 
 use checker::sim::{Arrivals, Fault, Free, Laptops, Network, Observer, Seen, Start};
-use checker::simulate::{left_out, run_by, Laptop, Site, Trial};
+use checker::simulate::{run_by, Laptop, Site, Trial, WITHOUT_BEST_EFFORT};
 use halls::rng::Rng;
 use halls::sources::Send;
-use halls::tables::Bounds;
-use plain::formula::Link;
+use halls::tables::{Bounds, Count};
 use plain::orders::{Flow, Hop};
 use plain::table::Queue;
 use std::slice;
@@ -228,12 +227,15 @@ fn the_laptops_of_the_search() {
 }
 
 /// The mistake of leaving it out where there is no level below.
-fn left_out_at_the_last_level(queue: &Queue, next: Option<&Queue>) -> Link {
-    if next.is_some_and(|next| next.link == queue.link) {
-        return queue.of_link();
-    }
-    left_out(queue, next)
-}
+const LEFT_OUT_AT_THE_LAST_LEVEL: Count = Count {
+    link: |queue, next| {
+        if next.is_some_and(|next| next.link == queue.link) {
+            return queue.of_link();
+        }
+        (WITHOUT_BEST_EFFORT.link)(queue, next)
+    },
+    ..Count::RIGHT
+};
 
 /// Whether the search finds such a fault in one of many halls tightened by these bounds.
 fn finds(bounds: Bounds, such: fn(&Fault) -> bool) -> bool {
@@ -245,7 +247,7 @@ fn finds(bounds: Bounds, such: fn(&Fault) -> bool) -> bool {
 #[test]
 fn a_best_effort_frame_left_out_is_found() {
     let late = |fault: &Fault| matches!(fault, Fault::Late { .. });
-    for delays in [left_out, left_out_at_the_last_level] {
+    for delays in [WITHOUT_BEST_EFFORT, LEFT_OUT_AT_THE_LAST_LEVEL] {
         let bounds = Bounds {
             delays,
             ..Bounds::RIGHT
@@ -253,7 +255,7 @@ fn a_best_effort_frame_left_out_is_found() {
         assert!(finds(bounds, late));
     }
     let bounds = Bounds {
-        backlogs: left_out,
+        backlogs: WITHOUT_BEST_EFFORT,
         ..Bounds::RIGHT
     };
     assert!(finds(bounds, |fault| matches!(fault, Fault::Over { .. })));
@@ -263,8 +265,8 @@ fn a_best_effort_frame_left_out_is_found() {
 #[test]
 fn bounds_without_it_hold_without_laptops() {
     let bounds = Bounds {
-        delays: left_out,
-        backlogs: left_out,
+        delays: WITHOUT_BEST_EFFORT,
+        backlogs: WITHOUT_BEST_EFFORT,
     };
     let found: Vec<Option<Fault>> = run_by(1, 30, bounds, Trial::quiet)
         .collect::<Result<_, _>>()

@@ -42,16 +42,22 @@ fn bars_are_judged() {
 
 #[test]
 fn no_frame_is_late() {
-    let report = simulate::run(1, 40).unwrap();
+    let report = simulate::run(8, 40).unwrap();
     assert!(report.halls > 10);
     assert!(report.journey.limit > 0, "no way with a fixed delay");
     assert!(
         report.best_effort[1] > 0,
         "no best-effort frame at an arrival"
     );
+    let [best_effort, growth] = &report.added;
     assert!(
-        report.added.seen > 0,
+        best_effort.seen > 0,
         "no stay that needs its best-effort frame"
+    );
+    assert!(growth.seen > 0, "no stay that needs its burst growth");
+    assert!(
+        report.shortest[0] > 0,
+        "no stay as short as the shortest sending"
     );
 }
 

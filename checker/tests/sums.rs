@@ -1,8 +1,10 @@
-//! Document 01, "Sums to check by hand", and those of W-202: all at 100 Mbit/s, flows of rate 1,000,
-//! burst and frame 1,542. Each is worked out by the formulas or put to all versions as a batch.
+//! Document 01, "Sums to check by hand", and those of W-202 and W-208: at 100 Mbit/s where no other
+//! speed is named, flows of rate 1,000, burst and frame 1,542. Each is worked out by the formulas or
+//! put to all versions as a batch.
 
 use checker::versions::versions;
 use plain::formula::{backlog, burst_at_hop, delay, rate_passes, Aggregate, Link};
+use plain::formula::{hop_growth, shortest_sending};
 
 const FLOW: Aggregate = Aggregate {
     rate: 1_000,
@@ -124,14 +126,74 @@ fn two_levels_beside_a_laptop() {
     assert_eq!(answer((371, 1_573), (499, 1_588)), " 23   0   1 2");
 }
 
+/// 672 bits: 67.2, 6.72, 0.672 and 0.0672 µs, rounded up. 6.93 and 6.52 at the simulator's odd speeds.
+#[test]
+fn shortest_sending_times() {
+    let times = [1, 10, 97, 100, 103, 671, 672, 1_000, 10_000].map(shortest_sending);
+    assert_eq!(times, [672, 68, 7, 7, 7, 2, 1, 1, 1]);
+}
+
+/// Whole thresholds would give 1,589 and 1,635; rounding at each hop gives 1,634.
 #[test]
 fn burst_along_a_path() {
-    assert_eq!(burst_at_hop(1_542, 1_000, 371), 1_589);
-    assert_eq!(burst_at_hop(1_542, 1_000, 2 * 371), 1_635);
-    assert_eq!(
-        burst_at_hop(burst_at_hop(1_542, 1_000, 371), 1_000, 371),
-        1_636
-    );
+    let part = hop_growth(371, 100);
+    assert_eq!(part, 364);
+    assert_eq!(burst_at_hop(1_542, 1_000, part), 1_588);
+    assert_eq!(burst_at_hop(1_542, 1_000, 2 * part), 1_633);
+    let each = burst_at_hop(burst_at_hop(1_542, 1_000, part), 1_000, part);
+    assert_eq!(each, 1_634);
+}
+
+/// The burst after a threshold on a link of this speed.
+fn burst_after(threshold: u128, speed: u128) -> u128 {
+    burst_at_hop(1_542, 1_000, hop_growth(threshold, speed))
+}
+
+/// A shortest sending time of 6 µs would give 1,589 at 375, one of 8 would give 1,588 at 376. The speed is the earlier
+/// link's. A threshold below the shortest sending time adds nothing.
+#[test]
+fn burst_after_one_threshold() {
+    assert_eq!(burst_after(375, 100), 1_588);
+    assert_eq!(burst_after(376, 100), 1_589);
+    assert_eq!(burst_after(371, 10), 1_580);
+    for (threshold, speed, burst) in [
+        (1, 100, 1_542),
+        (6, 100, 1_542),
+        (7, 100, 1_542),
+        (8, 100, 1_543),
+        (68, 10, 1_542),
+        (69, 10, 1_543),
+        (671, 1, 1_542),
+        (1, 10_000, 1_542),
+        (2, 10_000, 1_543),
+    ] {
+        let found = burst_after(threshold, speed);
+        assert_eq!(found, burst, "{threshold} µs at {speed} Mbit/s");
+    }
+}
+
+/// A link of this speed and threshold, then one at 100 Mbit/s with this buffer.
+fn behind(speed: u32, threshold: u32, buffer: u32) -> String {
+    let first = format!("   1   1   2{speed:>6} 1{threshold:>7} 16777215\n");
+    first + &table_line(2, 1, 100_000, buffer)
+}
+
+/// The backlog at the second link is the burst there and 16 (15.42). At 10 Mbit/s 2,468 µs are the bound: 2,400 of them
+/// count, which is 300 bytes.
+#[test]
+fn backlog_after_one_threshold() {
+    let line = registration(7, 1_000, 1_542, 1_542, 2);
+    for (speed, threshold, burst) in [
+        (100, 371, 1_588),
+        (100, 375, 1_588),
+        (100, 376, 1_589),
+        (10, 2_468, 1_842),
+        (1_000, 26, 1_546),
+    ] {
+        let answer = |buffer| last(&behind(speed, threshold, buffer), &line);
+        assert_eq!(answer(burst + 16), "  0   1   0 0", "{threshold}");
+        assert_eq!(answer(burst + 15), " 23   0   2 1", "{threshold}");
+    }
 }
 
 #[test]

@@ -57,7 +57,8 @@ const LINES_TO: [&str; LENGTHS.len()] = [
 const SEVERAL_LENGTHS: &str = "several lengths";
 const NO_LINES: &str = "no line of a right length";
 
-const SPEEDS: [u64; 5] = [1, 10, 100, 1_000, 10_000];
+/// Among them some at which the smallest frame's 672 bits take whole µs, or a little more.
+const SPEEDS: [u64; 9] = [1, 7, 10, 97, 100, 671, 672, 1_000, 10_000];
 
 /// One batch. A long run has more lines in each text.
 pub fn input(rng: &mut Rng, long: bool) -> Input {
@@ -131,8 +132,12 @@ fn network(rng: &mut Rng) -> Vec<Queue> {
 fn sums_network(rng: &mut Rng) -> Vec<Queue> {
     let mut queues = loose(rng, Shape::Chain, 3, 3, &[100]);
     for queue in &mut queues {
-        queue.threshold = rng.pick(&[246, 247, 370, 371, 374, 495, 498, 499, 1_000, 100_000]);
-        queue.buffer = rng.pick(&[1_557, 1_558, 1_573, 1_574, 1_589, 2_000, 3_200, 100_000]);
+        queue.threshold = rng.pick(&[
+            246, 247, 370, 371, 374, 375, 376, 495, 498, 499, 1_000, 100_000,
+        ]);
+        queue.buffer = rng.pick(&[
+            1_557, 1_558, 1_573, 1_574, 1_589, 1_604, 1_605, 1_649, 2_000, 3_200, 100_000,
+        ]);
     }
     link_fields(rng, &mut queues);
     queues

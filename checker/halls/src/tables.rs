@@ -3,7 +3,8 @@
 use crate::rng::Rng;
 use plain::formula::{backlog, delay, Aggregate, Link};
 use plain::orders::{Flow, Hop, LARGEST_FRAME, SMALLEST_FRAME};
-use plain::registry::{aggregate, path_fixed_delays, path_thresholds};
+use plain::registry::{aggregate, aggregate_by, path_fixed_delays, path_thresholds};
+use plain::slips::Slips;
 use plain::table::{write_queue, write_queue_in, Queue, LENGTHS};
 
 pub use plain::table::{MOST_BUFFER, MOST_FIXED_DELAY, MOST_THRESHOLD};
@@ -179,17 +180,41 @@ pub fn link_levels(queues: &[Queue], flows: &[&Flow], link: u64) -> Vec<Aggregat
 /// What a bound of a queue counts of its link; said of the queue and the one after it in the table.
 pub type Counted = fn(&Queue, Option<&Queue>) -> Link;
 
-/// What delays and backlogs count, right or wrong.
+/// What a bound counts, right or wrong: of the queue's link, and the rules by which bursts grow.
+#[derive(Clone, Copy)]
+pub struct Count {
+    pub link: Counted,
+    pub bursts: Slips,
+}
+
+impl Count {
+    pub const RIGHT: Count = Count {
+        link: |queue, _| queue.of_link(),
+        bursts: Slips::NONE,
+    };
+
+    /// The link of the queue with this index, and the figures of its levels.
+    pub fn at(&self, queues: &[Queue], flows: &[&Flow], index: usize) -> (Link, Vec<Aggregate>) {
+        let link = (self.link)(&queues[index], queues.get(index + 1));
+        let of_link = queues
+            .iter()
+            .filter(|queue| queue.link == queues[index].link);
+        let levels = of_link.map(|queue| aggregate_by(queues, flows, queue, self.bursts));
+        (link, levels.collect())
+    }
+}
+
+/// What delays and backlogs count.
 #[derive(Clone, Copy)]
 pub struct Bounds {
-    pub delays: Counted,
-    pub backlogs: Counted,
+    pub delays: Count,
+    pub backlogs: Count,
 }
 
 impl Bounds {
     pub const RIGHT: Bounds = Bounds {
-        delays: |queue, _| queue.of_link(),
-        backlogs: |queue, _| queue.of_link(),
+        delays: Count::RIGHT,
+        backlogs: Count::RIGHT,
     };
 }
 
@@ -202,19 +227,15 @@ pub fn tighten(queues: &mut [Queue], flows: &[&Flow]) {
 
 /// The same by other bounds.
 pub fn tighten_by(queues: &mut [Queue], flows: &[&Flow], bounds: Bounds) {
-    let link_at = |queues: &[Queue], i: usize, counted: Counted| {
-        let next = queues.get(i + 1);
-        counted(&queues[i], next)
-    };
     loop {
         let mut moved = false;
         for i in 0..queues.len() {
-            let levels = link_levels(queues, flows, queues[i].link);
+            let (link, levels) = bounds.delays.at(queues, flows, i);
             let p = queues[i].level as usize - 1;
             if levels[p].rate == 0 {
                 continue;
             }
-            let bound = delay(link_at(queues, i, bounds.delays), &levels, p) as u64;
+            let bound = delay(link, &levels, p) as u64;
             moved |= bound != queues[i].threshold;
             queues[i].threshold = bound;
         }
@@ -223,10 +244,9 @@ pub fn tighten_by(queues: &mut [Queue], flows: &[&Flow], bounds: Bounds) {
         }
     }
     for i in 0..queues.len() {
-        let levels = link_levels(queues, flows, queues[i].link);
+        let (link, levels) = bounds.backlogs.at(queues, flows, i);
         let p = queues[i].level as usize - 1;
         if levels[p].rate > 0 {
-            let link = link_at(queues, i, bounds.backlogs);
             queues[i].buffer = backlog(link, &levels, p) as u64;
         }
     }

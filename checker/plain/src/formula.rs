@@ -1,4 +1,7 @@
-//! Document 01's formulas, in its whole units, with W-202's best-effort frame in Y. Wide numbers, so that no product has to be thought about.
+//! Document 01's formulas, in its whole units, with W-202's best-effort frame in Y and W-208's count of S. Wide numbers, so
+//! that no product has to be thought about.
+
+use crate::orders::SMALLEST_FRAME;
 
 /// What document 01 calls the figures of a queue; also what one flow adds to them.
 #[derive(Clone, Copy, Debug, Default, PartialEq)]
@@ -42,7 +45,18 @@ impl Quotient {
     }
 }
 
-/// The growth of a burst after earlier hops whose thresholds sum to so many µs.
+/// The shortest time in which a link sends a frame, µs: the smallest has 672 bits, and the speed is in bits per µs.
+pub fn shortest_sending(speed: u128) -> u128 {
+    (8 * u128::from(SMALLEST_FRAME)).div_ceil(speed)
+}
+
+/// A hop's part of S for the hops after it, µs. No frame leaves a queue sooner than it is sent, so only the rest of the
+/// threshold can bunch frames.
+pub fn hop_growth(threshold: u128, speed: u128) -> u128 {
+    threshold.saturating_sub(shortest_sending(speed))
+}
+
+/// The growth of a burst after earlier hops whose parts sum to S, `earlier` µs.
 pub fn growth(rate: u128, earlier: u128) -> Quotient {
     Quotient {
         number: rate * earlier,
@@ -50,7 +64,7 @@ pub fn growth(rate: u128, earlier: u128) -> Quotient {
     }
 }
 
-/// Burst at a hop after earlier hops whose thresholds sum to so many µs.
+/// Burst at a hop after earlier hops whose parts sum to S, `earlier` µs.
 pub fn burst_at_hop(burst: u128, rate: u128, earlier: u128) -> u128 {
     burst + growth(rate, earlier).ceiling()
 }

@@ -186,14 +186,21 @@ pub fn path_fixed_delays(queues: &[Queue], hops: &[Hop]) -> u128 {
     hops.iter().map(fixed_delay).sum()
 }
 
+/// A hop's part of S for the hops after it, µs.
+pub fn growth_at(queues: &[Queue], hop: Hop, slips: &Slips) -> u128 {
+    queue_at(queues, hop).map_or(0, |queue| {
+        slips.hop_growth(u128::from(queue.threshold), u128::from(queue.speed))
+    })
+}
+
 /// What a flow adds at the hop with this index.
 pub fn share_at(queues: &[Queue], flow: &Flow, index: usize, slips: &Slips) -> Aggregate {
     let earlier = flow.hops[..index].iter();
-    let thresholds = earlier.map(|&hop| u128::from(threshold_at(queues, hop)));
+    let parts = earlier.map(|&hop| growth_at(queues, hop, slips));
     let (burst, rate) = (u128::from(flow.burst), u128::from(flow.rate));
     Aggregate {
         rate,
-        burst: slips.burst(burst, rate, thresholds),
+        burst: slips.burst(burst, rate, parts),
         frame: u128::from(flow.frame),
     }
 }
@@ -220,8 +227,13 @@ fn link_shares<'a>(
 
 /// The figures of a queue over these flows.
 pub fn aggregate(queues: &[Queue], flows: &[&Flow], queue: &Queue) -> Aggregate {
+    aggregate_by(queues, flows, queue, Slips::NONE)
+}
+
+/// The same by rules of which some are broken.
+pub fn aggregate_by(queues: &[Queue], flows: &[&Flow], queue: &Queue, slips: Slips) -> Aggregate {
     let flows = flows.iter().copied();
-    let shares = link_shares(queues, flows, queue.link, Slips::NONE);
+    let shares = link_shares(queues, flows, queue.link, slips);
     let own = shares.filter(|(level, _)| *level == queue.level);
     own.fold(Aggregate::default(), |sum, (_, share)| {
         sum.with(share.share)

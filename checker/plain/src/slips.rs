@@ -1,7 +1,8 @@
-//! Document 01, "Where trainees and programs slip", and slips with W-202's best-effort frames: each is a switch that turns
-//! one rule wrong, so that an answer can be recognised by the slip that gives it. All else goes by the rules; with no switch on, everything does.
+//! Document 01, "Where trainees and programs slip", slips with W-202's best-effort frames, and the count of S from before
+//! W-208: each is a switch that turns one rule wrong, so that an answer can be recognised by the slip that gives it. All
+//! else goes by the rules; with no switch on, everything does.
 
-use crate::formula::{burst_at_hop, growth, Sums};
+use crate::formula::{burst_at_hop, growth, hop_growth, Sums};
 
 /// How what can be under way is taken.
 #[derive(Clone, Copy, Debug, Default, PartialEq)]
@@ -33,6 +34,8 @@ pub struct Slips {
     /// A burst is rounded up at each hop in place of once.
     pub rounded_each_hop: bool,
     pub blocking: Blocking,
+    /// S is the sum of whole thresholds.
+    pub whole_thresholds: bool,
 }
 
 const NO_SLIP: Slips = Slips {
@@ -43,14 +46,15 @@ const NO_SLIP: Slips = Slips {
     fraction_dropped: false,
     rounded_each_hop: false,
     blocking: Blocking::Larger,
+    whole_thresholds: false,
 };
 
 impl Slips {
     pub const NONE: Slips = NO_SLIP;
 
-    /// Each slip by itself, in document 01's order and then W-202's, with its name.
+    /// Each slip by itself, in document 01's order, then W-202's, then W-208's, with its name.
     #[rustfmt::skip]
-    pub const EACH: [(&'static str, Slips); 9] = [
+    pub const EACH: [(&'static str, Slips); 10] = [
         ("only the levels below checked", Slips { only_below: true, ..Slips::NONE }),
         ("largest frame left on release", Slips { frame_left: true, ..Slips::NONE }),
         ("first links stored before a refusal at the last", Slips { stored_early: true, ..Slips::NONE }),
@@ -60,9 +64,18 @@ impl Slips {
         ("best-effort frame left out", Slips { blocking: Blocking::LeftOut, ..Slips::NONE }),
         ("best-effort frame left out at the last level", Slips { blocking: Blocking::LeftOutAtTheLast, ..Slips::NONE }),
         ("best-effort frame added to the frame below", Slips { blocking: Blocking::Added, ..Slips::NONE }),
+        ("whole thresholds", Slips { whole_thresholds: true, ..Slips::NONE }),
     ];
 
-    /// Burst at a hop after earlier hops with these thresholds.
+    /// A hop's part of S for the hops after it, by the threshold of its queue and the speed of its link.
+    pub fn hop_growth(&self, threshold: u128, speed: u128) -> u128 {
+        if self.whole_thresholds {
+            return threshold;
+        }
+        hop_growth(threshold, speed)
+    }
+
+    /// Burst at a hop after earlier hops with these parts of S.
     pub fn burst(&self, burst: u128, rate: u128, earlier: impl Iterator<Item = u128>) -> u128 {
         if self.source_burst {
             return burst;

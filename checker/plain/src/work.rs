@@ -3,7 +3,7 @@
 use crate::causes;
 use crate::formula::{rate_limit, rate_sum, Aggregate, Sums};
 use crate::orders::{Flow, Hop};
-use crate::registry::{fixed_delay_at, path_thresholds, queue_at, share_at, threshold_at};
+use crate::registry::{fixed_delay_at, growth_at, queue_at, share_at, threshold_at};
 use crate::registry::{Answer, Registry, HOP_POOL, SLOTS};
 use crate::slips::Slips;
 use crate::table::Queue;
@@ -41,8 +41,10 @@ pub struct HopWork {
     pub hop: Hop,
     pub threshold: u64,
     pub fixed_delay: u64,
-    /// S: the thresholds of the earlier hops, summed.
+    /// S: the parts of the earlier hops, summed.
     pub earlier: u128,
+    /// Its own part of S for the hops after it.
+    pub growth: u128,
     pub share: Aggregate,
 }
 
@@ -155,11 +157,13 @@ impl LinkWork {
 
 /// What a flow adds at each hop of its path; at a hop without a queue its numbers count as 0.
 pub fn hops_work(queues: &[Queue], flow: &Flow, slips: &Slips) -> Vec<HopWork> {
-    let hop = |(index, &hop): (usize, &Hop)| HopWork {
-        hop,
-        threshold: threshold_at(queues, hop),
-        fixed_delay: fixed_delay_at(queues, hop),
-        earlier: path_thresholds(queues, &flow.hops[..index]),
+    let growth = |&hop: &Hop| growth_at(queues, hop, slips);
+    let hop = |(index, hop): (usize, &Hop)| HopWork {
+        hop: *hop,
+        threshold: threshold_at(queues, *hop),
+        fixed_delay: fixed_delay_at(queues, *hop),
+        earlier: flow.hops[..index].iter().map(growth).sum(),
+        growth: growth(hop),
         share: share_at(queues, flow, index, slips),
     };
     flow.hops.iter().enumerate().map(hop).collect()

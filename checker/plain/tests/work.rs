@@ -117,9 +117,10 @@ fn bursts(slips: Slips) -> Vec<u128> {
     work.hops.iter().map(|hop| hop.share.burst).collect()
 }
 
+/// Three slips, and two of them at once: document 01's 1,636 from before W-208.
 #[test]
 fn bursts_along_a_path() {
-    assert_eq!(bursts(Slips::NONE), [1_542, 1_589, 1_635]);
+    assert_eq!(bursts(Slips::NONE), [1_542, 1_588, 1_633]);
     let source = Slips {
         source_burst: true,
         ..Slips::NONE
@@ -129,7 +130,39 @@ fn bursts_along_a_path() {
         rounded_each_hop: true,
         ..Slips::NONE
     };
-    assert_eq!(bursts(each), [1_542, 1_589, 1_636]);
+    assert_eq!(bursts(each), [1_542, 1_588, 1_634]);
+    let whole = Slips {
+        whole_thresholds: true,
+        ..Slips::NONE
+    };
+    assert_eq!(bursts(whole), [1_542, 1_589, 1_635]);
+    let both = Slips {
+        rounded_each_hop: true,
+        ..whole
+    };
+    assert_eq!(bursts(both), [1_542, 1_589, 1_636]);
+}
+
+/// Each hop's part of S is its threshold less its own link's shortest sending time; the deadline's sum has whole thresholds.
+#[test]
+fn parts_of_s() {
+    let mut queues = row(4, &[(371, 5_000)]);
+    for (queue, (speed, threshold)) in
+        queues
+            .iter_mut()
+            .zip([(10, 2_468), (1_000, 300), (97, 371), (100, 371)])
+    {
+        (queue.speed, queue.threshold) = (speed, threshold);
+    }
+    let work = Registry::over(queues).judge(&flow(7, 4, 1));
+    assert_eq!(work.refused, None);
+    let parts: Vec<u128> = work.hops.iter().map(|hop| hop.growth).collect();
+    assert_eq!(parts, [2_400, 299, 364, 364]);
+    let earlier: Vec<u128> = work.hops.iter().map(|hop| hop.earlier).collect();
+    assert_eq!(earlier, [0, 2_400, 2_699, 3_063]);
+    let bursts: Vec<u128> = work.hops.iter().map(|hop| hop.share.burst).collect();
+    assert_eq!(bursts, [1_542, 1_842, 1_880, 1_925]);
+    assert_eq!(work.end_to_end(), 2_468 + 300 + 371 + 371);
 }
 
 /// The deadline holds thresholds and fixed delays, the last hop's too; a microsecond more of cable is too much.
@@ -169,9 +202,9 @@ fn bursts_do_not_grow_on_a_cable() {
     };
     let work = Registry::over(queues).judge(&new);
     let bursts: Vec<u128> = work.hops.iter().map(|hop| hop.share.burst).collect();
-    assert_eq!(bursts, [1_542, 1_589, 1_635]);
+    assert_eq!(bursts, [1_542, 1_588, 1_633]);
     let earlier: Vec<u128> = work.hops.iter().map(|hop| hop.earlier).collect();
-    assert_eq!(earlier, [0, 371, 742]);
+    assert_eq!(earlier, [0, 364, 728]);
 }
 
 #[test]

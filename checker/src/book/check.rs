@@ -32,7 +32,7 @@ impl Registry {
     fn figures_right(&self) -> bool {
         let mut fresh = [Aggregate::NONE; QUEUES];
         for (flow, path) in self.store.flows() {
-            add_path(flow, path, &self.table.queues, &mut fresh);
+            add_path(flow, path, &self.table, &mut fresh);
         }
         fresh == self.sums
     }

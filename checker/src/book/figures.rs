@@ -33,18 +33,32 @@ impl Aggregate {
     }
 }
 
+/// The shortest time in which a link sends a frame, µs: the smallest has 672 bits.
+#[inline(always)]
+fn shortest_sending(speed: u32) -> u32 {
+    672_u32.div_ceil(speed)
+}
+
+/// A hop's part of S for the hops after it, µs.
+#[inline(always)]
+fn hop_growth(threshold: u32, speed: u32) -> u32 {
+    threshold.saturating_sub(shortest_sending(speed))
+}
+
 /// The hops of a path as queue numbers, each with the flow's burst there.
 #[inline(always)]
 fn bursts<'a>(
     flow: &'a Slot,
     path: &'a [u32],
-    queues: &'a [Queue; QUEUES],
+    table: &'a Table,
 ) -> impl Iterator<Item = (usize, u64)> + 'a {
     let mut earlier = 0;
     path.iter().map(move |&entry| {
+        let entry = entry as usize;
         let burst = u64::from(flow.burst) + (u64::from(flow.rate) * earlier).div_ceil(8000);
-        earlier += u64::from(queues[entry as usize].threshold);
-        (entry as usize, burst)
+        let (queue, link) = (&table.queues[entry], &table.links[entry / LEVELS]);
+        earlier += u64::from(hop_growth(queue.threshold, link.speed));
+        (entry, burst)
     })
 }
 
@@ -93,7 +107,7 @@ pub fn check_links(
     sums: &[Aggregate; QUEUES],
 ) -> Result<(), Answer> {
     let (links, _) = sums.as_chunks::<LEVELS>();
-    for (entry, burst) in bursts(flow, path, &table.queues) {
+    for (entry, burst) in bursts(flow, path, table) {
         let (link, level) = (entry / LEVELS, entry % LEVELS);
         let mut levels = links[link];
         levels[level] = levels[level].with_flow(flow, burst);
@@ -108,13 +122,8 @@ pub fn check_links(
 
 /// Counts a flow in at each queue of its path.
 #[inline]
-pub fn add_path(
-    flow: &Slot,
-    path: &[u32],
-    queues: &[Queue; QUEUES],
-    sums: &mut [Aggregate; QUEUES],
-) {
-    for (entry, burst) in bursts(flow, path, queues) {
+pub fn add_path(flow: &Slot, path: &[u32], table: &Table, sums: &mut [Aggregate; QUEUES]) {
+    for (entry, burst) in bursts(flow, path, table) {
         sums[entry] = sums[entry].with_flow(flow, burst);
     }
 }
@@ -125,11 +134,11 @@ pub fn add_path(
 pub fn remove_path(
     flow: &Slot,
     path: &[u32],
-    queues: &[Queue; QUEUES],
+    table: &Table,
     sums: &mut [Aggregate; QUEUES],
 ) -> bool {
     let mut again = false;
-    for (entry, burst) in bursts(flow, path, queues) {
+    for (entry, burst) in bursts(flow, path, table) {
         let own = &mut sums[entry];
         own.rate -= u64::from(flow.rate);
         own.burst -= burst;

@@ -1,7 +1,7 @@
 //! The proved registry's book in plain Rust: the same numbers, in arrays of structs, and the
 //! same algorithms (scans for a flow and for a free slot, packed paths in slot order, figures kept
-//! up to date, two divisions a level), written as one would without proofs. Nothing on the heap,
-//! and a scan whose result is at hand isn't made again.
+//! up to date, two divisions a level and one a hop), written as one would without proofs. Nothing on
+//! the heap, and a scan whose result is at hand isn't made again.
 
 mod check;
 mod columns;
@@ -96,7 +96,7 @@ impl Registry {
         }
         figures::check_links(&flow, path, &self.table, &self.sums)?;
         self.store.insert(slot, flow, path, held);
-        figures::add_path(&flow, path, &self.table.queues, &mut self.sums);
+        figures::add_path(&flow, path, &self.table, &mut self.sums);
         Ok(slot)
     }
 
@@ -107,7 +107,7 @@ impl Registry {
         let flow = self.store.slots[slot];
         let start = self.store.hop_sum(slot) as usize;
         let path = &self.store.pool[start..start + flow.hops as usize];
-        let again = figures::remove_path(&flow, path, &self.table.queues, &mut self.sums);
+        let again = figures::remove_path(&flow, path, &self.table, &mut self.sums);
         self.store.remove(slot, start);
         if again {
             for (flow, path) in self.store.flows() {

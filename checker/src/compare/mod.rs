@@ -11,6 +11,7 @@ use plain::causes::{BACKLOG, DEADLINE, DELAY, DONE};
 use plain::columns::lines;
 use plain::orders::{read_order, Flow, Order};
 use plain::registry::{path_thresholds, Registry};
+use plain::slips::Slips;
 use std::collections::BTreeMap;
 use std::fmt::Display;
 
@@ -34,6 +35,8 @@ pub struct Report {
     pub by_fixed_delay: u64,
     /// Registrations answered 22 or 23 that would be admitted on links without best-effort frames.
     pub by_best_effort: u64,
+    /// Registrations answered 0 that whole thresholds in S would refuse.
+    pub by_shorter_growth: u64,
 }
 
 impl Report {
@@ -61,6 +64,9 @@ impl Report {
         if self.by_best_effort == 0 {
             missing.push("22 or 23 by a best-effort frame");
         }
+        if self.by_shorter_growth == 0 {
+            missing.push("0 that whole thresholds refuse");
+        }
         missing
     }
 
@@ -75,6 +81,7 @@ impl Report {
         println!("releases done: {}", self.released);
         println!("20 by a fixed delay: {}", self.by_fixed_delay);
         println!("22 or 23 by a best-effort frame: {}", self.by_best_effort);
+        println!("0 that whole thresholds refuse: {}", self.by_shorter_growth);
         print_counts("refused batches", &self.refused);
         print_counts("answer lines", &self.answers);
         print_counts("direct calls", &self.calls);
@@ -100,6 +107,7 @@ pub fn run(seed: u64, count: u64, long: bool) -> Result<Report, String> {
         released: 0,
         by_fixed_delay: 0,
         by_best_effort: 0,
+        by_shorter_growth: 0,
     };
     for index in 0..count {
         let mut rng = Rng::new(seed, index);
@@ -159,7 +167,10 @@ fn count_answers(given: &Input, answers: &[u8], report: &mut Report) -> Result<(
                 report.released += 1;
                 registry.take_out(number);
             }
-            (Ok(Order::Register(flow)), DONE) => registry.put_in(&flow),
+            (Ok(Order::Register(flow)), DONE) => {
+                report.by_shorter_growth += u64::from(refused_by_thresholds(&mut registry, &flow));
+                registry.put_in(&flow);
+            }
             (Ok(Order::Register(flow)), DEADLINE) => {
                 let thresholds = path_thresholds(&registry.queues, &flow.hops);
                 report.by_fixed_delay += u64::from(thresholds <= u128::from(flow.deadline));
@@ -171,6 +182,14 @@ fn count_answers(given: &Input, answers: &[u8], report: &mut Report) -> Result<(
         }
     }
     Ok(())
+}
+
+/// Whether a flow would be refused if whole thresholds counted in S.
+fn refused_by_thresholds(registry: &mut Registry, flow: &Flow) -> bool {
+    registry.slips.whole_thresholds = true;
+    let refused = registry.judge(flow).refused.is_some();
+    registry.slips = Slips::NONE;
+    refused
 }
 
 /// Whether a flow would be admitted on links without best-effort frames.

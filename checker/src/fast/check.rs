@@ -1,8 +1,9 @@
 //! Code 42: whether any registry at all is in order. Nothing in it is trusted: an index is tested
 //! before use and sums are made in wide numbers.
 
+use super::path::burst_at_hop;
 use super::read::{ends_in_range, extras_in_range, flow_in_range, limits_in_range};
-use super::{burst_at_hop, Registry, HOPS, HOP_POOL, LEVELS, LINKS, SLOTS, WORDS};
+use super::{Registry, HOPS, HOP_POOL, LEVELS, LINKS, SLOTS, WORDS};
 
 /// What the held flows make of the queues. Rates of 256 flows in range fit 32 bits.
 struct Sums {
@@ -82,9 +83,9 @@ impl Registry {
             return false;
         }
         let mut met = 0u64;
-        let (mut earlier, mut fixed) = (0, 0);
+        let (mut earlier, mut delay) = (0, 0);
         let mut ended = None;
-        for &(link, level) in &flow.path[..flow.count as usize] {
+        for &(link, level) in flow.hops() {
             let (link, level) = (link as usize, level as usize);
             if link >= self.links as usize || level >= self.levels[link] as usize {
                 return false;
@@ -98,10 +99,10 @@ impl Registry {
             sums.burst[link][level] += burst_at_hop(flow.burst, flow.rate, earlier);
             sums.frame[link][level] = sums.frame[link][level].max(flow.frame);
             sums.members[link][level][slot / 64] |= 1 << (slot % 64);
-            earlier += self.threshold[link][level];
-            fixed += self.fixed_delay[link];
+            earlier += self.hop_growth(link, level);
+            delay += self.hop_delay(link, level);
         }
-        earlier + fixed <= flow.deadline
+        delay <= flow.deadline
     }
 
     /// The stored figures are those of the flows.

@@ -4,10 +4,12 @@
 
 mod check;
 mod link;
+mod path;
 mod read;
 
 use crate::answer::{put_answer, Answer, ANSWER_LINE};
 use crate::calls::Calls;
+use path::burst_at_hop;
 use read::{Flow, Order};
 
 pub const LINKS: usize = 64;
@@ -46,6 +48,12 @@ impl Held {
         count: 0,
         path: [(0, 0); HOPS],
     };
+
+    /// Its path; the count is in range.
+    #[inline(always)]
+    fn hops(&self) -> &[(u8, u8)] {
+        &self.path[..self.count as usize]
+    }
 }
 
 /// Document 01's book. A slot is held when its number isn't 0; a level past a link's last has
@@ -75,11 +83,6 @@ pub struct Registry {
     pub taken: [u64; WORDS],
     /// By flow number the slot that had it last.
     pub last: [u8; NUMBERS],
-}
-
-#[inline(always)]
-fn burst_at_hop(burst: u32, rate: u32, earlier: u32) -> u64 {
-    u64::from(burst) + (u64::from(rate) * u64::from(earlier)).div_ceil(8000)
 }
 
 impl Calls for Registry {
@@ -165,71 +168,41 @@ impl Registry {
         if let Some(refused) = self.path(flow, &mut entry) {
             return refused;
         }
-        let path = &entry.path[..flow.count];
-        let (mut earlier, mut fixed) = (0, 0);
-        let mut bursts = [0u64; HOPS];
-        for (hop, &(link, level)) in path.iter().enumerate() {
-            bursts[hop] = burst_at_hop(flow.burst, flow.rate, earlier);
-            earlier += self.threshold[link as usize][level as usize];
-            fixed += self.fixed_delay[link as usize];
-        }
-        if earlier + fixed > flow.deadline {
+        let Some(bursts) = self.bursts(&entry) else {
             return Answer::plain(20);
-        }
+        };
         let Some(slot) = self.lowest_free() else {
             return Answer::plain(30);
         };
         if self.pool + flow.count as u32 > HOP_POOL {
             return Answer::plain(31);
         }
-        for (hop, &(link, level)) in path.iter().enumerate() {
+        for (&burst, &(link, level)) in bursts.iter().zip(entry.hops()) {
             let at = (link as usize, level as usize);
-            match self.link_cause(at, flow.rate, bursts[hop], flow.frame) {
+            match self.link_cause(at, flow.rate, burst, flow.frame) {
                 (0, _) => {}
                 (code, level) => return Answer::at(code, u32::from(link) + 1, level),
             }
         }
-        for (hop, &(link, level)) in path.iter().enumerate() {
-            let (link, level) = (link as usize, level as usize);
-            self.rate[link][level] += flow.rate;
-            self.burst[link][level] += bursts[hop] as u32;
-            self.frame[link][level] = self.frame[link][level].max(flow.frame);
-            self.members[link][level][slot / 64] |= 1 << (slot % 64);
-        }
-        self.pool += entry.count;
-        self.number[slot] = flow.number as u16;
-        self.taken[slot / 64] |= 1 << (slot % 64);
-        self.last[flow.number as usize] = slot as u8;
-        self.held[slot] = entry;
+        self.hold(slot, flow.number, entry, &bursts);
         Answer::done(slot)
     }
 
-    /// 14, 16 and 15, each over all hops; the path goes into `entry`.
+    /// Counts a flow in at each hop of its path, where it has these bursts, and puts it in a free slot.
     #[inline(always)]
-    fn path(&self, flow: &Flow, entry: &mut Held) -> Option<Answer> {
-        let hops = || flow.link.iter().zip(&flow.level).take(flow.count);
-        for ((&link, &level), place) in hops().zip(&mut entry.path) {
-            let known = link.wrapping_sub(1) < self.links
-                && level.wrapping_sub(1) < self.levels[link as usize - 1];
-            if !known {
-                return Some(Answer::at(14, link, level));
-            }
-            *place = ((link - 1) as u8, (level - 1) as u8);
+    fn hold(&mut self, slot: usize, number: u32, flow: Held, bursts: &[u64; HOPS]) {
+        for (&burst, &(link, level)) in bursts.iter().zip(flow.hops()) {
+            let (link, level) = (link as usize, level as usize);
+            self.rate[link][level] += flow.rate;
+            self.burst[link][level] += burst as u32;
+            self.frame[link][level] = self.frame[link][level].max(flow.frame);
+            self.members[link][level][slot / 64] |= 1 << (slot % 64);
         }
-        let mut met = 0u64;
-        for (&link, &level) in hops() {
-            let bit = 1 << (link - 1);
-            if met & bit != 0 {
-                return Some(Answer::at(16, link, level));
-            }
-            met |= bit;
-        }
-        for ((&link, &level), &before) in hops().skip(1).zip(&flow.link) {
-            if self.to[before as usize - 1] != self.from[link as usize - 1] {
-                return Some(Answer::at(15, link, level));
-            }
-        }
-        None
+        self.pool += flow.count;
+        self.number[slot] = number as u16;
+        self.taken[slot / 64] |= 1 << (slot % 64);
+        self.last[number as usize] = slot as u8;
+        self.held[slot] = flow;
     }
 
     #[inline(always)]
@@ -239,11 +212,11 @@ impl Registry {
         };
         let flow = self.held[slot];
         let mut earlier = 0;
-        for &(link, level) in &flow.path[..flow.count as usize] {
+        for &(link, level) in flow.hops() {
             let (link, level) = (link as usize, level as usize);
             self.rate[link][level] -= flow.rate;
             self.burst[link][level] -= burst_at_hop(flow.burst, flow.rate, earlier) as u32;
-            earlier += self.threshold[link][level];
+            earlier += self.hop_growth(link, level);
             let members = &mut self.members[link][level];
             members[slot / 64] &= !(1 << (slot % 64));
             if self.frame[link][level] == flow.frame {

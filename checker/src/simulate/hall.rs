@@ -6,9 +6,9 @@ use crate::sim::{Arrivals, Fault, Network, Observer, Seen};
 use halls::orders::{flow, Demand};
 use halls::rng::Rng;
 use halls::sources::{conforms, sends, Send};
-use halls::tables::{least_deadline, link_fields, link_levels, loose, table_text};
-use halls::tables::{tighten_by, tighten_deadlines, Bounds, Counted, Shape};
-use plain::formula::delay;
+use halls::tables::{least_deadline, link_fields, loose, table_text};
+use halls::tables::{tighten_by, tighten_deadlines, Bounds, Count, Shape};
+use plain::formula::{delay, shortest_sending};
 use plain::orders::{write_registration, Flow, Hop, LARGEST_FRAME, SMALLEST_FRAME};
 use plain::registry::Registry;
 use plain::table::Queue;
@@ -81,9 +81,14 @@ impl Hall {
         link_fields(rng, &mut queues);
         let mut loosely = Registry::over(queues.clone());
         let largest = rng.pick(&LARGEST_FRAMES);
+        // Where flows of several hops have the smallest burst, growth is most of what they bring to a later hop.
+        let thin = rng.once_in(2);
         for _ in 0..rng.between(1, 24) {
             let mut new = flow(rng, &queues, DEMAND);
             new.frame = new.frame.min(largest);
+            if thin && new.hops.len() > 1 {
+                (new.burst, new.frame) = (SMALLEST_FRAME, SMALLEST_FRAME);
+            }
             loosely.register(&write_registration(&new));
         }
         let mut flows: Vec<Flow> = loosely.held().into_iter().cloned().collect();
@@ -130,13 +135,16 @@ impl Hall {
             .any(|flow| flow.hops.contains(&self.hop_at(queue)))
     }
 
-    /// A queue's delay bound where this counts of its link.
-    pub fn delay_by(&self, queue: usize, counted: Counted) -> u64 {
-        let Queue { link, level, .. } = self.queues[queue];
+    /// A queue's delay bound where this counts.
+    pub fn delay_by(&self, queue: usize, count: Count) -> u64 {
         let flows: Vec<&Flow> = self.flows.iter().collect();
-        let levels = link_levels(&self.queues, &flows, link);
-        let counted = counted(&self.queues[queue], self.queues.get(queue + 1));
-        delay(counted, &levels, level as usize - 1) as u64
+        let (link, levels) = count.at(&self.queues, &flows, queue);
+        delay(link, &levels, self.queues[queue].level as usize - 1) as u64
+    }
+
+    /// The shortest stay that there can be in a queue.
+    pub fn least_stay(&self, queue: usize) -> u64 {
+        shortest_sending(u128::from(self.queues[queue].speed)) as u64
     }
 
     /// No flow has its first hop here.
@@ -161,12 +169,13 @@ impl Hall {
         ]);
         let network = Network::with_grain(&self.queues, &self.flows, rng.pick(&GRAINS));
         let mut site = Site::new(&trial.laptops, Rng::new(seed, 1));
-        let mut longest = Journeys(vec![0; self.flows.len()]);
-        let ran = network.run_beside(&all, arrivals, &mut rng, &mut site, &mut longest);
+        let mut watched = Watched::new(self);
+        let ran = network.run_beside(&all, arrivals, &mut rng, &mut site, &mut watched);
         let queues = ran.map_err(|fault| self.limit(fault))?;
-        self.in_time(Traffic {
+        self.judged(Traffic {
             queues,
-            journeys: longest.0,
+            shortest: watched.shortest,
+            journeys: watched.journeys,
             frames: all.len(),
             best_effort: site.started,
             just_before: site.just_before,
@@ -191,8 +200,9 @@ impl Hall {
         Ok(all)
     }
 
-    /// Every frame's way was at most its thresholds and fixed delays, and these its deadline.
-    fn in_time(&self, seen: Traffic) -> Result<Traffic, Failure> {
+    /// Every frame's way was at most its thresholds and fixed delays, and these its deadline; no stay was shorter than the
+    /// shortest sending time.
+    fn judged(&self, seen: Traffic) -> Result<Traffic, Failure> {
         for (flow, &longest) in self.flows.iter().zip(&seen.journeys) {
             let limit = least_deadline(&self.queues, &flow.hops);
             if longest > limit || limit > flow.deadline {
@@ -202,20 +212,34 @@ impl Hall {
                 )));
             }
         }
+        for (queue, shortest) in seen.shortest.iter().enumerate() {
+            let least = self.least_stay(queue);
+            if let Some(stay) = shortest.filter(|&stay| stay < least) {
+                let place = self.place(queue);
+                let what = format!("{place}: a stay of {stay} µs, below {least}");
+                return Err(Failure::Other(what));
+            }
+        }
         Ok(seen)
     }
 
     fn limit(&self, fault: Fault) -> Failure {
         let (Fault::Late { queue, .. } | Fault::Over { queue, .. }) = fault;
-        let Queue { link, level, .. } = self.queues[queue];
-        let place = format!("link {link} level {level}");
+        let place = self.place(queue);
         Failure::Limit { fault, place }
+    }
+
+    fn place(&self, queue: usize) -> String {
+        let Queue { link, level, .. } = self.queues[queue];
+        format!("link {link} level {level}")
     }
 }
 
 /// What one run showed.
 pub struct Traffic {
     pub queues: Vec<Seen>,
+    /// Each queue's shortest stay, µs; none where no frame left it.
+    pub shortest: Vec<Option<u64>>,
     /// Each flow's longest way, from its source to its destination, µs.
     pub journeys: Vec<u64>,
     pub frames: usize,
@@ -224,11 +248,28 @@ pub struct Traffic {
     pub just_before: u64,
 }
 
-/// The longest way of each flow so far.
-struct Journeys(Vec<u64>);
+/// The shortest stay in each queue and the longest way of each flow so far.
+struct Watched {
+    shortest: Vec<Option<u64>>,
+    journeys: Vec<u64>,
+}
 
-impl Observer for Journeys {
+impl Watched {
+    fn new(hall: &Hall) -> Watched {
+        Watched {
+            shortest: vec![None; hall.queues.len()],
+            journeys: vec![0; hall.flows.len()],
+        }
+    }
+}
+
+impl Observer for Watched {
+    fn left(&mut self, queue: usize, _flow: usize, reached: u64, gone: u64) {
+        let (known, stay) = (&mut self.shortest[queue], gone - reached);
+        *known = Some(known.map_or(stay, |shortest| shortest.min(stay)));
+    }
+
     fn arrives(&mut self, flow: usize, sent: u64, reached: u64) {
-        self.0[flow] = self.0[flow].max(reached - sent);
+        self.journeys[flow] = self.journeys[flow].max(reached - sent);
     }
 }

@@ -3,137 +3,18 @@
 
 mod hall;
 mod laptops;
+mod report;
 mod trial;
 
 use crate::sim::{Fault, Seen};
 pub use hall::{Failure, Hall, Traffic};
 use halls::rng::Rng;
-use halls::tables::Bounds;
+use halls::tables::{Bounds, Count};
 pub use laptops::{Laptop, Site};
 use plain::formula::Link;
-use plain::registry::path_fixed_delays;
-use plain::table::Queue;
+use plain::slips::Slips;
+pub use report::Report;
 pub use trial::Trial;
-
-/// The worst of a measure against its limit.
-#[derive(Clone, Default)]
-pub struct Worst {
-    pub seen: u64,
-    pub limit: u64,
-    pub place: String,
-}
-
-impl Worst {
-    fn meet(&mut self, seen: u64, limit: u64, place: impl Fn() -> String) {
-        let more = u128::from(seen) * u128::from(self.limit.max(1))
-            > u128::from(self.seen) * u128::from(limit);
-        if self.limit == 0 || more {
-            *self = Worst {
-                seen,
-                limit,
-                place: place(),
-            };
-        }
-    }
-
-    fn print(&self, title: &str) {
-        let percent = 100.0 * self.seen as f64 / self.limit.max(1) as f64;
-        println!(
-            "{title}: {} of {} ({percent:.1} %), {}",
-            self.seen, self.limit, self.place
-        );
-    }
-}
-
-/// The worst of some queues.
-#[derive(Default)]
-pub struct Extremes {
-    pub stay: Worst,
-    pub backlog: Worst,
-}
-
-/// Which queues: all, those that every flow reaches after an earlier hop, those of links with a best-effort frame.
-const SOME: [&str; 3] = [
-    "of all queues",
-    "fed by links alone",
-    "beside best-effort frames",
-];
-
-#[derive(Default)]
-pub struct Report {
-    pub halls: u64,
-    pub runs: u64,
-    pub frames: u64,
-    /// Best-effort frames, and those that started a slot before frames reached their link.
-    pub best_effort: [u64; 2],
-    pub extremes: [Extremes; SOME.len()],
-    /// What a stay took of the µs that the best-effort frame adds to its threshold; and of the ways that have a fixed
-    /// delay, what they took beside it, against their thresholds.
-    pub added: Worst,
-    pub journey: Worst,
-}
-
-impl Report {
-    pub fn print(&self) {
-        println!(
-            "halls: {}, runs: {}, frames: {}",
-            self.halls, self.runs, self.frames
-        );
-        let [started, just_before] = self.best_effort;
-        println!("best-effort frames: {started}, a slot before an arrival: {just_before}");
-        for (queues, worst) in SOME.iter().zip(&self.extremes) {
-            worst.stay.print(&format!("longest stay {queues}"));
-            worst.backlog.print(&format!("greatest backlog {queues}"));
-        }
-        self.added
-            .print("of what the best-effort frame adds to a threshold");
-        self.journey
-            .print("longest way less its fixed delays against thresholds");
-    }
-
-    fn add(&mut self, hall: &Hall, index: u64, seen: &Traffic) {
-        self.runs += 1;
-        self.frames += seen.frames as u64;
-        self.best_effort[0] += seen.best_effort;
-        self.best_effort[1] += seen.just_before;
-        self.add_queues(hall, index, &seen.queues);
-        for (flow, &longest) in hall.flows.iter().zip(&seen.journeys) {
-            let fixed = path_fixed_delays(&hall.queues, &flow.hops) as u64;
-            let thresholds = flow.deadline - fixed;
-            if fixed > 0 && thresholds >= TELLING_THRESHOLD {
-                let place = || format!("hall {index} flow {}", flow.number);
-                let queued = longest.saturating_sub(fixed);
-                self.journey.meet(queued, thresholds, place);
-            }
-        }
-    }
-
-    fn add_queues(&mut self, hall: &Hall, index: u64, seen: &[Seen]) {
-        for (at, most) in seen.iter().enumerate().filter(|&(at, _)| hall.carries(at)) {
-            let queue = &hall.queues[at];
-            let place = || format!("hall {index} link {} level {}", queue.link, queue.level);
-            let beside = queue.best_effort_frame > 0;
-            let counts = [true, hall.fed_by_links(at), beside];
-            for (worst, _) in self.extremes.iter_mut().zip(counts).filter(|&(_, it)| it) {
-                worst.backlog.meet(most.backlog, queue.buffer, place);
-                if queue.threshold >= TELLING_THRESHOLD {
-                    worst.stay.meet(most.stay, queue.threshold, place);
-                }
-            }
-            if beside {
-                let alone = hall.delay_by(at, left_out);
-                let added = queue.threshold - alone;
-                if added >= TELLING_THRESHOLD {
-                    self.added
-                        .meet(most.stay.saturating_sub(alone), added, place);
-                }
-            }
-        }
-    }
-}
-
-/// Below this many µs, rounding makes a stay as long as its threshold nothing special.
-const TELLING_THRESHOLD: u64 = 100;
 
 /// Tries so many changes of one source or laptop for the longest stay, or the greatest backlog, at a queue.
 const CLIMB: usize = 30;
@@ -155,12 +36,22 @@ pub fn run(seed: u64, count: u64) -> Result<Report, String> {
 }
 
 /// The mistake of leaving the best-effort frame out of Y.
-pub fn left_out(queue: &Queue, _next: Option<&Queue>) -> Link {
-    Link {
+pub const WITHOUT_BEST_EFFORT: Count = Count {
+    link: |queue, _| Link {
         best_effort_frame: 0,
         ..queue.of_link()
-    }
-}
+    },
+    ..Count::RIGHT
+};
+
+/// The mistake of taking the source's burst at every hop.
+pub const WITHOUT_GROWTH: Count = Count {
+    bursts: Slips {
+        source_burst: true,
+        ..Slips::NONE
+    },
+    ..Count::RIGHT
+};
 
 /// The same search over halls tightened by bounds that may be wrong: what it finds in each of so many. `sent` may take
 /// something out of what is sent.
@@ -190,13 +81,8 @@ fn climb(
     sent: fn(Trial) -> Trial,
     mut showed: impl FnMut(&Traffic),
 ) -> Result<(), Failure> {
-    let target = target(rng, hall);
+    let (target, mut best_trial) = begin(rng, hall);
     let by_stay = !rng.once_in(3);
-    let mut best_trial = if rng.once_in(2) {
-        Trial::aligned(rng, hall, &hall.queues[target])
-    } else {
-        Trial::random(rng, hall)
-    };
     let mut best = 0;
     for _ in 0..CLIMB {
         let trial = if best > 0 {
@@ -215,6 +101,32 @@ fn climb(
         }
     }
     Ok(())
+}
+
+/// A queue that carries a flow, and how the sources send at first.
+fn begin(rng: &mut Rng, hall: &Hall) -> (usize, Trial) {
+    if rng.once_in(3) {
+        let most = most_grown(hall);
+        return (most, Trial::bunched(rng, hall, hall.queues[most].link));
+    }
+    let target = target(rng, hall);
+    let trial = if rng.once_in(2) {
+        Trial::aligned(rng, hall, &hall.queues[target])
+    } else {
+        Trial::random(rng, hall)
+    };
+    (target, trial)
+}
+
+/// The queue of whose delay bound the growth of bursts is the greatest part.
+fn most_grown(hall: &Hall) -> usize {
+    let part = |&queue: &usize| {
+        let [grown, source] =
+            [Count::RIGHT, WITHOUT_GROWTH].map(|count| hall.delay_by(queue, count));
+        1_000 * (grown - source) / grown
+    };
+    let queues = (0..hall.queues.len()).filter(|&queue| hall.carries(queue));
+    queues.max_by_key(part).unwrap_or(0)
 }
 
 /// A queue that carries a flow; mostly one of a link with a best-effort frame, where there is one.

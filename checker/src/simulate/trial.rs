@@ -4,7 +4,8 @@ use super::hall::Hall;
 use super::laptops::Laptop;
 use halls::rng::Rng;
 use halls::sources::{Pace, Pattern, Sizes};
-use plain::orders::Flow;
+use halls::tables::least_deadline;
+use plain::orders::{Flow, Hop};
 use plain::table::Queue;
 
 #[derive(Clone)]
@@ -53,6 +54,22 @@ impl Trial {
         }
     }
 
+    /// Sources whose frames are held up before one link as long as their thresholds allow, and then reach it together.
+    pub fn bunched(rng: &mut Rng, hall: &Hall, link: u64) -> Trial {
+        let pattern = |flow: &Flow| match held_up_start(hall, flow, link) {
+            None => Pattern::random(rng, hall.span()),
+            Some(start) => Pattern {
+                start,
+                sizes: rng.pick(&[Sizes::Largest, Sizes::Largest, Sizes::Random]),
+                pace: Pace::Greedy,
+            },
+        };
+        Trial {
+            patterns: hall.flows.iter().map(pattern).collect(),
+            laptops: vec![Laptop::JustBefore(1); hall.links()],
+        }
+    }
+
     /// One source or one laptop changed.
     pub fn changed(&self, rng: &mut Rng, hall: &Hall) -> Trial {
         let mut trial = self.clone();
@@ -76,9 +93,32 @@ impl Trial {
     }
 }
 
+/// The hops of a flow before a link.
+fn before(flow: &Flow, link: u64) -> &[Hop] {
+    let end = flow.hops.iter().position(|hop| hop.link == link);
+    &flow.hops[..end.unwrap_or(flow.hops.len())]
+}
+
+/// When a flow starts whose first frames reach a link, held up on their way, with those of the others that cross it. One
+/// that doesn't cross it holds another up: it comes to a link that both share a µs before; none where there is no such link.
+fn held_up_start(hall: &Hall, flow: &Flow, link: u64) -> Option<u64> {
+    let crosses = |flow: &Flow, link: u64| flow.hops.iter().any(|hop| hop.link == link);
+    let start = |flow: &Flow| hall.span() + 1 - least_deadline(&hall.queues, before(flow, link));
+    if crosses(flow, link) {
+        return Some(start(flow));
+    }
+    let mut others = hall.flows.iter().filter(|other| crosses(other, link));
+    others.find_map(|other| {
+        let mut earlier = before(other, link).iter();
+        let shared = earlier.find(|hop| crosses(flow, hop.link))?.link;
+        let meet = start(other) + travel(hall, other, shared);
+        Some(meet.saturating_sub(1 + travel(hall, flow, shared)))
+    })
+}
+
 /// How long a flow's first frame takes to a link that nothing else is in its way to, µs.
 fn travel(hall: &Hall, flow: &Flow, link: u64) -> u64 {
-    let earlier = flow.hops.iter().take_while(|hop| hop.link != link);
+    let earlier = before(flow, link).iter();
     let queues = earlier.filter_map(|hop| hall.queues.iter().find(|queue| queue.link == hop.link));
     queues
         .map(|queue| (8 * flow.frame).div_ceil(queue.speed) + queue.fixed_delay)
