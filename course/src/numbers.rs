@@ -27,6 +27,20 @@ pub fn thousandths(number: u128) -> String {
     }
 }
 
+/// A quotient with the decimals that it needs; where four aren't enough, two points follow them: 6.72, 51.6923..
+pub fn quotient(number: u128, divisor: u128) -> String {
+    let scaled = 10_000 * number;
+    let parts = scaled / divisor;
+    let (whole, decimals) = (commas(parts / 10_000), format!("{:04}", parts % 10_000));
+    if !scaled.is_multiple_of(divisor) {
+        return format!("{whole}.{decimals}..");
+    }
+    match decimals.trim_end_matches('0') {
+        "" => whole,
+        needed => format!("{whole}.{needed}"),
+    }
+}
+
 /// A part of a whole in per cent with one decimal, rounded up, so that 100.0 is never shown for more than the whole and a
 /// part above it always shows as more.
 pub fn per_cent(part: u128, whole: u128) -> String {

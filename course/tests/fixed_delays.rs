@@ -153,8 +153,8 @@ fn a_cable_counts_against_the_deadline() {
         "    thresholds 250 + 100 = 350",
         "    fixed delays 0 + 120 = 120",
         "    together 350 + 120 = 470 of 470 µs",
-        // The burst grows with thresholds alone.
-        "      link 2 level 1: 200 + ceil(800 × 250 / 8000) = 225",
+        // The burst grows with no cable.
+        "      link 2 level 1: 200 + ceil(800 × 243 / 8000) = 225",
         "    link 1: from node 1, to node 2, speed 100 Mbit/s",
         "    link 2: from node 2, to node 3, speed 100 Mbit/s, fixed delay 120 µs",
     ] {

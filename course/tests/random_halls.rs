@@ -1,9 +1,10 @@
-//! Random halls: what `bounds` prints against the plain version's figures, the proved answers against the plain ones,
+//! Random halls: what `bounds` prints against sums worked out apart, the proved answers against the plain ones,
 //! `check` against what a batch refuses, made halls against the answers that they should reach.
 
 mod common;
 
 use common::hall_folder;
+use common::paper::link_levels;
 use course::bounds::report;
 use course::check::{mistakes, Mistake};
 use course::hall::make;
@@ -11,7 +12,6 @@ use course::session::{Session, Step};
 use halls::input;
 use halls::orders::one_byte;
 use halls::rng::Rng;
-use halls::tables::link_levels;
 use plain::causes;
 use plain::columns::lines;
 use plain::orders::{read_order, Flow, Hop, Order};

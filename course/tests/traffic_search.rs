@@ -78,7 +78,7 @@ fn the_near_schedules_are_found() {
     let folder = Temporary::new();
     let out = folder.0.join("out").display().to_string();
     let found = |further: &[&str], stored: &str, expected: &str| {
-        let outcome = search("shared", "2000", &[&["--out", &out], further].concat());
+        let outcome = search("shared", "3000", &[&["--out", &out], further].concat());
         assert_eq!(verdict(&outcome), expected);
         let stored = std::fs::read_to_string(example(stored)).unwrap();
         assert_eq!(std::fs::read_to_string(&out).unwrap(), stored);
@@ -87,6 +87,19 @@ fn the_near_schedules_are_found() {
     found(&[], "shared/near-1.txt", first);
     let second = "no frame late; closest link 1 level 2, 1,035 of 1,166 µs";
     found(&["--queue", "1.2"], "shared/near-2.txt", second);
+}
+
+/// The solutions' two schedules at the shared link: the simple one soon, a longer stay later.
+#[test]
+fn the_shared_link_is_searched() {
+    let soon = search("shared", "300", &["--queue", "3.1"]);
+    let sends = "\n0 11 100 x 4\n0 12 100 x 4\n7 31 1542\n\n";
+    assert!(soon.printed.contains(sends), "{}", soon.printed);
+    let later = search("shared", "3000", &["--queue", "3.1"]);
+    for (found, stay) in [(&soon, 163), (&later, 164)] {
+        let words = format!("no frame late; closest link 3 level 1, {stay} of 202 µs");
+        assert_eq!(verdict(found), words);
+    }
 }
 
 #[test]

@@ -1,5 +1,6 @@
 //! `course explain`: each order with its answer, a sentence, and the sums worked out as on paper.
 
+mod bursts;
 mod filling;
 mod sentences;
 mod sums;
@@ -22,11 +23,12 @@ pub const COMMAND: Command = Command {
 For each line of orders.txt (with --line N for that one): the answer as `admit` prints it, the order in words, one
 sentence why, the causes in document 01's order (`+` passed, `!` met, `.` not reached), and the sums up to the first
 cause: thresholds and, where the path has any, fixed delays against the deadline, the burst at each hop, and link by
-link along the path the rate sum and, for each level that carries a flow, Res, Y, delay and backlog. Y's parts are the
-bursts above, what blocks and the level's own largest frame; on a link that laptops share, which of the two blocks: the
-larger of the largest frame below and the link's best-effort frame, the last level's too. 21, 22 and 23 are met link by
-link: a `.` behind a `!` among them means that the link, or the level, before it decides. For a refusal by 21, 22 or 23
-also the flows that fill the queue.
+link along the path the rate sum and, for each level that carries a flow, Res, Y, delay and backlog. A burst grows by
+rate × S; each hop before adds its threshold to S less the shortest sending time of its link, which has a sum of its own
+for each speed. Y's parts are the bursts above, what blocks and the level's own largest frame; on a link that laptops
+share, which of the two blocks: the larger of the largest frame below and the link's best-effort frame, the last level's
+too. 21, 22 and 23 are met link by link: a `.` behind a `!` among them means that the link, or the level, before it
+decides. For a refusal by 21, 22 or 23 also the flows that fill the queue.
 
 Exit status: 0, whatever the orders are answered; 1 a refused batch or an unreadable file; 2 usage.",
     words: 1..=1,

@@ -1,10 +1,11 @@
 //! A registration's sums, written as on paper.
 
+use super::bursts::bursts;
 use super::filling::filling;
 use crate::numbers::commas;
-use crate::titles::{blocking_by, link_title, queue_name};
+use crate::titles::{blocking_by, link_title};
 use plain::causes;
-use plain::formula::{growth, Sums};
+use plain::formula::Sums;
 use plain::orders::Flow;
 use plain::registry::{Answer, Registry};
 use plain::work::{HopWork, LevelWork, LinkWork, Work};
@@ -43,8 +44,7 @@ pub fn sums(flow: &Flow, work: &Work, before: &Registry) -> Vec<String> {
     if work.links.is_empty() {
         return lines;
     }
-    lines.push("bursts along the path".to_string());
-    lines.extend(work.hops.iter().map(|hop| burst(flow, hop)));
+    lines.extend(bursts(flow, &work.hops, &before.queues));
     for link in &work.links {
         let refused = work.refused.filter(|answer| answer.link == link.link);
         lines.extend(link_sums(link, refused));
@@ -77,22 +77,6 @@ fn deadline_sums(flow: &Flow, work: &Work) -> Vec<String> {
         format!("fixed delays {}", along(|hop| hop.fixed_delay)),
         format!("together {} {verdict}", summed(&both)),
     ]
-}
-
-fn burst(flow: &Flow, hop: &HopWork) -> String {
-    let at = queue_name(hop.hop);
-    if hop.earlier == 0 {
-        return format!("  {at}: {}", commas(hop.share.burst));
-    }
-    let grown = growth(hop.share.rate, hop.earlier);
-    format!(
-        "  {at}: {} + ceil({} × {} / {}) = {}",
-        commas(flow.burst),
-        commas(flow.rate),
-        commas(hop.earlier),
-        grown.divisor,
-        commas(hop.share.burst)
-    )
 }
 
 /// A link's rate sum and its levels, up to the one that refuses.

@@ -36,7 +36,8 @@ asked for. A wrong row that is right after the trainee's own earlier rows is nam
 rules with one of the usual slips give the row, the slip is named:
     only the levels below checked; largest frame left on release; first links stored before a refusal at the last;
     source's burst at every hop; fraction dropped; rounding at each hop;
-    best-effort frame left out, left out at the last level, or added to the frame below.
+    best-effort frame left out, left out at the last level, or added to the frame below;
+    whole thresholds: counted into S without taking the shortest sending time off.
 
 Exit status: 0 all rows right; 1 a wrong row, a refused batch or an unreadable file or row; 2 usage.",
     words: 2..=2,

@@ -68,9 +68,10 @@ impl Follower {
     /// Whether these rules give the row where the true ones don't.
     fn fits(&self, order: &Order, row: &Row, truth: &Expected) -> bool {
         let own = self.expected(order);
-        // What blocks is in both bounds: one that the slip wouldn't give contradicts it.
-        let by_rule = self.registry.slips.blocking == Blocking::Larger;
-        if !by_rule && own.wrong_bounds(row) != [false; 3] {
+        // What blocks, and a burst's growth, are in both bounds: one that the slip wouldn't give contradicts it.
+        let slips = &self.registry.slips;
+        let in_both = slips.blocking != Blocking::Larger || slips.whole_thresholds;
+        if in_both && own.wrong_bounds(row) != [false; 3] {
             return false;
         }
         let wrong = truth.wrong_bounds(row);

@@ -2,6 +2,7 @@
 #![allow(dead_code)]
 
 pub mod pages;
+pub mod paper;
 pub mod ports;
 pub mod runs;
 pub mod slow;
