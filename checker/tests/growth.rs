@@ -17,7 +17,7 @@ use plain::formula::Aggregate;
 use plain::orders::{read_order, Order};
 use plain::programs::{replay, write_call};
 use plain::registry::{Answer, Registry};
-use plain::slips::Slips;
+use plain::slips::{Growth, Slips};
 
 /// Speeds and thresholds of links in a row. Of the thresholds 2,400, 299, 364, 99 and 364 µs count.
 const ROW: [(u32, u32); 5] = [
@@ -103,7 +103,7 @@ fn figures_by_whole_thresholds_are_42() {
 
 /// The count from before W-208.
 const WHOLE: Slips = Slips {
-    whole_thresholds: true,
+    growth: Growth::WholeThresholds,
     ..Slips::NONE
 };
 

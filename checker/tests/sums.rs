@@ -156,19 +156,9 @@ fn burst_after_one_threshold() {
     assert_eq!(burst_after(375, 100), 1_588);
     assert_eq!(burst_after(376, 100), 1_589);
     assert_eq!(burst_after(371, 10), 1_580);
-    for (threshold, speed, burst) in [
-        (1, 100, 1_542),
-        (6, 100, 1_542),
-        (7, 100, 1_542),
-        (8, 100, 1_543),
-        (68, 10, 1_542),
-        (69, 10, 1_543),
-        (671, 1, 1_542),
-        (1, 10_000, 1_542),
-        (2, 10_000, 1_543),
-    ] {
-        let found = burst_after(threshold, speed);
-        assert_eq!(found, burst, "{threshold} µs at {speed} Mbit/s");
+    for (shortest, speed) in [(7, 100), (68, 10), (672, 1), (1, 10_000)] {
+        let found = [1, shortest, shortest + 1].map(|threshold| burst_after(threshold, speed));
+        assert_eq!(found, [1_542, 1_542, 1_543], "{speed} Mbit/s");
     }
 }
 

@@ -18,6 +18,20 @@ pub enum Blocking {
     Added,
 }
 
+/// How a burst grows along a path.
+#[derive(Clone, Copy, Debug, Default, PartialEq)]
+pub enum Growth {
+    /// With S, rounded up once.
+    #[default]
+    Once,
+    /// Not at all: the source's burst is taken at every hop.
+    Never,
+    /// Rounded up at each hop.
+    EachHop,
+    /// With whole thresholds for S.
+    WholeThresholds,
+}
+
 /// The rules that are broken; none by default.
 #[derive(Clone, Copy, Debug, Default, PartialEq)]
 pub struct Slips {
@@ -27,26 +41,19 @@ pub struct Slips {
     pub frame_left: bool,
     /// The links before a refusing one keep the flow's share.
     pub stored_early: bool,
-    /// The source's burst is taken at every hop.
-    pub source_burst: bool,
     /// A delay's fraction is dropped before it is compared.
     pub fraction_dropped: bool,
-    /// A burst is rounded up at each hop in place of once.
-    pub rounded_each_hop: bool,
+    pub growth: Growth,
     pub blocking: Blocking,
-    /// S is the sum of whole thresholds.
-    pub whole_thresholds: bool,
 }
 
 const NO_SLIP: Slips = Slips {
     only_below: false,
     frame_left: false,
     stored_early: false,
-    source_burst: false,
     fraction_dropped: false,
-    rounded_each_hop: false,
+    growth: Growth::Once,
     blocking: Blocking::Larger,
-    whole_thresholds: false,
 };
 
 impl Slips {
@@ -58,33 +65,33 @@ impl Slips {
         ("only the levels below checked", Slips { only_below: true, ..Slips::NONE }),
         ("largest frame left on release", Slips { frame_left: true, ..Slips::NONE }),
         ("first links stored before a refusal at the last", Slips { stored_early: true, ..Slips::NONE }),
-        ("source's burst at every hop", Slips { source_burst: true, ..Slips::NONE }),
+        ("source's burst at every hop", Slips { growth: Growth::Never, ..Slips::NONE }),
         ("fraction dropped", Slips { fraction_dropped: true, ..Slips::NONE }),
-        ("rounding at each hop", Slips { rounded_each_hop: true, ..Slips::NONE }),
+        ("rounding at each hop", Slips { growth: Growth::EachHop, ..Slips::NONE }),
         ("best-effort frame left out", Slips { blocking: Blocking::LeftOut, ..Slips::NONE }),
         ("best-effort frame left out at the last level", Slips { blocking: Blocking::LeftOutAtTheLast, ..Slips::NONE }),
         ("best-effort frame added to the frame below", Slips { blocking: Blocking::Added, ..Slips::NONE }),
-        ("whole thresholds", Slips { whole_thresholds: true, ..Slips::NONE }),
+        ("whole thresholds", Slips { growth: Growth::WholeThresholds, ..Slips::NONE }),
     ];
 
     /// A hop's part of S for the hops after it, by the threshold of its queue and the speed of its link.
     pub fn hop_growth(&self, threshold: u128, speed: u128) -> u128 {
-        if self.whole_thresholds {
-            return threshold;
+        match self.growth {
+            Growth::WholeThresholds => threshold,
+            _ => hop_growth(threshold, speed),
         }
-        hop_growth(threshold, speed)
     }
 
     /// Burst at a hop after earlier hops with these parts of S.
     pub fn burst(&self, burst: u128, rate: u128, earlier: impl Iterator<Item = u128>) -> u128 {
-        if self.source_burst {
-            return burst;
+        match self.growth {
+            Growth::Never => burst,
+            Growth::EachHop => {
+                let grown: u128 = earlier.map(|hop| growth(rate, hop).ceiling()).sum();
+                burst + grown
+            }
+            Growth::Once | Growth::WholeThresholds => burst_at_hop(burst, rate, earlier.sum()),
         }
-        if self.rounded_each_hop {
-            let grown: u128 = earlier.map(|hop| growth(rate, hop).ceiling()).sum();
-            return burst + grown;
-        }
-        burst_at_hop(burst, rate, earlier.sum())
     }
 
     /// A level's sums, with what blocks it.

@@ -3,7 +3,7 @@
 use crate::causes;
 use crate::formula::{rate_limit, rate_sum, Aggregate, Sums};
 use crate::orders::{Flow, Hop};
-use crate::registry::{fixed_delay_at, growth_at, queue_at, share_at, threshold_at};
+use crate::registry::{growth_at, queue_at, share_at};
 use crate::registry::{Answer, Registry, HOP_POOL, SLOTS};
 use crate::slips::Slips;
 use crate::table::Queue;
@@ -39,8 +39,8 @@ pub struct LinkWork {
 #[derive(Clone, Debug, PartialEq)]
 pub struct HopWork {
     pub hop: Hop,
-    pub threshold: u64,
-    pub fixed_delay: u64,
+    /// Its numbers are 0 where there is none.
+    pub queue: Queue,
     /// S: the parts of the earlier hops, summed.
     pub earlier: u128,
     /// Its own part of S for the hops after it.
@@ -64,12 +64,16 @@ pub struct Work {
 impl Work {
     /// The thresholds along the path, summed.
     pub fn thresholds(&self) -> u128 {
-        self.hops.iter().map(|hop| u128::from(hop.threshold)).sum()
+        let thresholds = self.hops.iter().map(|hop| u128::from(hop.queue.threshold));
+        thresholds.sum()
     }
 
     /// The fixed delays along the path, summed.
     pub fn fixed_delays(&self) -> u128 {
-        let delays = self.hops.iter().map(|hop| u128::from(hop.fixed_delay));
+        let delays = self
+            .hops
+            .iter()
+            .map(|hop| u128::from(hop.queue.fixed_delay));
         delays.sum()
     }
 
@@ -155,13 +159,12 @@ impl LinkWork {
     }
 }
 
-/// What a flow adds at each hop of its path; at a hop without a queue its numbers count as 0.
+/// What a flow adds at each hop of its path.
 pub fn hops_work(queues: &[Queue], flow: &Flow, slips: &Slips) -> Vec<HopWork> {
     let growth = |&hop: &Hop| growth_at(queues, hop, slips);
     let hop = |(index, hop): (usize, &Hop)| HopWork {
         hop: *hop,
-        threshold: threshold_at(queues, *hop),
-        fixed_delay: fixed_delay_at(queues, *hop),
+        queue: queue_at(queues, *hop).cloned().unwrap_or_default(),
         earlier: flow.hops[..index].iter().map(growth).sum(),
         growth: growth(hop),
         share: share_at(queues, flow, index, slips),

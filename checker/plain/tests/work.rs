@@ -5,7 +5,7 @@ use plain::faults::{first_class, Class, What};
 use plain::formula::Aggregate;
 use plain::orders::{examine, Flow, Hop};
 use plain::registry::Registry;
-use plain::slips::Slips;
+use plain::slips::{Growth, Slips};
 use plain::table::Queue;
 use plain::work::Work;
 
@@ -117,30 +117,21 @@ fn bursts(slips: Slips) -> Vec<u128> {
     work.hops.iter().map(|hop| hop.share.burst).collect()
 }
 
-/// Three slips, and two of them at once: document 01's 1,636 from before W-208.
+/// By the rules, and by three slips.
 #[test]
 fn bursts_along_a_path() {
     assert_eq!(bursts(Slips::NONE), [1_542, 1_588, 1_633]);
-    let source = Slips {
-        source_burst: true,
-        ..Slips::NONE
-    };
-    assert_eq!(bursts(source), [1_542, 1_542, 1_542]);
-    let each = Slips {
-        rounded_each_hop: true,
-        ..Slips::NONE
-    };
-    assert_eq!(bursts(each), [1_542, 1_588, 1_634]);
-    let whole = Slips {
-        whole_thresholds: true,
-        ..Slips::NONE
-    };
-    assert_eq!(bursts(whole), [1_542, 1_589, 1_635]);
-    let both = Slips {
-        rounded_each_hop: true,
-        ..whole
-    };
-    assert_eq!(bursts(both), [1_542, 1_589, 1_636]);
+    for (growth, grown) in [
+        (Growth::Never, [1_542, 1_542, 1_542]),
+        (Growth::EachHop, [1_542, 1_588, 1_634]),
+        (Growth::WholeThresholds, [1_542, 1_589, 1_635]),
+    ] {
+        let slips = Slips {
+            growth,
+            ..Slips::NONE
+        };
+        assert_eq!(bursts(slips), grown);
+    }
 }
 
 /// Each hop's part of S is its threshold less its own link's shortest sending time; the deadline's sum has whole thresholds.
@@ -180,7 +171,7 @@ fn fixed_delays_count_against_the_deadline() {
     assert_eq!(met.refused, None);
     let sums = (met.thresholds(), met.fixed_delays(), met.end_to_end());
     assert_eq!(sums, (1_113, 10_005, 11_118));
-    let delays: Vec<u64> = met.hops.iter().map(|hop| hop.fixed_delay).collect();
+    let delays: Vec<u64> = met.hops.iter().map(|hop| hop.queue.fixed_delay).collect();
     assert_eq!(delays, [0, 5, 10_000]);
     for link in 0..3 {
         let mut longer = queues.clone();

@@ -11,7 +11,7 @@ use plain::causes::{BACKLOG, DEADLINE, DELAY, DONE};
 use plain::columns::lines;
 use plain::orders::{read_order, Flow, Order};
 use plain::registry::{path_thresholds, Registry};
-use plain::slips::Slips;
+use plain::slips::{Growth, Slips};
 use std::collections::BTreeMap;
 use std::fmt::Display;
 
@@ -186,7 +186,7 @@ fn count_answers(given: &Input, answers: &[u8], report: &mut Report) -> Result<(
 
 /// Whether a flow would be refused if whole thresholds counted in S.
 fn refused_by_thresholds(registry: &mut Registry, flow: &Flow) -> bool {
-    registry.slips.whole_thresholds = true;
+    registry.slips.growth = Growth::WholeThresholds;
     let refused = registry.judge(flow).refused.is_some();
     registry.slips = Slips::NONE;
     refused

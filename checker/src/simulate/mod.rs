@@ -12,7 +12,7 @@ use halls::rng::Rng;
 use halls::tables::{Bounds, Count};
 pub use laptops::{Laptop, Site};
 use plain::formula::Link;
-use plain::slips::Slips;
+use plain::slips::{Growth, Slips};
 pub use report::Report;
 pub use trial::Trial;
 
@@ -47,7 +47,7 @@ pub const WITHOUT_BEST_EFFORT: Count = Count {
 /// The mistake of taking the source's burst at every hop.
 pub const WITHOUT_GROWTH: Count = Count {
     bursts: Slips {
-        source_burst: true,
+        growth: Growth::Never,
         ..Slips::NONE
     },
     ..Count::RIGHT

@@ -4,12 +4,10 @@ use crate::numbers::{commas, quotient};
 use crate::titles::queue_name;
 use plain::formula::{growth, shortest_sending};
 use plain::orders::{Flow, SMALLEST_FRAME};
-use plain::registry::queue_at;
-use plain::table::Queue;
 use plain::work::HopWork;
 
 /// The bursts along a path; where it has several hops, first what S is made of.
-pub fn bursts(flow: &Flow, hops: &[HopWork], queues: &[Queue]) -> Vec<String> {
+pub fn bursts(flow: &Flow, hops: &[HopWork]) -> Vec<String> {
     // The last hop adds nothing to S: no hop comes after it.
     let before = &hops[..hops.len().saturating_sub(1)];
     let mut lines = Vec::new();
@@ -17,28 +15,23 @@ pub fn bursts(flow: &Flow, hops: &[HopWork], queues: &[Queue]) -> Vec<String> {
         lines.push(format!(
             "shortest sending time: no frame leaves a queue sooner than it is sent, and the smallest has {SMALLEST_FRAME} bytes"
         ));
-        lines.extend(sending_times(before, queues));
+        lines.extend(sending_times(before));
         lines.push(
             "parts of S: threshold less shortest sending time; only this rest can bunch frames"
                 .to_string(),
         );
         let numbered = before.iter().enumerate();
-        lines.extend(numbered.map(|(index, hop)| part(index, hop, speed_at(hop, queues))));
+        lines.extend(numbered.map(|(index, hop)| part(index, hop)));
     }
     lines.push("bursts along the path".to_string());
     lines.extend(hops.iter().map(|hop| burst(flow, hop)));
     lines
 }
 
-/// Of the link in whose queue a frame waits at the hop. Bursts are shown of paths with a queue at each hop.
-fn speed_at(hop: &HopWork, queues: &[Queue]) -> u128 {
-    queue_at(queues, hop.hop).map_or(1, |queue| u128::from(queue.speed))
-}
-
 /// `672 bits at 100 Mbit/s: 6.72, so 7 µs`, each speed of these hops once.
-fn sending_times(hops: &[HopWork], queues: &[Queue]) -> Vec<String> {
+fn sending_times(hops: &[HopWork]) -> Vec<String> {
     let mut speeds: Vec<u128> = Vec::new();
-    for speed in hops.iter().map(|hop| speed_at(hop, queues)) {
+    for speed in hops.iter().map(|hop| u128::from(hop.queue.speed)) {
         if !speeds.contains(&speed) {
             speeds.push(speed);
         }
@@ -61,8 +54,12 @@ fn sending_time(speed: u128) -> String {
 }
 
 /// `link 2 level 1: 371 − 7 = 364, S 364 + 364 = 728`; the first hop's part is S by itself.
-fn part(index: usize, hop: &HopWork, speed: u128) -> String {
-    let (threshold, shortest) = (u128::from(hop.threshold), shortest_sending(speed));
+fn part(index: usize, hop: &HopWork) -> String {
+    let queue = &hop.queue;
+    let (threshold, shortest) = (
+        u128::from(queue.threshold),
+        shortest_sending(u128::from(queue.speed)),
+    );
     let sign = if threshold < shortest {
         " is below zero:"
     } else {

@@ -44,7 +44,7 @@ pub fn sums(flow: &Flow, work: &Work, before: &Registry) -> Vec<String> {
     if work.links.is_empty() {
         return lines;
     }
-    lines.extend(bursts(flow, &work.hops, &before.queues));
+    lines.extend(bursts(flow, &work.hops));
     for link in &work.links {
         let refused = work.refused.filter(|answer| answer.link == link.link);
         lines.extend(link_sums(link, refused));
@@ -61,7 +61,7 @@ fn deadline_sums(flow: &Flow, work: &Work) -> Vec<String> {
         let numbers = work.hops.iter().map(|hop| u128::from(number(hop)));
         summed(&numbers.collect::<Vec<u128>>())
     };
-    let thresholds = format!("thresholds {}", along(|hop| hop.threshold));
+    let thresholds = format!("thresholds {}", along(|hop| hop.queue.threshold));
     let above = if work.end_to_end() > u128::from(flow.deadline) {
         ": above"
     } else {
@@ -74,7 +74,7 @@ fn deadline_sums(flow: &Flow, work: &Work) -> Vec<String> {
     let both = [work.thresholds(), work.fixed_delays()];
     vec![
         thresholds,
-        format!("fixed delays {}", along(|hop| hop.fixed_delay)),
+        format!("fixed delays {}", along(|hop| hop.queue.fixed_delay)),
         format!("together {} {verdict}", summed(&both)),
     ]
 }

@@ -4,7 +4,7 @@ use super::sheet::Row;
 use plain::causes;
 use plain::orders::Order;
 use plain::registry::{Answer, Registry};
-use plain::slips::{Blocking, Slips};
+use plain::slips::{Blocking, Growth, Slips};
 use plain::work::Work;
 
 /// What a row should hold.
@@ -70,7 +70,7 @@ impl Follower {
         let own = self.expected(order);
         // What blocks, and a burst's growth, are in both bounds: one that the slip wouldn't give contradicts it.
         let slips = &self.registry.slips;
-        let in_both = slips.blocking != Blocking::Larger || slips.whole_thresholds;
+        let in_both = slips.blocking != Blocking::Larger || slips.growth == Growth::WholeThresholds;
         if in_both && own.wrong_bounds(row) != [false; 3] {
             return false;
         }
