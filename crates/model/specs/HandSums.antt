@@ -1,4 +1,4 @@
--- Document 01, "Sums to check by hand", the starred ones, and those of requests W-201, W-202 and W-208: 100 Mbit/s, flows of rate 1,000, burst and frame 1,542.
+-- Document 01, "Sums to check by hand", the starred ones, and those of requests W-201, W-202 and W-208: 100 Mbit/s where no other speed is given, flows of rate 1,000, burst and frame 1,542.
 -- That each comes out as given is shown in `Laws.HandSums`.
 use Prim.Native.Nat.{ℕ}
 use mathlib.Core.List.{List, [], _∷_, map}
