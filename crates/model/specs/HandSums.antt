@@ -1,4 +1,4 @@
--- Document 01, "Sums to check by hand", the starred ones, and those of requests W-201, W-202 and W-208: 100 Mbit/s, flows of rate 1,000, burst and frame 1,542.
+-- Document 01, "Sums to check by hand", the starred ones, and those of requests W-201, W-202 and W-208: 100 Mbit/s where no other speed is given, flows of rate 1,000, burst and frame 1,542.
 -- That each comes out as given is shown in `Laws.HandSums`.
 use Prim.Native.Nat.{ℕ}
 use mathlib.Core.List.{List, [], _∷_, map}
@@ -11,6 +11,7 @@ use Rattle.model.specs.Orders.{Hop, Flow}
 use Rattle.model.specs.Aggregates.{shares}
 use Rattle.model.specs.LinkCheck.{rateCode}
 use Rattle.model.specs.Reference.{Cause, deadlineFinding}
+use Rattle.model.specs.WholeThresholds as before
 
 unfoldable pub one : Aggregate
 one = record { rate = 1000; burst = 1542; frame = 1542 }
@@ -38,9 +39,12 @@ along = record { link = 1; level = 1 } ∷ record { link = 2; level = 1 } ∷ re
 unfoldable pub flow : Flow
 flow = record { number = 7; rate = 1000; burst = 1542; frame = 1542; deadline = 2000; path = along }
 
--- The bursts of the flow at its hops.
+-- The bursts of the flow at its hops, and by whole thresholds, before W-208.
 unfoldable pub bursts : Table → List ℕ
 bursts t = map (λ s. s .adds .burst) (shares t flow 0 along)
+
+unfoldable pub wholeBursts : Table → List ℕ
+wholeBursts t = map (λ s. s .adds .burst) (before.shares t flow 0 along)
 
 -- The code of a cause, 0 where there is none.
 unfoldable pub code : Option Cause → ℕ
@@ -74,15 +78,25 @@ handSums =
     ∷ sum (delay 100 84 [] one (one ∷ [])) 371
     ∷ sum (delay 100 1542 (one ∷ []) one []) 499
     ∷ sum (backlog 100 1542 (one ∷ []) one []) 1589
-    -- burst after a threshold of 371, and after two (whole thresholds give 1,589 and 1,635; rounded at each hop the second would be 1,634); the fixed delays don't count
+    -- burst after a threshold of 371, and after two (rounded at each hop the second would be 1,634); the fixed delays don't count
     ∷ sum (getD (bursts (links 296)) 1 0) 1588
     ∷ sum (getD (bursts (links 296)) 2 0) 1633
     -- after thresholds of 375 and 376: a shortest sending time of 6 or of 8 µs, where it is 7, would give 1,589 or 1,588
     ∷ sum (getD (bursts (behind 100 375)) 1 0) 1588
     ∷ sum (getD (bursts (behind 100 376)) 1 0) 1589
-    -- the speed is the earlier hop's, 10 Mbit/s before 100; a threshold below the shortest sending time adds nothing
+    -- each hop's speed is its own, 10 Mbit/s before 100 (the first hop's for both would give 1,618)
     ∷ sum (getD (bursts (behind 10 371)) 1 0) 1580
+    ∷ sum (getD (bursts (behind 10 371)) 2 0) 1626
+    -- 672 bits: 671 would give 1,544 at 671 Mbit/s, 673 would give 1,543 at 672
+    ∷ sum (getD (bursts (behind 671 10)) 1 0) 1543
+    ∷ sum (getD (bursts (behind 672 10)) 1 0) 1544
+    -- a threshold below the shortest sending time adds nothing, and takes nothing from the hops before (else 1,588)
     ∷ sum (getD (bursts (behind 100 6)) 1 0) 1542
+    ∷ sum (getD (bursts (link 100 376 0 ∷ behind 100 6)) 2 0) 1589
+    -- by whole thresholds: document 01's own two; after 377, where 376 would give 1,589
+    ∷ sum (getD (wholeBursts (links 296)) 1 0) 1589
+    ∷ sum (getD (wholeBursts (links 296)) 2 0) 1635
+    ∷ sum (getD (wholeBursts (behind 100 377)) 1 0) 1590
     -- held rates 99,000, new 999 and new 1,000
     ∷ sum (rateCode 100 (rateOnly 99000 ∷ rateOnly 999 ∷ [])) 0
     ∷ sum (rateCode 100 (rateOnly 99000 ∷ rateOnly 1000 ∷ [])) 21

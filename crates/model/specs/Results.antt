@@ -18,7 +18,7 @@ use Rattle.model.specs.Batch.{lineAnswers, batch}
 use Rattle.model.specs.Consistent.{flowsConsistent, consistent}
 use Rattle.model.specs.Part.{Part}
 use Rattle.model.specs.Outcomes.{NoneApplies, Decided, earlyFindings, NoRoom, Full}
-use Rattle.model.specs.WholeThresholds as whole
+use Rattle.model.specs.WholeThresholds as before
 use Rattle.model.specs.Laws.Order.{call-readable, line-readable}
 use Rattle.model.specs.Laws.Consistent.{flows-rules, rules-flows, flows-part}
 use Rattle.model.specs.Laws.Reached.{state-rules, rules-state, apply-keeps, reached}
@@ -83,15 +83,15 @@ pub reached-timely : (text : List ℕ) (calls : List Call) → let s = final (op
 reached-timely text calls = no-frame-late (final (opened text) calls) (reached-consistent text calls)
 
 -- Nothing admitted by whole thresholds, before W-208, is lost: a set of flows that was consistent by them is consistent.
-pub whole-consistent : (t : Table) (fs : List Flow) → whole.flowsConsistent t fs ≡ true → flowsConsistent t fs ≡ true
+pub whole-consistent : (t : Table) (fs : List Flow) → before.flowsConsistent t fs ≡ true → flowsConsistent t fs ≡ true
 whole-consistent = flows-less
 
 -- An order that was carried out by them is carried out just the same, on any state: the same answer, slot and next state.
-pub whole-order : (s : State) (o : Order) → whole.apply s o .answer .code ≡ 0 → apply s o ≡ whole.apply s o
+pub whole-order : (s : State) (o : Order) → before.apply s o .answer .code ≡ 0 → apply s o ≡ before.apply s o
 whole-order = order-same
 
 -- Order lines that were all carried out by them, one after the other, are answered just the same.
-pub whole-lines : (s : State) (ls : List Line) → All (λ a. a .code ≡ 0) (whole.lineAnswers s ls) → lineAnswers s ls ≡ whole.lineAnswers s ls
+pub whole-lines : (s : State) (ls : List Line) → All (λ a. a .code ≡ 0) (before.lineAnswers s ls) → lineAnswers s ls ≡ before.lineAnswers s ls
 whole-lines = lines-same
 
 -- Mission, line 1: what a table text is refused for, what a batch returns, and that a refused one writes nothing.

@@ -9,13 +9,13 @@ use mathlib.Core.List.{List, [], _∷_, map}
 use Rattle.model.specs.Words.{every, firstIndex, isNone, nth}
 use Rattle.model.specs.Columns.{isDigit, digits, number, field, fieldAt, padded, justified, between, prepend, lines}
 use Rattle.model.specs.QueueTable.{isRowLength, laterField, rowFields, row, bestEffortInRange, rowInRange, continues, begins, rowInTurn, sameLink, rowAgrees, rowCause, queueOf, newLink, addLevel, addRow, rowStep, lineStep, readLines, readTable}
-use Rattle.model.specs.Orders.{headFields, hopField, hopFields, pathFields, numberInRange, hopsInRange, headInRange, flowOf, withPath, registrationOf, registration, releaseOf, releaseLine, kindNumber, kindOfNumber, kindOrder, orderOfKind, readOrder, orderLine}
+use Rattle.model.specs.Orders.{Flow, headFields, hopField, hopFields, pathFields, numberInRange, hopsInRange, headInRange, flowOf, withPath, registrationOf, registration, releaseOf, releaseLine, kindNumber, kindOfNumber, kindOrder, orderOfKind, readOrder, orderLine}
 use Rattle.model.specs.Total.{total, largest}
 use Rattle.model.specs.Formula.{ceilDiv, shortestSending, hopGrowth, burstAtHop, residual, withinRate, delayBound, backlogBound, blocking, interference, levelResidual, delay, backlog}
 use Rattle.model.specs.LinkCheck.{isEmpty, levelCode, orElse, levelsFinding, rateCode, linkFinding}
 use Rattle.model.specs.Aggregates.{linkAt, queueAt, thresholdOf, speedOf, fixedDelayOf, shares, allShares, sameHop, addsAt, sharesAt, aggregateAt, levelAggregates}
 use Rattle.model.specs.Reference.{heldFlows, heldHops, withNumber, crosses, pathDelay, firstCause, whole, atHop, start, end, noQueue, metEarlier, startsElsewhere, numberFinding, lineFindings, deadlineFinding, isHeld, roomFindings, linkCause, causeAt, linkFindings, registerFindings, findings, holds, refuse, fill, perform, decide, apply, tableOf, opened}
-use Rattle.model.specs.Consistent.{rowOf, linkConsistent}
+use Rattle.model.specs.Consistent.{rowOf, linkConsistent, headOf, flowInRange}
 use Rattle.model.specs.Outcomes.{earlyFindings}
 use Rattle.model.specs.WholeThresholds as before
 use Rattle.model.specs.Answers.{answerColumns, answerLine}
@@ -40,11 +40,25 @@ worked table orders area code line area′ =
 
 pub growthTable : String
 growthTable =
-    "   1   1   2    10 1   1000     2000\n   2   2   3   100 1     91     1040\n   3   2   4   100 1     90     1040\n   4   2   5   100 1     91     1039\n   5   2   6   100 1     96     1108\n"
+    "   1   1   2    10 1    500     2000\n   1   1   2    10 2   1000     2000\n   2   2   3   100 1     91     1040\n   3   2   4   100 1     90     1040\n   4   2   5   100 1     91     1039\n   5   2   6   100 1     96     1108\n"
 
 pub growthOrders : String
 growthOrders =
-    " 1     1     8000     100  100    2000  2   1 1   5 1\n 2     1\n 1     1     8000     100  100    2000  2   1 1   3 1\n 1     1     8000     100  100    2000  2   1 1   4 1\n 1     1     8000     100  100    2000  2   1 1   2 1\n"
+    " 1     1     8000     100  100    2000  2   1 2   5 1\n 2     1\n 1     1     8000     100  100    2000  2   1 2   3 1\n 1     1     8000     100  100    2000  2   1 2   4 1\n 1     1     8000     100  100    2000  2   1 2   2 1\n"
+
+-- The flow of these orders, with its last link, beside another flow.
+pub growthFlows : (last : ℕ) → List Flow
+growthFlows last =
+    record {
+      number = 1;
+      rate = 8000;
+      burst = 100;
+      frame = 100;
+      deadline = 2000;
+      path = record { link = 1; level = 2 } ∷ record { link = last; level = 1 } ∷ [];
+    }
+    ∷ record { number = 2; rate = 1; burst = 84; frame = 84; deadline = 2000; path = record { link = 3; level = 1 } ∷ [] }
+    ∷ []
 
 pub workedBatches : List Worked
 workedBatches =
@@ -113,17 +127,18 @@ workedBatches =
     ∷ worked "   1   1   2   448 1      6      169      0 0\n" "" "" 1 1 ""
     ∷ worked "   1   1   2   448 1      6      169      0   0\n" "" "" 1 1 ""
     ∷ worked "   1   1   2   448 1      6      169      0    0 \n" "" "" 1 1 ""
-    -- a burst that has grown at a hop of 10 Mbit/s, by its threshold of 1,000 less 68: admitted where threshold and buffer of the hop behind are just as large as
+    -- a burst that has grown at a hop of 10 Mbit/s, on level 2, by its threshold of 1,000 less 68: admitted where threshold and buffer of the hop behind are just as large as
     -- the bounds, and not with one less (22, 23); by whole thresholds the last order was refused too
     ∷ worked growthTable growthOrders "...................................................................................................." 0 5
     "     1  0   1   0 0\n     2  0   1   0 0\n     3 22   0   3 1\n     4 23   0   4 1\n     5  0   1   0 0\n"
     ∷ []
 
--- The second part: the codes of the last batch by whole thresholds, before W-208.
+-- The second and third part, by whole thresholds, before W-208: the codes of the last batch, and whether its flow, ending on link 5 or 2, is consistent beside another.
 pub worked-batches : (map (λ w. w .worked) workedBatches ≡ map (λ w. w .given) workedBatches)
     × (map (λ a. a .code) (before.lineAnswers (opened (bytes growthTable)) (lines (bytes growthOrders))) ≡ 0 ∷ 0 ∷ 22 ∷ 22 ∷ 22 ∷ [])
-unfolding workedBatches worked growthTable growthOrders bytes bytesFrom isDigit digits number field fieldAt padded justified between prepend lines isRowLength laterField rowFields row bestEffortInRange rowInRange continues begins rowInTurn sameLink rowAgrees rowCause queueOf newLink addLevel addRow rowStep lineStep readLines readTable headFields hopField hopFields pathFields numberInRange hopsInRange headInRange flowOf withPath registrationOf registration releaseOf releaseLine kindNumber kindOfNumber kindOrder orderOfKind readOrder orderLine total largest ceilDiv shortestSending hopGrowth burstAtHop residual withinRate delayBound backlogBound blocking interference levelResidual delay backlog isEmpty levelCode orElse levelsFinding rateCode linkFinding nth linkAt queueAt thresholdOf speedOf fixedDelayOf shares allShares sameHop addsAt sharesAt aggregateAt levelAggregates heldFlows heldHops withNumber crosses pathDelay firstCause whole atHop isNone start end noQueue metEarlier startsElsewhere numberFinding lineFindings deadlineFinding every isHeld roomFindings linkCause causeAt linkFindings registerFindings findings firstIndex holds refuse fill perform decide apply tableOf opened answerColumns answerLine lineAnswers answerText refusedBatch doneBatch tooLong tooShort afterTable batch earlyFindings before.shares before.allShares before.levelAggregates before.causeAt before.linkFindings before.findings before.apply before.lineAnswers
-worked-batches = (refl, refl)
+    × (map (λ n. before.flowsConsistent (opened (bytes growthTable) .table) (growthFlows n)) (5 ∷ 2 ∷ []) ≡ true ∷ false ∷ [])
+unfolding workedBatches worked growthTable growthOrders bytes bytesFrom isDigit digits number field fieldAt padded justified between prepend lines isRowLength laterField rowFields row bestEffortInRange rowInRange continues begins rowInTurn sameLink rowAgrees rowCause queueOf newLink addLevel addRow rowStep lineStep readLines readTable headFields hopField hopFields pathFields numberInRange hopsInRange headInRange flowOf withPath registrationOf registration releaseOf releaseLine kindNumber kindOfNumber kindOrder orderOfKind readOrder orderLine total largest ceilDiv shortestSending hopGrowth burstAtHop residual withinRate delayBound backlogBound blocking interference levelResidual delay backlog isEmpty levelCode orElse levelsFinding rateCode linkFinding nth linkAt queueAt thresholdOf speedOf fixedDelayOf shares allShares sameHop addsAt sharesAt aggregateAt levelAggregates heldFlows heldHops withNumber crosses pathDelay firstCause whole atHop isNone start end noQueue metEarlier startsElsewhere numberFinding lineFindings deadlineFinding every isHeld roomFindings linkCause causeAt linkFindings registerFindings findings firstIndex holds refuse fill perform decide apply tableOf opened answerColumns answerLine lineAnswers answerText refusedBatch doneBatch tooLong tooShort afterTable batch earlyFindings before.shares before.allShares before.levelAggregates before.causeAt before.linkFindings before.findings before.apply before.lineAnswers before.flowConsistent before.flowsConsistent growthFlows flowInRange headOf
+worked-batches = (refl, refl, refl)
 
 -- 42: the link of a registry that calls find may have these best-effort frames, 0, 84 and 1,542, and not the others.
 pub worked-links : map

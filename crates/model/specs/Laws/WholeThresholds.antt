@@ -27,7 +27,7 @@ use Rattle.model.specs.Reference.{State, Cause, Answer, Outcome, heldFlo
 use Rattle.model.specs.Outcomes.{earlyFindings}
 use Rattle.model.specs.Consistent.{flowInRange, flowConsistent, flowsConsistent}
 use Rattle.model.specs.Batch.{lineAnswers}
-use Rattle.model.specs.WholeThresholds as whole
+use Rattle.model.specs.WholeThresholds as before
 use Rattle.model.specs.Laws.Finding.{Caused, is-none}
 use Rattle.model.specs.Laws.LinkMeets.{code-cause}
 
@@ -86,56 +86,56 @@ first-same (pair {y = some c} r p) z = rw (r z)
 module _ (t : Table) where
   -- A path's shares, before those of other flows.
   path-less : (f : Flow) {sum sum′ : ℕ} → sum ≤ sum′ → (path : List Hop) {es es′ : List Share} → Pairs NoMore es es′
-      → Pairs NoMore (shares t f sum path ++ es) (whole.shares t f sum′ path ++ es′)
-  unfolding shares whole.shares
+      → Pairs NoMore (shares t f sum path ++ es) (before.shares t f sum′ path ++ es′)
+  unfolding shares before.shares
   path-less f h [] p = p
   path-less f {sum} {sum′} h (g ∷ path) p =
       let later : sum + growth t g ≤ sum′ + thresholdOf (queueAt t g) = omega (arith, growth-most (thresholdOf (queueAt t g)) (speedOf (linkAt t (g .link)))) in
       pair (record { hop = refl; adds = grown-mono (source f) h }) (path-less f later path p)
 
-  all-less : (fs : List Flow) → Pairs NoMore (allShares t fs) (whole.allShares t fs)
-  unfolding allShares whole.allShares
+  all-less : (fs : List Flow) → Pairs NoMore (allShares t fs) (before.allShares t fs)
+  unfolding allShares before.allShares
   all-less [] = ends
   all-less (f ∷ fs) = path-less f (le-refl 0) (f .path) (all-less fs)
 
   module _ (fs : List Flow) where
-    levels-less : (link n : ℕ) (qs : List Queue) → Pairs AtMost (levelAggregates t fs link n qs) (whole.levelAggregates t fs link n qs)
-    unfolding levelAggregates whole.levelAggregates aggregateAt
+    levels-less : (link n : ℕ) (qs : List Queue) → Pairs AtMost (levelAggregates t fs link n qs) (before.levelAggregates t fs link n qs)
+    unfolding levelAggregates before.levelAggregates aggregateAt
     levels-less link n [] = ends
     levels-less link n (q ∷ qs) = pair (at-mono _ (all-less fs)) (levels-less link (suc n) qs)
 
-    link-same : (link : ℕ) (o : Option Link) → Passed (whole.causeAt t fs link o) → causeAt t fs link o ≡ whole.causeAt t fs link o
-    unfolding causeAt whole.causeAt
+    link-same : (link : ℕ) (o : Option Link) → Passed (before.causeAt t fs link o) → causeAt t fs link o ≡ before.causeAt t fs link o
+    unfolding causeAt before.causeAt
     link-same link none z = refl
     link-same link (some k) z = cause-same link _ _ (link-mono (k .speed) (k .bestEffort) (k .levels) (levels-less link 1 (k .levels))) z
 
     -- After other findings, the same.
     found-same : (l : List (Option Cause)) (path : List Hop)
-        → Pairs (λ x y. Passed y → x ≡ y) (l ++ linkFindings t fs path) (l ++ whole.linkFindings t fs path)
-    unfolding linkFindings whole.linkFindings
+        → Pairs (λ x y. Passed y → x ≡ y) (l ++ linkFindings t fs path) (l ++ before.linkFindings t fs path)
+    unfolding linkFindings before.linkFindings
     found-same [] [] = ends
     found-same [] (h ∷ path) = pair (link-same (h .link) (linkAt t (h .link))) (found-same [] path)
     found-same (x ∷ l) path = pair (λ z. refl) (found-same l path)
 
-    flow-less : (f : Flow) → whole.flowConsistent t fs f ≡ true → flowConsistent t fs f ≡ true
-    unfolding flowConsistent whole.flowConsistent lineFindings
+    flow-less : (f : Flow) → before.flowConsistent t fs f ≡ true → flowConsistent t fs f ≡ true
+    unfolding flowConsistent before.flowConsistent lineFindings
     flow-less f e =
         let (others, passed) = and-both (flowInRange f && leb (withNumber (f .number) fs) 1) _ e in
         let same = first-same (found-same (lineFindings t f ++ deadlineFinding t f ∷ []) (f .path)) (subst Passed (sym (is-none _ passed)) tt) in
         both-and others (ap isNone same ∙ passed)
 
-    pub flows-less : whole.flowsConsistent t fs ≡ true → flowsConsistent t fs ≡ true
-    unfolding flowsConsistent whole.flowsConsistent
+    pub flows-less : before.flowsConsistent t fs ≡ true → flowsConsistent t fs ≡ true
+    unfolding flowsConsistent before.flowsConsistent
     flows-less e =
-        let (e₁, hops) = and-both (every (whole.flowConsistent t fs) fs && leb (length fs) slotCount) _ e in
-        let (flows, slots) = and-both (every (whole.flowConsistent t fs) fs) _ e₁ in
-        both-and (both-and (all-every (flowConsistent t fs) fs (all-imp fs flow-less (every-all (whole.flowConsistent t fs) fs flows))) slots) hops
+        let (e₁, hops) = and-both (every (before.flowConsistent t fs) fs && leb (length fs) slotCount) _ e in
+        let (flows, slots) = and-both (every (before.flowConsistent t fs) fs) _ e₁ in
+        both-and (both-and (all-every (flowConsistent t fs) fs (all-imp fs flow-less (every-all (before.flowConsistent t fs) fs flows))) slots) hops
 
-pub order-same : (s : State) (o : Order) → whole.apply s o .answer .code ≡ 0 → apply s o ≡ whole.apply s o
-unfolding apply whole.apply findings whole.findings registerFindings earlyFindings lineFindings roomFindings decide refuse
+pub order-same : (s : State) (o : Order) → before.apply s o .answer .code ≡ 0 → apply s o ≡ before.apply s o
+unfolding apply before.apply findings before.findings registerFindings earlyFindings lineFindings roomFindings decide refuse
 order-same s (register f) z =
     let found = found-same (s .table) (f ∷ heldFlows (s .slots)) (earlyFindings s f ++ roomFindings (s .slots) f) (f .path) in
-    ap (decide s (register f)) (first-same found (passed (firstCause (whole.findings s (register f))) z))
+    ap (decide s (register f)) (first-same found (passed (firstCause (before.findings s (register f))) z))
   where
     passed : (x : Option Cause) → decide s (register f) x .answer .code ≡ 0 → Passed x
     passed none z = tt
@@ -143,9 +143,9 @@ order-same s (register f) z =
 order-same s (release n) z = refl
 order-same s (rejected code) z = refl
 
-pub lines-same : (s : State) (ls : List Line) → All (λ a. a .code ≡ 0) (whole.lineAnswers s ls) → lineAnswers s ls ≡ whole.lineAnswers s ls
-unfolding lineAnswers whole.lineAnswers
+pub lines-same : (s : State) (ls : List Line) → All (λ a. a .code ≡ 0) (before.lineAnswers s ls) → lineAnswers s ls ≡ before.lineAnswers s ls
+unfolding lineAnswers before.lineAnswers
 lines-same s [] z = refl
 lines-same s (l ∷ ls) z =
     ap (λ (out : Outcome). out .answer ∷ lineAnswers (out .next) ls) (order-same s (orderLine l) (z .0))
-    ∙ ap (λ (m : List Answer). whole.apply s (orderLine l) .answer ∷ m) (lines-same (whole.apply s (orderLine l) .next) ls (z .1))
+    ∙ ap (λ (m : List Answer). before.apply s (orderLine l) .answer ∷ m) (lines-same (before.apply s (orderLine l) .next) ls (z .1))

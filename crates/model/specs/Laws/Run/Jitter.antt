@@ -91,7 +91,7 @@ module _ (t : Table) (fs : List Flow) (sch : Schedulable t fs) (r : Run t fs) wh
       y + fixedDelayOf (linkAt t n) ≤ f .born + sumBefore (hopDelay t) (p .onTime .flow .path) (suc (f .hop))
   leaves y n level f p = omega (arith, p .onTime .inTime, p .soon, hop-adds (hopDelay t) n level f (p .onTime) (p .here))
 
-  -- So it reaches the next hop in time, and having stayed the shortest sending time or longer, it does no sooner.
+  -- So it reaches the next hop in time, and, having stayed the shortest sending time or longer, not too soon.
   reaches : (x y n level : ℕ) (f : Frame) → y + fixedDelayOf (linkAt t n) ≡ x → f .since + shortestSending (speedOf (linkAt t n)) ≤ y →
       Placed t fs y n level f → OnTime t fs (next x f)
   unfolding next

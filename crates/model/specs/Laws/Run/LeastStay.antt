@@ -33,10 +33,10 @@ module _ (grain : ℕ) (came : Frame → ℕ) where
   WireCovers passed (sending n f more) = Covers passed (suc more) f
   WireCovers passed (sendingBestEffort more) = Unit {0}
 
-  pub record Covered (passed : ℕ) (l : LinkState) : Type 0 where
-    pub wire : WireCovers passed (l .wire)
-    pub levels : EachLevel (Waiting passed) 1 (l .levels)
-    pub left : All (Covers passed 0) (l .left)
+  record Covered (passed : ℕ) (l : LinkState) : Type 0 where
+    wire : WireCovers passed (l .wire)
+    levels : EachLevel (Waiting passed) 1 (l .levels)
+    left : All (Covers passed 0) (l .left)
 
   take-covered : (offered passed : ℕ) (w : Wire) (qs : List (List Frame)) (d : List Frame) → Covered passed (link w qs d) → Covered passed (take grain offered (link w qs d))
   unfolding take start startBestEffort
