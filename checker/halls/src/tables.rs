@@ -3,7 +3,7 @@
 use crate::rng::Rng;
 use plain::formula::{backlog, delay, Aggregate, Link};
 use plain::orders::{Flow, Hop, LARGEST_FRAME, SMALLEST_FRAME};
-use plain::registry::{aggregate, aggregate_by, path_fixed_delays, path_thresholds};
+use plain::registry::{aggregate_by, path_fixed_delays, path_thresholds};
 use plain::slips::Slips;
 use plain::table::{write_queue, write_queue_in, Queue, LENGTHS};
 
@@ -171,10 +171,13 @@ pub fn link_fields(rng: &mut Rng, queues: &mut [Queue]) {
 
 /// The levels' aggregates of a link over these flows.
 pub fn link_levels(queues: &[Queue], flows: &[&Flow], link: u64) -> Vec<Aggregate> {
+    levels_by(queues, flows, link, Slips::NONE)
+}
+
+fn levels_by(queues: &[Queue], flows: &[&Flow], link: u64, slips: Slips) -> Vec<Aggregate> {
     let of_link = queues.iter().filter(|queue| queue.link == link);
-    of_link
-        .map(|queue| aggregate(queues, flows, queue))
-        .collect()
+    let levels = of_link.map(|queue| aggregate_by(queues, flows, queue, slips));
+    levels.collect()
 }
 
 /// What a bound of a queue counts of its link; said of the queue and the one after it in the table.
@@ -196,11 +199,10 @@ impl Count {
     /// The link of the queue with this index, and the figures of its levels.
     pub fn at(&self, queues: &[Queue], flows: &[&Flow], index: usize) -> (Link, Vec<Aggregate>) {
         let link = (self.link)(&queues[index], queues.get(index + 1));
-        let of_link = queues
-            .iter()
-            .filter(|queue| queue.link == queues[index].link);
-        let levels = of_link.map(|queue| aggregate_by(queues, flows, queue, self.bursts));
-        (link, levels.collect())
+        (
+            link,
+            levels_by(queues, flows, queues[index].link, self.bursts),
+        )
     }
 }
 

@@ -166,7 +166,7 @@ pub fn queue_at(queues: &[Queue], hop: Hop) -> Option<&Queue> {
         .find(|queue| queue.link == hop.link && queue.level == hop.level)
 }
 
-pub fn threshold_at(queues: &[Queue], hop: Hop) -> u64 {
+fn threshold_at(queues: &[Queue], hop: Hop) -> u64 {
     queue_at(queues, hop).map_or(0, |queue| queue.threshold)
 }
 
