@@ -26,7 +26,7 @@ module _ (orders : List ℕ) (at next : ℕ) (table slots pool slots′ pool′ 
     (stepped : Stepped (orderLine l) table slots pool slots′ pool′ sums′ a) (first : lines (drop at orders) ≡ l ∷ lines (drop next orders)) where
   answers-on : lineAnswers (stateOf table slots pool) (l ∷ lines (drop next orders))
       ≡ answerOf a ∷ lineAnswers (stateOf table slots′ pool′) (lines (drop next orders))
-  unfolding lineAnswers
+  unfolding lineAnswers reference.orderAnswers
   answers-on =
       ap₂ (λ (x : reference.Answer) (s : reference.State). x ∷ lineAnswers s (lines (drop next orders))) (sym (stepped .answer)) (sym (stepped .next))
 
@@ -147,7 +147,7 @@ module _ {whole orders : List ℕ} {table slots pool sums : List ℕ} {size : �
       }
 
   pub answering-last : length orders ≤ at → area ≡ whole
-  unfolding lineAnswers answerText
+  unfolding lineAnswers reference.orderAnswers answerText
   answering-last end =
       let all-done : offset ≡ answerBytes * (number + 0) = omega (arith, now .placed) in
       sym (take-append-drop offset area)

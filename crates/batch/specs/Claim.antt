@@ -1,9 +1,9 @@
 -- The mission's second and third lines of a batch, over what `devvonur_batch` promises, for every input that it accepts.
--- That they hold is `claim` in `ClaimLaws`.
-use Prim.Native.Nat.{ℕ, _*_}
+-- That they hold is `claim` in `ClaimLaws`. And what the order of registrations doesn't change (W-205).
+use Prim.Native.Nat.{ℕ, _*_, _≤_}
 use mathlib.Core.Path.{_≡_}
 use mathlib.Core.Bool.{true}
-use mathlib.Core.List.{List, [], _∷_, _++_}
+use mathlib.Core.List.{List, [], _∷_, _++_, List·Permᴰ}
 use lib.ListN.{length, drop}
 use Rattle.model.specs.Sizes.{answerBytes}
 use Rattle.model.specs.Columns.{Line, lines}
@@ -14,7 +14,10 @@ use Rattle.model.specs.Consistent.{consistent}
 use Rattle.model.specs.Outcomes.{Decided}
 use Rattle.model.specs.Timely.{Timely}
 use Rattle.model.specs.Batch.{lineAnswers, answerText}
+use Rattle.model.specs.Part.{Part}
+use Rattle.model.specs.AnyOrder.{placesFrom, AnyOrder}
 use Rattle.batch.specs.declared.BatchResult.{BatchResult}
+use Rattle.batch.specs.View.{Batched}
 
 -- What holds of the state between two lines: the flows then held are consistent, and in no run over them is a frame late.
 pub record Sound (s : State) : Type 0 where
@@ -38,3 +41,17 @@ pub record Claimed (table orders area area′ : List ℕ) (r : BatchResult) : Ty
   pub count : r .line ≡ length (lines orders)
   pub written : area′ ≡ answerText 1 (lineAnswers (opened table) (lines orders)) ++ drop (answerBytes * length (lines orders)) area
   pub each : LineByLine (opened table) (lines orders) (lineAnswers (opened table) (lines orders))
+
+-- W-205, of an accepted batch whose lines are registrations, all admitted: other orders on the same table. That it holds is `any-order` in `ClaimLaws`.
+pub record InAnyOrder (table orders area area′ : List ℕ) (r : BatchResult) : Type 0 where
+  -- Lines that are a part of these, in any order, are all admitted, with places 1, 2, 3, .., in every area that isn't shorter.
+  pub part : (orders₁ area₁ area₁′ : List ℕ) (r₁ : BatchResult) → Batched table orders₁ area₁ area₁′ r₁ → length area ≤ length area₁
+      → Part (lines orders₁) (lines orders)
+      → (r₁ .code ≡ 0)
+      × (r₁ .line ≡ length (lines orders₁))
+      × (area₁′ ≡ answerText 1 (placesFrom 1 (length (lines orders₁))) ++ drop (answerBytes * length (lines orders₁)) area₁)
+  -- All of them in any order are answered the same, byte for byte.
+  pub order : (orders₁ area₁′ : List ℕ) (r₁ : BatchResult) → Batched table orders₁ area area₁′ r₁ → List·Permᴰ (lines orders₁) (lines orders)
+      → (r₁ ≡ r) × (area₁′ ≡ area′)
+  -- The flows held after them, and the figures.
+  pub held : AnyOrder orderLine (opened table) (lines orders)

@@ -2,20 +2,19 @@
 -- Order: 5, then line by line 1 to 4, then 41, 40.
 use Prim.Native.Nat.{ℕ, suc, _*_}
 use mathlib.Core.Bool.{Bool, cond, _||_}
-use mathlib.Core.List.{List, [], _∷_, _++_}
+use mathlib.Core.List.{List, [], _∷_, _++_, map}
 use lib.ListN.{length, drop}
 use lib.Dec.{ltb}
 use Rattle.model.specs.Sizes.{orderBytes, orderLines, answerBytes}
 use Rattle.model.specs.Columns.{Line, lines}
 use Rattle.model.specs.QueueTable.{TableText, accepted, refused, readTable}
 use Rattle.model.specs.Orders.{orderLine}
-use Rattle.model.specs.Reference.{State, Answer, apply, opened}
+use Rattle.model.specs.Reference.{State, Answer, orderAnswers, opened}
 use Rattle.model.specs.Answers.{answerLine}
 
 -- The answers to the lines, order after order from the registry left behind.
 unfoldable pub lineAnswers : State → List Line → List Answer
-lineAnswers s [] = []
-lineAnswers s (l ∷ ls) = apply s (orderLine l) .answer ∷ lineAnswers (apply s (orderLine l) .next) ls
+lineAnswers s ls = orderAnswers s (map orderLine ls)
 
 -- The text of answers, the first of which has this line number.
 unfoldable pub answerText : (number : ℕ) → List Answer → List ℕ

@@ -19,6 +19,7 @@ pub mod Table
 pub mod Reference
 pub mod Room
 pub mod Reached
+pub mod AnyOrder
 pub mod WholeThresholds
 pub mod Schedulable
 pub mod Carries
@@ -26,6 +27,7 @@ pub mod Levels
 pub mod Admissible
 pub mod Decided
 pub mod Codes
+pub mod Batch
 pub mod Path
 pub mod Figures
 pub mod Bounds

@@ -20,6 +20,7 @@ pub mod Admissible
 pub mod Outcomes
 pub mod WholeThresholds
 pub mod Part
+pub mod AnyOrder
 pub mod Run
 pub mod Punctual
 pub mod Delivery

@@ -188,6 +188,15 @@ decide s o (some c) = refuse s c
 unfoldable pub apply : State → Order → Outcome
 apply s o = decide s o (firstCause (findings s o))
 
+-- Order after order: all answers, and the state left behind.
+unfoldable pub orderAnswers : State → List Order → List Answer
+orderAnswers s [] = []
+orderAnswers s (o ∷ os) = apply s o .answer ∷ orderAnswers (apply s o .next) os
+
+unfoldable pub afterOrders : State → List Order → State
+afterOrders s [] = s
+afterOrders s (o ∷ os) = afterOrders (apply s o .next) os
+
 -- A call: which call it is, and the bytes it is given.
 pub record Call : Type 0 where
   pub kind : Kind
@@ -219,11 +228,9 @@ tableOf (refused code line) = []
 unfoldable pub opened : (text : List ℕ) → State
 opened text = record { table = tableOf (readTable text); slots = replicate slotCount none }
 
--- Call after call: all answers, and the state left behind.
+-- Call after call.
 unfoldable pub answers : State → List Call → List Answer
-answers s [] = []
-answers s (c ∷ cs) = step s c .answer ∷ answers (step s c .next) cs
+answers s calls = orderAnswers s (map callOrder calls)
 
 unfoldable pub final : State → List Call → State
-final s [] = s
-final s (c ∷ cs) = final (step s c .next) cs
+final s calls = afterOrders s (map callOrder calls)

@@ -1,10 +1,11 @@
--- The headline facts in a page: what one call on the reference model (document 01: the plain book) does, when a registration is admitted, when room lacks, that no frame is late or lost and every one arrives, and that nothing admitted by whole thresholds is lost.
+-- The headline facts in a page: what one call on the reference model (document 01: the plain book) does, when a registration is admitted, when room lacks, that no frame is late or lost and every one arrives,
+-- that the order of registrations that are all admitted doesn't matter, and that nothing admitted by whole thresholds is lost.
 -- Each is a fact of another file, said again in the paper's terms. Assumes nothing.
 use Prim.Native.Nat.{ℕ}
 use mathlib.Core.Path.{_≡_}
 use mathlib.Core.Bool.{true}
 use mathlib.Core.Logic.{_↔_}
-use mathlib.Core.List.{List}
+use mathlib.Core.List.{List, map}
 use Rattle.model.specs.Words.{All}
 use Rattle.model.specs.Columns.{Line}
 use Rattle.model.specs.QueueTable.{Table, readTable}
@@ -12,16 +13,18 @@ use Rattle.model.specs.Orders.{Flow, Order, register, kindNumber, orderL
 use Rattle.model.specs.Timely.{Timely}
 use Rattle.model.specs.Laws.Run.Punctual.{punctual}
 use Rattle.model.specs.Laws.Run.Delivery.{in-time, none-lost, arrives}
-use Rattle.model.specs.Reference.{State, Call, heldFlows, callOrder, apply, step, opened, final}
+use Rattle.model.specs.Reference.{State, Call, heldFlows, callOrder, apply, step, opened, orderAnswers, final}
 use Rattle.model.specs.Codes.{Listed, TextListed, BatchListed}
 use Rattle.model.specs.Batch.{lineAnswers, batch}
-use Rattle.model.specs.Consistent.{flowsConsistent, consistent}
+use Rattle.model.specs.Consistent.{flowInRange, flowsConsistent, consistent}
 use Rattle.model.specs.Part.{Part}
+use Rattle.model.specs.AnyOrder.{AdmittedWhole, AnyOrder}
 use Rattle.model.specs.Outcomes.{NoneApplies, Decided, earlyFindings, NoRoom, Full}
 use Rattle.model.specs.WholeThresholds as before
-use Rattle.model.specs.Laws.Order.{call-readable, line-readable}
+use Rattle.model.specs.Laws.Order.{call-readable, line-readable, ranged}
 use Rattle.model.specs.Laws.Consistent.{flows-rules, rules-flows, flows-part}
 use Rattle.model.specs.Laws.Reached.{state-rules, rules-state, apply-keeps, reached}
+use Rattle.model.specs.Laws.AnyOrder.{registered-exactly, in-any-order}
 use Rattle.model.specs.Laws.WholeThresholds.{flows-less, order-same, lines-same}
 use Rattle.model.specs.Laws.Schedulable.{schedulable}
 use Rattle.model.specs.Laws.Decided.{decided, listed}
@@ -81,6 +84,24 @@ reached-consistent text calls = rules-state (final (opened text) calls) (reached
 -- After any list of calls on any table text no frame is late.
 pub reached-timely : (text : List ℕ) (calls : List Call) → let s = final (opened text) calls in Timely (s .table) (heldFlows (s .slots))
 reached-timely text calls = no-frame-late (final (opened text) calls) (reached-consistent text calls)
+
+-- W-205. From an empty registry, on any table text, registrations are all admitted exactly when their flows are consistent, which by `part-consistent` doesn't depend on
+-- their order.
+pub admitted-exactly : (text : List ℕ) (fs : List Flow) → All (λ f. flowInRange f ≡ true) fs
+    → All (λ a. a .code ≡ 0) (orderAnswers (opened text) (map register fs)) ↔ (flowsConsistent (opened text .table) fs ≡ true)
+admitted-exactly text fs range =
+    let (consistent, admitted) = registered-exactly text fs range in
+    (λ z. rules-flows (opened text .table) fs (consistent z), λ e. admitted (flows-rules (opened text .table) fs e))
+
+-- So where calls are registrations and all are admitted, every part of them is admitted in any order, and every order of them all leaves the same flows and figures;
+-- only the places go by the order, 1, 2, 3, .. as they come. The same of the lines of a batch.
+-- This is not so where not all are admitted (`worked-batches`, its last part): of 301 and 302 in the example hall the one that comes first keeps the
+-- other out, and a film keeps out two cameras that get in before it.
+pub any-order : (text : List ℕ) (calls : List Call) → AdmittedWhole callOrder (opened text) calls → AnyOrder callOrder (opened text) calls
+any-order text = in-any-order text callOrder (λ c. ranged (kindNumber (c .kind)) (callOrder c) (call-readable c))
+
+pub any-order-lines : (text : List ℕ) (ls : List Line) → AdmittedWhole orderLine (opened text) ls → AnyOrder orderLine (opened text) ls
+any-order-lines text = in-any-order text orderLine (λ l. let (kind, r) = line-readable l in ranged kind (orderLine l) r)
 
 -- Nothing admitted by whole thresholds, before W-208, is lost: a set of flows that was consistent by them is consistent.
 pub whole-consistent : (t : Table) (fs : List Flow) → before.flowsConsistent t fs ≡ true → flowsConsistent t fs ≡ true

@@ -1,20 +1,21 @@
--- Document 01, "Whole batch", worked out from the definitions; batches that show what counts as a line, which refusal comes first, and how bursts grow; and links that 42 judges.
+-- Document 01, "Whole batch", worked out from the definitions; batches that show what counts as a line, which refusal comes first, and how bursts grow; what the order of registrations decides;
+-- and links that 42 judges.
 -- By computation. Assumes nothing.
 use Prim.Native.Nat.{ℕ, zero, suc}
 use Prim.Native.Char.{code}
 use Prim.Native.String.{String, len, charAt}
 use mathlib.Core.Path.{_≡_, refl}
 use mathlib.Core.Bool.{true, false}
-use mathlib.Core.List.{List, [], _∷_, map}
+use mathlib.Core.List.{List, [], _∷_, map, flatten}
 use Rattle.model.specs.Words.{every, firstIndex, isNone, nth}
 use Rattle.model.specs.Columns.{isDigit, digits, number, field, fieldAt, padded, justified, between, prepend, lines}
 use Rattle.model.specs.QueueTable.{isRowLength, laterField, rowFields, row, bestEffortInRange, rowInRange, continues, begins, rowInTurn, sameLink, rowAgrees, rowCause, queueOf, newLink, addLevel, addRow, rowStep, lineStep, readLines, readTable}
-use Rattle.model.specs.Orders.{Flow, headFields, hopField, hopFields, pathFields, numberInRange, hopsInRange, headInRange, flowOf, withPath, registrationOf, registration, releaseOf, releaseLine, kindNumber, kindOfNumber, kindOrder, orderOfKind, readOrder, orderLine}
+use Rattle.model.specs.Orders.{Flow, Order, headFields, hopField, hopFields, pathFields, numberInRange, hopsInRange, headInRange, flowOf, withPath, registrationOf, registration, releaseOf, releaseLine, kindNumber, kindOfNumber, kindOrder, orderOfKind, readOrder, orderLine}
 use Rattle.model.specs.Total.{total, largest}
 use Rattle.model.specs.Formula.{ceilDiv, shortestSending, hopGrowth, burstAtHop, residual, withinRate, delayBound, backlogBound, blocking, interference, levelResidual, delay, backlog}
 use Rattle.model.specs.LinkCheck.{isEmpty, levelCode, orElse, levelsFinding, rateCode, linkFinding}
 use Rattle.model.specs.Aggregates.{linkAt, queueAt, thresholdOf, speedOf, fixedDelayOf, shares, allShares, sameHop, addsAt, sharesAt, aggregateAt, levelAggregates}
-use Rattle.model.specs.Reference.{heldFlows, heldHops, withNumber, crosses, pathDelay, firstCause, whole, atHop, start, end, noQueue, metEarlier, startsElsewhere, numberFinding, lineFindings, deadlineFinding, isHeld, roomFindings, linkCause, causeAt, linkFindings, registerFindings, findings, holds, refuse, fill, perform, decide, apply, tableOf, opened}
+use Rattle.model.specs.Reference.{heldFlows, heldHops, withNumber, crosses, pathDelay, firstCause, whole, atHop, start, end, noQueue, metEarlier, startsElsewhere, numberFinding, lineFindings, deadlineFinding, isHeld, roomFindings, linkCause, causeAt, linkFindings, registerFindings, findings, holds, refuse, fill, perform, decide, apply, orderAnswers, afterOrders, tableOf, opened}
 use Rattle.model.specs.Consistent.{rowOf, linkConsistent, headOf, flowInRange}
 use Rattle.model.specs.Outcomes.{earlyFindings}
 use Rattle.model.specs.WholeThresholds as before
@@ -59,6 +60,43 @@ growthFlows last =
     }
     ∷ record { number = 2; rate = 1; burst = 84; frame = 84; deadline = 2000; path = record { link = 3; level = 1 } ∷ [] }
     ∷ []
+
+-- The example hall's table, and order lines of it: the reject gate's command and the pictures for the packer.
+pub hallTable : String
+hallTable =
+    "   1   1   2   100 1    250     4000\n   1   1   2   100 2   1000    16000\n   2   2   3   100 1    250     4000\n   2   2   3   100 2   1500    24000\n   2   2   3   100 3   4000    40000\n   3   3   4   100 1    250     4000\n   3   3   4   100 2   1800    30000\n   3   3   4   100 3   4000    40000\n   4   4   5   100 1    120     2000\n   4   4   5   100 2   1000    16000\n   5   4   6  1000 1    100     8000    120 1542\n   5   4   6  1000 2    300    40000    120 1542\n   5   4   6  1000 3   2000   120000    120 1542\n   6   6   4  1000 1    100     8000    120 1542\n   6   6   4  1000 2    500    40000    120 1542\n   7   6   7  1000 1    500    60000\n   7   6   7  1000 2   2000   120000\n   8   5   6    10 1   3000     2000\n   8   5   6    10 2   8000     6000\n"
+
+pub gate : String
+gate = " 1   301      500     168   84     500  2   6 1   4 1\n"
+
+pub pictures : String
+pictures = " 1   302     2000    6000 1542    2000  1   4 2\n"
+
+-- A link of 100 Mbit/s; a film of 80 Mbit/s and two cameras of 20.
+pub filmTable : String
+filmTable = "   1   1   2   100 1   1000    16000\n"
+
+pub film : String
+film = " 1     1    80000    1542 1542    1000  1   1 1\n"
+
+pub camera : String
+camera = " 1     2    20000    1542 1542    1000  1   1 1\n"
+
+pub secondCamera : String
+secondCamera = " 1     3    20000    1542 1542    1000  1   1 1\n"
+
+-- The codes of order lines, one after the other from an empty registry, and the numbers of the flows held then, lowest place first.
+pub record Sorted : Type 0 where
+  pub codes : List ℕ
+  pub held : List ℕ
+
+unfoldable pub sorted : (table : String) (texts : List String) → Sorted
+sorted table texts =
+    let orders : List Order = map orderLine (flatten (map (λ text. lines (bytes text)) texts)) in
+    record {
+      codes = map (λ a. a .code) (orderAnswers (opened (bytes table)) orders);
+      held = map (λ f. f .number) (heldFlows (afterOrders (opened (bytes table)) orders .slots));
+    }
 
 pub workedBatches : List Worked
 workedBatches =
@@ -134,11 +172,28 @@ workedBatches =
     ∷ []
 
 -- The second and third part, by whole thresholds, before W-208: the codes of the last batch, and whether its flow, ending on link 5 or 2, is consistent beside another.
+-- The fourth, W-205: where not all are admitted the order decides who is held, 301 or 302, and how many, a film or two cameras; where all are, it decides their places.
 pub worked-batches : (map (λ w. w .worked) workedBatches ≡ map (λ w. w .given) workedBatches)
     × (map (λ a. a .code) (before.lineAnswers (opened (bytes growthTable)) (lines (bytes growthOrders))) ≡ 0 ∷ 0 ∷ 22 ∷ 22 ∷ 22 ∷ [])
     × (map (λ n. before.flowsConsistent (opened (bytes growthTable) .table) (growthFlows n)) (5 ∷ 2 ∷ []) ≡ true ∷ false ∷ [])
-unfolding workedBatches worked growthTable growthOrders bytes bytesFrom isDigit digits number field fieldAt padded justified between prepend lines isRowLength laterField rowFields row bestEffortInRange rowInRange continues begins rowInTurn sameLink rowAgrees rowCause queueOf newLink addLevel addRow rowStep lineStep readLines readTable headFields hopField hopFields pathFields numberInRange hopsInRange headInRange flowOf withPath registrationOf registration releaseOf releaseLine kindNumber kindOfNumber kindOrder orderOfKind readOrder orderLine total largest ceilDiv shortestSending hopGrowth burstAtHop residual withinRate delayBound backlogBound blocking interference levelResidual delay backlog isEmpty levelCode orElse levelsFinding rateCode linkFinding nth linkAt queueAt thresholdOf speedOf fixedDelayOf shares allShares sameHop addsAt sharesAt aggregateAt levelAggregates heldFlows heldHops withNumber crosses pathDelay firstCause whole atHop isNone start end noQueue metEarlier startsElsewhere numberFinding lineFindings deadlineFinding every isHeld roomFindings linkCause causeAt linkFindings registerFindings findings firstIndex holds refuse fill perform decide apply tableOf opened answerColumns answerLine lineAnswers answerText refusedBatch doneBatch tooLong tooShort afterTable batch earlyFindings before.shares before.allShares before.levelAggregates before.causeAt before.linkFindings before.findings before.apply before.lineAnswers before.flowConsistent before.flowsConsistent growthFlows flowInRange headOf
-worked-batches = (refl, refl, refl)
+    × (
+    sorted hallTable (gate ∷ pictures ∷ [])
+    ∷ sorted hallTable (pictures ∷ gate ∷ [])
+    ∷ sorted filmTable (film ∷ camera ∷ secondCamera ∷ [])
+    ∷ sorted filmTable (camera ∷ secondCamera ∷ film ∷ [])
+    ∷ sorted filmTable (camera ∷ secondCamera ∷ [])
+    ∷ sorted filmTable (secondCamera ∷ camera ∷ [])
+    ∷ []
+    ≡ record { codes = 0 ∷ 22 ∷ []; held = 301 ∷ [] }
+    ∷ record { codes = 0 ∷ 22 ∷ []; held = 302 ∷ [] }
+    ∷ record { codes = 0 ∷ 21 ∷ 21 ∷ []; held = 1 ∷ [] }
+    ∷ record { codes = 0 ∷ 0 ∷ 21 ∷ []; held = 2 ∷ 3 ∷ [] }
+    ∷ record { codes = 0 ∷ 0 ∷ []; held = 2 ∷ 3 ∷ [] }
+    ∷ record { codes = 0 ∷ 0 ∷ []; held = 3 ∷ 2 ∷ [] }
+    ∷ []
+    )
+unfolding hallTable gate pictures filmTable film camera secondCamera sorted flatten workedBatches worked growthTable growthOrders bytes bytesFrom isDigit digits number field fieldAt padded justified between prepend lines isRowLength laterField rowFields row bestEffortInRange rowInRange continues begins rowInTurn sameLink rowAgrees rowCause queueOf newLink addLevel addRow rowStep lineStep readLines readTable headFields hopField hopFields pathFields numberInRange hopsInRange headInRange flowOf withPath registrationOf registration releaseOf releaseLine kindNumber kindOfNumber kindOrder orderOfKind readOrder orderLine total largest ceilDiv shortestSending hopGrowth burstAtHop residual withinRate delayBound backlogBound blocking interference levelResidual delay backlog isEmpty levelCode orElse levelsFinding rateCode linkFinding nth linkAt queueAt thresholdOf speedOf fixedDelayOf shares allShares sameHop addsAt sharesAt aggregateAt levelAggregates heldFlows heldHops withNumber crosses pathDelay firstCause whole atHop isNone start end noQueue metEarlier startsElsewhere numberFinding lineFindings deadlineFinding every isHeld roomFindings linkCause causeAt linkFindings registerFindings findings firstIndex holds refuse fill perform decide apply tableOf opened answerColumns answerLine lineAnswers orderAnswers afterOrders answerText refusedBatch doneBatch tooLong tooShort afterTable batch earlyFindings before.shares before.allShares before.levelAggregates before.causeAt before.linkFindings before.findings before.apply before.lineAnswers before.flowConsistent before.flowsConsistent growthFlows flowInRange headOf
+worked-batches = (refl, refl, refl, refl)
 
 -- 42: the link of a registry that calls find may have these best-effort frames, 0, 84 and 1,542, and not the others.
 pub worked-links : map

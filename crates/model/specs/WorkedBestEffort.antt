@@ -17,7 +17,7 @@ use Rattle.model.specs.QueueTable.{Queue, Table, isRowLength, laterField
 use Rattle.model.specs.Orders.{Hop, Flow, headFields, hopField, hopFields, pathFields, numberInRange, hopsInRange, headInRange, flowOf, withPath, registrationOf, registration, kindNumber, kindOfNumber, kindOrder, orderOfKind, readOrder}
 use Rattle.model.specs.LinkCheck.{isEmpty, levelCode, orElse, levelsFinding, rateCode, linkFinding}
 use Rattle.model.specs.Aggregates.{linkAt, queueAt, thresholdOf, speedOf, fixedDelayOf, bestEffortOf, shares, allShares, sameHop, addsAt, sharesAt, aggregateAt, levelAggregates}
-use Rattle.model.specs.Reference.{State, heldFlows, heldHops, withNumber, crosses, pathDelay, firstCause, whole, start, end, noQueue, metEarlier, startsElsewhere, numberFinding, lineFindings, deadlineFinding, isHeld, roomFindings, linkCause, causeAt, linkFindings, registerFindings, findings, refuse, fill, perform, decide, apply, Call, lineOfKind, onlyLine, callOrder, step, tableOf, opened, final}
+use Rattle.model.specs.Reference.{State, heldFlows, heldHops, withNumber, crosses, pathDelay, firstCause, whole, start, end, noQueue, metEarlier, startsElsewhere, numberFinding, lineFindings, deadlineFinding, isHeld, roomFindings, linkCause, causeAt, linkFindings, registerFindings, findings, refuse, fill, perform, decide, apply, Call, lineOfKind, onlyLine, callOrder, step, tableOf, opened, afterOrders, final}
 use Rattle.model.specs.Reference as book
 use Rattle.model.specs.Run as run
 use Rattle.model.specs.Run.{Frame, Sends, Run, window, bytesOf, Conforming}
@@ -46,7 +46,7 @@ table =
     record { from = 1; to = 2; speed = 672; fixedDelay = 0; bestEffort = 84; levels = record { threshold = 3; buffer = 85 } ∷ [] } ∷ []
 
 pub the-state : (state .table ≡ table) × (heldFlows (state .slots) ≡ flows)
-unfolding text calls registers bytes bytesFrom isDigit digits number field fieldAt between prepend lines isRowLength laterField rowFields row bestEffortInRange rowInRange continues begins rowInTurn sameLink rowAgrees rowCause queueOf newLink addLevel addRow rowStep lineStep readLines readTable headFields hopField hopFields pathFields numberInRange hopsInRange headInRange flowOf withPath registrationOf registration kindNumber kindOfNumber kindOrder orderOfKind readOrder total largest ceilDiv shortestSending hopGrowth burstAtHop residual withinRate delayBound backlogBound blocking interference levelResidual delay backlog isEmpty levelCode orElse levelsFinding rateCode linkFinding nth linkAt queueAt thresholdOf speedOf fixedDelayOf shares allShares sameHop addsAt sharesAt aggregateAt levelAggregates heldFlows heldHops withNumber crosses pathDelay firstCause whole book.atHop isNone start end noQueue metEarlier startsElsewhere numberFinding lineFindings deadlineFinding every isHeld roomFindings linkCause causeAt linkFindings registerFindings findings firstIndex refuse fill perform decide apply lineOfKind onlyLine callOrder step tableOf opened final
+unfolding text calls registers bytes bytesFrom isDigit digits number field fieldAt between prepend lines isRowLength laterField rowFields row bestEffortInRange rowInRange continues begins rowInTurn sameLink rowAgrees rowCause queueOf newLink addLevel addRow rowStep lineStep readLines readTable headFields hopField hopFields pathFields numberInRange hopsInRange headInRange flowOf withPath registrationOf registration kindNumber kindOfNumber kindOrder orderOfKind readOrder total largest ceilDiv shortestSending hopGrowth burstAtHop residual withinRate delayBound backlogBound blocking interference levelResidual delay backlog isEmpty levelCode orElse levelsFinding rateCode linkFinding nth linkAt queueAt thresholdOf speedOf fixedDelayOf shares allShares sameHop addsAt sharesAt aggregateAt levelAggregates heldFlows heldHops withNumber crosses pathDelay firstCause whole book.atHop isNone start end noQueue metEarlier startsElsewhere numberFinding lineFindings deadlineFinding every isHeld roomFindings linkCause causeAt linkFindings registerFindings findings firstIndex refuse fill perform decide apply lineOfKind onlyLine callOrder step tableOf opened final afterOrders
 the-state = (refl, refl)
 
 -- With two slots a bit there are 1344 from instant to instant, as many as 84 bytes take. A best-effort frame is offered in the last one before

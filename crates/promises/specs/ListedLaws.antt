@@ -10,7 +10,7 @@ use Rattle.model.specs.Words.{Pairs, ends, pair}
 use Rattle.model.specs.Columns.{Line, lines}
 use Rattle.model.specs.QueueTable.{Table, TableText}
 use Rattle.model.specs.Orders.{orderLine}
-use Rattle.model.specs.Reference.{State, Answer, Call, callOrder, apply, opened, final}
+use Rattle.model.specs.Reference.{State, Answer, Call, callOrder, apply, orderAnswers, opened, afterOrders, final}
 use Rattle.model.specs.Consistent.{consistent}
 use Rattle.model.specs.Codes.{callCodes, Listed, TextListed, BatchListed}
 use Rattle.model.specs.Batch.{Batch, lineAnswers}
@@ -69,7 +69,7 @@ call-listed before c called p =
         absurd (d (List·Memᴰ·head (ap (λ (a : Answer). a .code) (spoilt (λ kept. d (List·Memᴰ·tail (listed-code _ _ _ (listed kept)))) .0))))
 
 lines-listed : (s : State) → consistent s ≡ true → (t : Table) → s .table ≡ t → (ls : List Line) → Pairs (LineListed t) ls (lineAnswers s ls)
-unfolding lineAnswers
+unfolding lineAnswers orderAnswers
 lines-listed s ok t e [] = ends
 lines-listed s ok t e (l ∷ ls) =
     let listed = subst (λ (t : Table). Listed t (orderLine l) (apply s (orderLine l) .answer)) e (line-listed s ok l) in
@@ -77,7 +77,7 @@ lines-listed s ok t e (l ∷ ls) =
     (lines-listed (apply s (orderLine l) .next) (line-consistent s ok l) t (same-table s (orderLine l) ∙ e) ls)
 
 pub batch-listed : (table orders area area′ : List ℕ) (r : BatchResult) → Batched table orders area area′ r → BatchAnswers table orders area area′ r
-unfolding final
+unfolding final afterOrders
 batch-listed table orders area area′ r batched =
     let (listed, unwritten) = results.batch-listed table orders area in
     let returned : BatchListed table orders (r .code) (r .line) =

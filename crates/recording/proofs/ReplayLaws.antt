@@ -8,7 +8,7 @@ use lib.ListN.{length, drop}
 use Rattle.model.specs.QueueTable.{Table, readTable, accepted}
 use Rattle.model.specs.Orders.{Order, register, release, rejected}
 use Rattle.model.specs.Reference as model
-use Rattle.model.specs.Reference.{State, Cause, Call, apply, decide, perform, refuse, fill, firstCause, findings, callOrder, step, opened, final}
+use Rattle.model.specs.Reference.{State, Cause, Call, apply, decide, perform, refuse, fill, firstCause, findings, callOrder, step, opened, afterOrders, final}
 use Rattle.queue_table.specs.declared.Verdict.{Verdict}
 use Rattle.queue_table.specs.declared.Verdict.the-variants.{Accepted, Refused}
 use Rattle.queue_table.specs.View.{tableOf, textOf}
@@ -28,7 +28,7 @@ decided-table s (release n) (some c) = refl
 decided-table s (rejected code) (some c) = refl
 
 final-table : (s : State) (calls : List Call) → final s calls .table ≡ s .table
-unfolding final step apply
+unfolding final afterOrders step apply
 final-table s [] = refl
 final-table s (c ∷ calls) = final-table (step s c .next) calls ∙ decided-table s (callOrder c) (firstCause (findings s (callOrder c)))
 

@@ -1,9 +1,9 @@
 -- The mission's third line over what the contracts promise: any table text, and any list of calls on the registry opened on it.
--- That it holds is `claim` in `ClaimLaws`.
+-- That it holds is `claim` in `ClaimLaws`. And what the order of registrations doesn't change (W-205).
 use Prim.Native.Nat.{ℕ, _<_}
 use mathlib.Core.Path.{_≡_}
 use mathlib.Core.Logic.{_↔_}
-use mathlib.Core.List.{List, [], _∷_, map}
+use mathlib.Core.List.{List, [], _∷_, map, List·Permᴰ}
 use Rattle.model.specs.Words.{All}
 use Rattle.model.specs.Sizes.{queuesMost}
 use Rattle.model.specs.Orders.{Flow, register, registering}
@@ -12,13 +12,16 @@ use Rattle.model.specs.Reference as model
 use Rattle.model.specs.Reference.{State, Call, heldFlows, callOrder, opened, final}
 use Rattle.model.specs.Outcomes.{NoneApplies, earlyFindings, NoRoom, Full}
 use Rattle.model.specs.Timely.{Timely}
+use Rattle.model.specs.Part.{Part}
+use Rattle.model.specs.AnyOrder.{HeldInTurn, SameFlows}
 use Rattle.queue_table.specs.View.{hopAt}
 use Rattle.figures.specs.View.{figureAt}
 use Rattle.admission.specs.declared.Answer.{Answer}
 use Rattle.registry.specs.declared.Registry.{Registry}
+use Rattle.registry.specs.declared.Opened.{Opened}
 use Rattle.registry.specs.declared.Called.{Called}
 use Rattle.admission.specs.View.{answerOf}
-use Rattle.registry.specs.View.{stateIn, Consistent, callOf, Performs}
+use Rattle.registry.specs.View.{stateIn, Consistent, OpensOn, callOf, Performs}
 
 -- Call after call, each on the registry that the one before left, nobody else writing it.
 pub data Chain : (first : Registry) (calls : List Call) (answers : List Answer) (last : Registry) → Type 0 where
@@ -56,3 +59,16 @@ pub record Claimed (text : List ℕ) (calls : List Call) (answers : List Answer)
   pub is-consistent : Consistent last
   pub never-spoilt : All NotSpoilt answers
   pub next-not-spoilt : (c : Call) (called : Called) → Performs last c called → NotSpoilt (called .answer)
+
+-- W-205, of calls on a registry opened on the text that were registrations, all admitted, and left `last`. That it holds is `any-order` in `ClaimLaws`.
+pub record InAnyOrder (text : List ℕ) (calls : List Call) (last : Registry) : Type 0 where
+  -- Every part of them, made in any order on any registry opened on the text, is admitted, and held in turn.
+  pub part : {o : Opened} {other : List Call} {answers : List Answer} {last′ : Registry} → OpensOn text o → Chain (o .registry) other answers last′
+      → Part other calls
+      → HeldInTurn (map callOrder other) (map answerOf answers) (stateIn last′)
+  -- So is every order of them all, which leaves the same flows and the same figures.
+  pub order : {o : Opened} {other : List Call} {answers : List Answer} {last′ : Registry} → OpensOn text o → Chain (o .registry) other answers last′
+      → List·Permᴰ other calls
+      → HeldInTurn (map callOrder other) (map answerOf answers) (stateIn last′)
+      × SameFlows (stateIn last′) (stateIn last)
+      × ((e : ℕ) → e < queuesMost → figureAt (last′ .sums) e ≡ figureAt (last .sums) e)

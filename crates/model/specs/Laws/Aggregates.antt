@@ -1,16 +1,16 @@
--- The aggregates of a part of the flows are at most those of all, and a flow that doesn't cross a link adds nothing there.
+-- The aggregates of a part of the flows are at most those of all, in another order they are the same, and a flow that doesn't cross a link adds nothing there.
 -- The shares of all flows are the flows' own shares one after the other, so the laws of sums apply flow by flow. Assumes nothing.
 use Prim.Native.Nat.{ℕ, suc, _+_, _≤_, max}
 use mathlib.Core.Path.{_≡_, refl, ap, sym, _∙_}
 use mathlib.Core.Bool.{true, false}
-use mathlib.Core.List.{List, [], _∷_, _++_}
+use mathlib.Core.List.{List, [], _∷_, _++_, List·Permᴰ, Permᴰ·symm}
 use native.Mathlib.Omega.{arith}
 use lib.Dec.{eqb}
 use borrow.Author.Tests.{eqb-true, eqb-false, eq-eqb, ne-eqb}
 use Rattle.model.specs.Words.{Pairs, ends, pair, All}
 use Rattle.model.specs.Total.{total, largest}
 use Rattle.model.specs.Part.{Part}
-use Rattle.model.specs.Laws.Total.{total-append, largest-append, total-part, largest-part, total-zero, largest-zero}
+use Rattle.model.specs.Laws.Total.{perm-part, total-append, largest-append, total-part, largest-part, total-zero, largest-zero}
 use Rattle.model.specs.Formula.{Aggregate}
 use Rattle.model.specs.Laws.Formula.{AtMost}
 use Rattle.model.specs.QueueTable.{Queue, Table}
@@ -55,6 +55,21 @@ module _ (t : Table) where
 
       most : (m : Aggregate → ℕ) → largest (addsAt q m) (allShares t part) ≤ largest (addsAt q m) (allShares t fs)
       most m = rw (largest-all (addsAt q m) part, largest-all (addsAt q m) fs) (largest-part _ p)
+
+  -- In another order they are the same.
+  pub aggregate-perm : {fs fs′ : List Flow} → List·Permᴰ fs fs′ → (q : Hop) → aggregateAt t fs q ≡ aggregateAt t fs′ q
+  aggregate-perm {fs} {fs′} p q =
+      λ i. record { rate = same (λ a. a .rate) (most .rate) (least .rate) i; burst = same (λ a. a .burst) (most .burst) (least .burst) i; frame = same (λ a. a .frame) (most .frame) (least .frame) i }
+    where
+      most : AtMost (aggregateAt t fs q) (aggregateAt t fs′ q)
+      most = aggregate-part (perm-part p) q
+
+      least : AtMost (aggregateAt t fs′ q) (aggregateAt t fs q)
+      least = aggregate-part (perm-part (Permᴰ·symm p)) q
+
+      same : (m : Aggregate → ℕ) → m (aggregateAt t fs q) ≤ m (aggregateAt t fs′ q) → m (aggregateAt t fs′ q) ≤ m (aggregateAt t fs q)
+          → m (aggregateAt t fs q) ≡ m (aggregateAt t fs′ q)
+      same m h k = omega arith
 
   -- What holds of the aggregates at each queue of a link holds level by level.
   pub level-pairs : (fs fs′ : List Flow) (link : ℕ)

@@ -95,7 +95,7 @@ Ranged (register f) = flowInRange f ≡ true
 Ranged (release n) = Unit {0}
 Ranged (rejected code) = Unit {0}
 
-ranged : (kind : ℕ) (o : Order) → Readable kind o → Ranged o
+pub ranged : (kind : ℕ) (o : Order) → Readable kind o → Ranged o
 ranged kind (register f) r = r .1
 ranged kind (release n) r = tt
 ranged kind (rejected code) r = tt

@@ -1,27 +1,27 @@
 -- Every state reached from any table text by any list of calls is consistent. A refusal leaves the state; an admission's causes are the rules for
 -- one flow more; a release leaves a part. Assumes nothing.
-use Prim.Native.Nat.{ℕ, zero, suc}
-use mathlib.Core.Path.{_≡_, refl, _∙_}
-use mathlib.Core.Bool.{true, _&&_}
+use Prim.Native.Nat.{ℕ, zero, suc, _+_, _≤_, _<_}
+use mathlib.Core.Path.{_≡_, refl, subst, _∙_}
+use mathlib.Core.Bool.{Bool, true, false, cond, _&&_}
 use mathlib.Core.List.{List, [], _∷_}
 use mathlib.Core.Option.{Option, none, some}
 use native.Mathlib.Omega.{arith}
 use lib.ListN.{length, replicate, length-set, length-replicate}
 use lib.Dec.{eqb}
-use borrow.Author.Tests.{eqb-true, eq-eqb}
-use Rattle.model.specs.Words.{firstIndex, isNone}
+use borrow.Author.Tests.{eqb-true, eq-eqb, lt-leb, le-ltb}
+use Rattle.model.specs.Words.{every, firstIndex, isNone}
 use Rattle.model.specs.Total.{total}
 use Rattle.model.specs.Orders.{Flow, Order, register, release, rejected, kindNumber}
-use Rattle.model.specs.Sizes.{slotCount}
-use Rattle.model.specs.Reference.{Slot, State, Cause, Call, heldFlows, heldHops, withNumber, holds, firstCause, findings, refuse, fill, perform, decide, apply, callOrder, step, opened, final}
-use Rattle.model.specs.Laws.Finding.{none-applies}
-use Rattle.model.specs.Laws.LinkMeets.{findings-meet}
-use Rattle.model.specs.Laws.Slot.{not-all-held, fill-part, clear-part}
+use Rattle.model.specs.Sizes.{slotCount, hopEntries}
+use Rattle.model.specs.Reference.{Slot, State, Cause, Call, heldFlows, heldHops, withNumber, isHeld, holds, firstCause, numberFinding, roomFindings, findings, refuse, fill, perform, decide, apply, callOrder, step, opened, afterOrders, final}
+use Rattle.model.specs.Laws.Finding.{none-applies, none-whole}
+use Rattle.model.specs.Laws.LinkMeets.{findings-meet, meet-findings}
+use Rattle.model.specs.Laws.Slot.{all-held, not-all-held, fill-part, clear-part}
 use Rattle.model.specs.Laws.Order.{Readable, call-readable}
 use Rattle.model.specs.Laws.Table.{table-consistent}
 use Rattle.model.specs.Laws.Test.{and-both, both-and}
 use Rattle.model.specs.Consistent.{tableConsistent, flowInRange, consistent}
-use Rattle.model.specs.Laws.Consistent.{FlowRules, FlowsRules, flows-rules, rules-flows, flows-part, flows-more}
+use Rattle.model.specs.Laws.Consistent.{FlowsRules, flows-rules, rules-flows, flows-part, flows-more}
 use Rattle.model.specs.Laws.Reference.{RegisterRules, register-rules, number-new, slot-free, hops-free}
 
 -- What a consistent state meets.
@@ -60,36 +60,64 @@ opened-rules text =
       flows = no-flows (opened text) (none-held slotCount);
     }
 
+-- There is no cause against a registration that was read exactly when the held flows with the new one are consistent.
+module _ (s : State) (f : Flow) (size : length (s .slots) ≡ slotCount) where
+  abbrev with-new : List Flow
+  with-new = f ∷ heldFlows (s .slots)
+
+  pub rules-more : flowInRange f ≡ true → FlowsRules (s .table) (heldFlows (s .slots)) → RegisterRules s f → FlowsRules (s .table) with-new
+  unfolding withNumber total
+  rules-more range r m =
+      flows-more
+      (s .table)
+      f
+      (heldFlows (s .slots))
+      r
+      (omega (arith, not-all-held (s .slots) (slot-free (s .slots) f (m .others .room)), size))
+      (hops-free (s .slots) f (m .others .room))
+      (number-new (heldFlows (s .slots)) f (m .others .number))
+      (
+      record {
+        range = range;
+        number = rw (eq-eqb (f .number) (f .number) refl) (omega (arith, number-new (heldFlows (s .slots)) f (m .others .number)));
+        line = m .others .line;
+        deadline = m .deadline;
+        links = findings-meet (s .table) with-new (f .path) (m .links);
+      }
+      )
+
+  pub more-rules : FlowsRules (s .table) with-new → RegisterRules s f
+  unfolding withNumber heldHops total numberFinding roomFindings
+  more-rules r =
+      record {
+        others =
+            record {
+              number = none-whole 12 _ (lt-leb 1 _ other);
+              line = r .flows .0 .line;
+              room = (none-whole 30 _ (free (every isHeld (s .slots)) refl), (none-whole 31 _ (le-ltb _ _ entries), tt));
+            };
+        deadline = r .flows .0 .deadline;
+        links = meet-findings (s .table) with-new (f .path) (r .flows .0 .links);
+      }
+    where
+      other : withNumber (f .number) (heldFlows (s .slots)) < 1
+      other = omega (arith, subst (λ b. cond b 1 0 + withNumber (f .number) (heldFlows (s .slots)) ≤ 1) (eq-eqb (f .number) (f .number) refl) (r .flows .0 .number))
+
+      entries : heldHops (heldFlows (s .slots)) + length (f .path) ≤ hopEntries
+      entries = omega (arith, r .hops)
+
+      free : (b : Bool) → every isHeld (s .slots) ≡ b → b ≡ false
+      free true e = absurd (omega (arith, all-held (s .slots) e, size, r .slots))
+      free false e = refl
+
 register-keeps : (s : State) (f : Flow) → flowInRange f ≡ true → RegisterRules s f → StateRules s → StateRules (perform s (register f) .next)
-unfolding perform fill withNumber total
+unfolding perform fill
 register-keeps s f range m r =
     record {
       table = r .table;
       size = length-set (s .slots) (firstIndex isNone (s .slots)) (some f) ∙ r .size;
-      flows = flows-part (s .table) (fill-part f (s .slots) (slot-free (s .slots) f (m .others .room))) more;
+      flows = flows-part (s .table) (fill-part f (s .slots) (slot-free (s .slots) f (m .others .room))) (rules-more s f (r .size) range (r .flows) m);
     }
-  where
-    new : FlowRules (s .table) (f ∷ heldFlows (s .slots)) f
-    new =
-        record {
-          range = range;
-          number = rw (eq-eqb (f .number) (f .number) refl) (omega (arith, number-new (heldFlows (s .slots)) f (m .others .number)));
-          line = m .others .line;
-          deadline = m .deadline;
-          links = findings-meet (s .table) (f ∷ heldFlows (s .slots)) (f .path) (m .links);
-        }
-
-    more : FlowsRules (s .table) (f ∷ heldFlows (s .slots))
-    more =
-        flows-more
-        (s .table)
-        f
-        (heldFlows (s .slots))
-        (r .flows)
-        (omega (arith, not-all-held (s .slots) (slot-free (s .slots) f (m .others .room)), r .size))
-        (hops-free (s .slots) f (m .others .room))
-        (number-new (heldFlows (s .slots)) f (m .others .number))
-        new
 
 pub clear-keeps : (s : State) (i : ℕ) → StateRules s → StateRules (fill s i none .next)
 unfolding fill
@@ -111,7 +139,7 @@ apply-keeps s o kind p r = go o p (firstCause (findings s o)) refl
     go (rejected code) p none e = r
 
 pub final-keeps : (s : State) (calls : List Call) → StateRules s → StateRules (final s calls)
-unfolding final step
+unfolding final afterOrders step
 final-keeps s [] r = r
 final-keeps s (c ∷ calls) r = final-keeps (step s c .next) calls (apply-keeps s (callOrder c) (kindNumber (c .kind)) (call-readable c) r)
 

@@ -1,7 +1,7 @@
 -- Laws of sums and largest values over any element type and measure: of lists joined, mapped or in another order,
 -- of a part, of one element, of lists or measures compared element by element. Each is an induction. Assumes nothing.
 use Prim.Native.Nat.{ℕ, zero, suc, _+_, _*_, _≤_, max, zero-le}
-use mathlib.Core.Path.{_≡_, refl, sym, ap, fun-ext, _∙_}
+use mathlib.Core.Path.{_≡_, refl, sym, ap, fun-ext, subst, _∙_}
 use mathlib.Core.Bool.{Bool, true, false, cond}
 use mathlib.Core.List.{List, [], _∷_, _++_, map, reverse, reverseAux, List·Permᴰ, List·Permᴰ·nil, List·Permᴰ·cons, List·Permᴰ·swap, List·Permᴰ·trans}
 use native.Mathlib.Nat.{le-trans, zero-add}
@@ -17,6 +17,26 @@ module _ {A : Type 0} where
   pub part-refl : (l : List A) → Part l l
   part-refl [] = empty
   part-refl (x ∷ l) = keep (part-refl l)
+
+  pub perm-part : {l m : List A} → List·Permᴰ l m → Part l m
+  perm-part List·Permᴰ·nil = empty
+  perm-part (List·Permᴰ·cons {a} {l₁ = l} {l₂ = m} e p) = subst (λ (x : A). Part (a ∷ l) (x ∷ m)) e (keep (perm-part p))
+  perm-part (List·Permᴰ·swap {a} {b} {a′} {l = l} e₁ e₂) =
+      subst (λ (y : A). Part (a ∷ b ∷ l) (a′ ∷ y ∷ l)) e₁ (subst (λ (x : A). Part (a ∷ b ∷ l) (x ∷ a ∷ l)) e₂ swap)
+  perm-part (List·Permᴰ·trans p q) = both (perm-part p) (perm-part q)
+
+  pub part-map : {B : Type 0} (f : A → B) {l m : List A} → Part l m → Part (map f l) (map f m)
+  part-map f empty = empty
+  part-map f (skip p) = skip (part-map f p)
+  part-map f (keep p) = keep (part-map f p)
+  part-map f swap = swap
+  part-map f (both p q) = both (part-map f p) (part-map f q)
+
+  pub perm-map : {B : Type 0} (f : A → B) {l m : List A} → List·Permᴰ l m → List·Permᴰ (map f l) (map f m)
+  perm-map f List·Permᴰ·nil = List·Permᴰ·nil
+  perm-map f (List·Permᴰ·cons e p) = List·Permᴰ·cons (ap f e) (perm-map f p)
+  perm-map f (List·Permᴰ·swap e₁ e₂) = List·Permᴰ·swap (ap f e₁) (ap f e₂)
+  perm-map f (List·Permᴰ·trans p q) = List·Permᴰ·trans (perm-map f p) (perm-map f q)
 
   pub length-part : {l m : List A} → Part l m → length l ≤ length m
   length-part empty = zero-le

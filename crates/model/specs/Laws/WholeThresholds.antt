@@ -23,7 +23,7 @@ use Rattle.model.specs.Orders.{Hop, Flow, Order, register, release, reje
 use Rattle.model.specs.LinkCheck.{Finding}
 use Rattle.model.specs.Laws.LinkCheck.{link-mono}
 use Rattle.model.specs.Aggregates.{Share, linkAt, queueAt, thresholdOf, speedOf, source, grown, growth, shares, allShares, sameHop, addsAt, sharesAt, aggregateAt, levelAggregates}
-use Rattle.model.specs.Reference.{State, Cause, Answer, Outcome, heldFlows, withNumber, firstCause, lineFindings, deadlineFinding, roomFindings, linkCause, causeAt, linkFindings, registerFindings, findings, refuse, decide, apply}
+use Rattle.model.specs.Reference.{State, Cause, Answer, Outcome, heldFlows, withNumber, firstCause, lineFindings, deadlineFinding, roomFindings, linkCause, causeAt, linkFindings, registerFindings, findings, refuse, decide, apply, orderAnswers}
 use Rattle.model.specs.Outcomes.{earlyFindings}
 use Rattle.model.specs.Consistent.{flowInRange, flowConsistent, flowsConsistent}
 use Rattle.model.specs.Batch.{lineAnswers}
@@ -144,7 +144,7 @@ order-same s (release n) z = refl
 order-same s (rejected code) z = refl
 
 pub lines-same : (s : State) (ls : List Line) → All (λ a. a .code ≡ 0) (before.lineAnswers s ls) → lineAnswers s ls ≡ before.lineAnswers s ls
-unfolding lineAnswers before.lineAnswers
+unfolding lineAnswers orderAnswers before.lineAnswers
 lines-same s [] z = refl
 lines-same s (l ∷ ls) z =
     ap (λ (out : Outcome). out .answer ∷ lineAnswers (out .next) ls) (order-same s (orderLine l) (z .0))
