@@ -8,7 +8,6 @@ use lib.ListN.{length, replicate}
 use Rattle.model.specs.Words.{All}
 use Rattle.model.specs.Sizes.{slotCount}
 use Rattle.model.specs.Part.{Part}
-use Rattle.model.specs.QueueTable.{Table}
 use Rattle.model.specs.Orders.{Hop, Flow, Order, register}
 use Rattle.model.specs.Aggregates.{aggregateAt}
 use Rattle.model.specs.Reference.{Slot, State, Answer, heldFlows, withNumber, orderAnswers, afterOrders}

@@ -1,10 +1,10 @@
--- What holds of each element of lists joined, mapped, reversed or in another order, and of one of them, by membership or index.
+-- What holds of each element of lists joined, mapped or reversed, and of one of them, by membership or index.
 -- By induction on the list. Assumes nothing.
 use Rattle.model.specs.Words.{All, filter}
 use Prim.Native.Nat.{ℕ, zero, suc, _<_}
 use mathlib.Core.Path.{_≡_, refl, subst, sym}
 use mathlib.Core.Bool.{Bool, true, false, cond}
-use mathlib.Core.List.{List, [], _∷_, _++_, map, reverse, reverseAux, List·Memᴰ, List·Memᴰ·head, List·Memᴰ·tail, List·Permᴰ, List·Permᴰ·nil, List·Permᴰ·cons, List·Permᴰ·swap, List·Permᴰ·trans}
+use mathlib.Core.List.{List, [], _∷_, _++_, map, reverse, reverseAux, List·Memᴰ, List·Memᴰ·head, List·Memᴰ·tail}
 use mathlib.Core.Option.{some, Option·none-ne-some, Option·some-injective}
 use native.Mathlib.Omega.{arith}
 use lib.ListN.{length, getD, getElem?}
@@ -45,12 +45,6 @@ module _ {A : Type 0} (P : A → Type 0) where
   pub member-all : (l : List A) → ((x : A) → List·Memᴰ x l → P x) → All P l
   member-all [] h = tt
   member-all (x ∷ l) h = (h x (List·Memᴰ·head refl), member-all l (λ y m. h y (List·Memᴰ·tail m)))
-
-  pub all-perm : {l m : List A} → List·Permᴰ l m → All P m → All P l
-  all-perm List·Permᴰ·nil a = tt
-  all-perm (List·Permᴰ·cons e p) a = (subst P (sym e) (a .0), all-perm p (a .1))
-  all-perm (List·Permᴰ·swap e₁ e₂) a = (subst P (sym e₁) (a .1 .0), (subst P (sym e₂) (a .0), a .1 .1))
-  all-perm (List·Permᴰ·trans p q) a = all-perm p (all-perm q a)
 
   pub map-all : {B : Type 0} (f : B → A) (l : List B) → All (λ b. P (f b)) l → All P (map f l)
   map-all f [] a = tt

@@ -1,7 +1,7 @@
 -- A batch on an accepted table is done exactly when neither 41 nor 40 is against it. A text whose lines all end in LF is as long as they are with their LFs. Test by test,
 -- and by induction on the text. Assumes nothing.
 use Prim.Native.Nat.{ℕ, suc, _*_, _≤_}
-use mathlib.Core.Path.{_≡_, refl, ap, sym, subst, _∙_}
+use mathlib.Core.Path.{_≡_, refl, subst}
 use mathlib.Core.Bool.{Bool, true, false, cond}
 use mathlib.Core.List.{List, [], _∷_}
 use native.Mathlib.Omega.{arith}
@@ -15,7 +15,7 @@ use Rattle.model.specs.Laws.Test.{or-neither}
 use Rattle.model.specs.Columns.{Line, ended, unended, prepend, lines}
 use Rattle.model.specs.QueueTable.{Table, TableText, accepted, readTable}
 use Rattle.model.specs.Reference.{opened}
-use Rattle.model.specs.Batch.{Batch, refusedBatch, doneBatch, tooLong, tooShort, afterTable, batch}
+use Rattle.model.specs.Batch.{refusedBatch, doneBatch, tooLong, tooShort, afterTable, batch}
 use Rattle.model.specs.Laws.Codes.{returned-done}
 
 -- Neither 41 nor 40.

@@ -1,9 +1,9 @@
 -- Laws of sums and largest values over any element type and measure: of lists joined, mapped or in another order,
 -- of a part, of one element, of lists or measures compared element by element. Each is an induction. Assumes nothing.
 use Prim.Native.Nat.{ℕ, zero, suc, _+_, _*_, _≤_, max, zero-le}
-use mathlib.Core.Path.{_≡_, refl, sym, ap, fun-ext, subst, _∙_}
+use mathlib.Core.Path.{_≡_, refl, sym, ap, fun-ext, subst}
 use mathlib.Core.Bool.{Bool, true, false, cond}
-use mathlib.Core.List.{List, [], _∷_, _++_, map, reverse, reverseAux, List·Permᴰ, List·Permᴰ·nil, List·Permᴰ·cons, List·Permᴰ·swap, List·Permᴰ·trans}
+use mathlib.Core.List.{List, [], _∷_, _++_, map, reverse, reverseAux, List·Permᴰ, List·Permᴰ·nil, List·Permᴰ·cons, List·Permᴰ·swap, List·Permᴰ·trans, Permᴰ·symm}
 use native.Mathlib.Nat.{le-trans, zero-add}
 use lib.ListN.{length, drop}
 use lib.Seq.{drop-nil}
@@ -84,13 +84,6 @@ module _ {A : Type 0} where
       go true e = omega arith
       go false e = omega arith
 
-  pub total-perm : (f : A → ℕ) {l m : List A} → List·Permᴰ l m → total f l ≡ total f m
-  unfolding total
-  total-perm f List·Permᴰ·nil = refl
-  total-perm f (List·Permᴰ·cons e p) = omega (arith, ap f e, total-perm f p)
-  total-perm f (List·Permᴰ·swap e₁ e₂) = omega (arith, ap f e₁, ap f e₂)
-  total-perm f (List·Permᴰ·trans p q) = total-perm f p ∙ total-perm f q
-
   total-reverseAux : (f : A → ℕ) (l m : List A) → total f (reverseAux l m) ≡ total f l + total f m
   unfolding total
   total-reverseAux f [] m = sym (zero-add (total f m))
@@ -122,6 +115,9 @@ module _ {A : Type 0} where
   total-part f (keep p) = omega (arith, total-part f p)
   total-part f swap = omega arith
   total-part f (both p q) = le-trans (total-part f p) (total-part f q)
+
+  pub total-perm : (f : A → ℕ) {l m : List A} → List·Permᴰ l m → total f l ≡ total f m
+  total-perm f p = omega (arith, total-part f (perm-part p), total-part f (perm-part (Permᴰ·symm p)))
 
   pub largest-part : (f : A → ℕ) {l m : List A} → Part l m → largest f l ≤ largest f m
   unfolding largest

@@ -13,7 +13,8 @@ use Rattle.model.specs.Aggregates.{linkAt, speedOf, fixedDelayOf}
 use Rattle.model.specs.Laws.Aggregates.{same-hop}
 use Rattle.model.specs.Run.{Frame, Run, hopOf, next, handedOn, moving, isAt, reaching, enter, emptyLink}
 use Rattle.model.specs.Delivery.{onCable}
-use Rattle.model.specs.Laws.All.{all-imp, all-append, map-all, all-perm, filter-all, member-all}
+use Rattle.model.specs.Laws.Total.{perm-part, all-part}
+use Rattle.model.specs.Laws.All.{all-imp, all-append, map-all, filter-all, member-all}
 use Rattle.model.specs.Laws.Run.Cables.{since-all, handed-all}
 use Rattle.model.specs.Laws.Run.OneLink.{Each}
 use Rattle.model.specs.Laws.Run.EachFrame.{interval-each, enter-each, empty-each, interval-count, append-count}
@@ -50,7 +51,7 @@ module _ (t : Table) (fs : List Flow) (r : Run t fs) where
       → (n level : ℕ) → All (λ f. P f × (hopOf fs f ≡ some (hop n level))) (r .arrivals x n level)
   unfolding reaching
   arrivals-all P x a n level =
-      all-perm (λ f. P f × (hopOf fs f ≡ some (hop n level))) (r .anyOrder x (hop n level))
+      all-part (λ f. P f × (hopOf fs f ≡ some (hop n level))) (perm-part (r .anyOrder x (hop n level)))
       (all-imp (reaching fs (hop n level) (moved r x)) (λ f p. (p .0, at-hop (hop n level) (hopOf fs f) (p .1)))
       (filter-all P (λ f. isAt (hop n level) (hopOf fs f)) (moved r x) a))
 
