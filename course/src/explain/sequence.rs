@@ -41,7 +41,7 @@ impl Sequence {
             ),
             false => format!(
                 "lines 1 to {lines}: their order can matter
-    Admitted: {admitted} of {lines}. Where not all are, another order may let others in, more or fewer.
+    Admitted: {admitted} of {lines}. Where not all are, no order gets all of them in, but another may let others in, more or fewer.
 "
             ),
         })
