@@ -95,9 +95,10 @@ pub fn run(seed: u64, count: u64, judges: &Judges) -> Result<Report, String> {
             queues: &registry.queues,
             judges,
         };
-        hall.whole_lists(&mut rng, held_after(registry.clone(), &lines), &mut report)
+        let held = held_after(registry.clone(), &lines);
+        hall.whole_lists(&mut rng, held, &mut report)
+            .and_then(|()| hall.refused_lists(&mut rng, set_of(&lines), &mut report))
             .map_err(|what| format!("seed {seed} hall {index}: {what}"))?;
-        hall.refused_lists(&mut rng, set_of(&lines), &mut report);
     }
     Ok(report)
 }
@@ -217,22 +218,31 @@ impl Hall<'_> {
         Left { links, flows }
     }
 
-    /// What isn't promised: of a list with refusals another order may let in others, or more.
-    fn refused_lists(&self, rng: &mut Rng, mut flows: Vec<Flow>, report: &mut Report) {
+    /// Of a list with refusals no order lets in all. What isn't promised: another may let in others, or more.
+    fn refused_lists(
+        &self,
+        rng: &mut Rng,
+        mut flows: Vec<Flow>,
+        report: &mut Report,
+    ) -> Result<(), String> {
         let first = self.let_in(&flows);
         if first.len() == flows.len() {
-            return;
+            return Ok(());
         }
         let (mut others, mut more) = (false, false);
         for _ in 0..ORDERS {
             rng.shuffle(&mut flows);
             let other = self.let_in(&flows);
+            if other.len() == flows.len() {
+                return Err("another order of a list with refusals lets in all".to_string());
+            }
             others |= other != first;
             more |= other.len() > first.len();
         }
         report.refused += 1;
         report.others += u64::from(others);
         report.more += u64::from(more);
+        Ok(())
     }
 
     /// The numbers of the flows that a list lets in.
