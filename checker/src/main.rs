@@ -1,7 +1,8 @@
 //! The checker's commands.
 
+use checker::sequences::{only_the_first_grows, Judges};
 use checker::sim::Fault;
-use checker::{bench, compare, lists, simulate, vectors};
+use checker::{bench, compare, lists, sequences, simulate, vectors};
 use halls::tables::{Bounds, Count};
 use std::io::Write;
 use std::path::Path;
@@ -12,6 +13,7 @@ const USAGE: &str = "usage:
   checker replay                    (table.txt and calls.txt)
   checker vectors DIR
   checker compare --seed S --count N [--long]
+  checker sequences --seed S --count N
   checker simulate --seed S --count N
   checker compare-replay PROGRAM --seed S --count N
   checker bench [--seconds S] [--replay PROGRAM] [--bars]";
@@ -26,6 +28,7 @@ fn main() -> ExitCode {
         [lists::VERSION_REPLAY, version] => version_replay(version),
         ["compare", options @ ..] => run_compare(options),
         ["compare-replay", program, options @ ..] => run_compare_replay(program, options),
+        ["sequences", options @ ..] => run_sequences(options),
         ["simulate", options @ ..] => run_simulate(options),
         ["bench", options @ ..] => Some(run_bench(options)),
         _ => None,
@@ -109,6 +112,27 @@ fn run_compare(options: &[&str]) -> Option<bool> {
             Some(complete)
         }
     }
+}
+
+fn run_sequences(options: &[&str]) -> Option<bool> {
+    let seed = number(options, "--seed")?;
+    let count = number(options, "--count")?;
+    let report = match sequences::run(seed, count, &Judges::right()) {
+        Ok(report) => report,
+        Err(what) => {
+            println!("differs: {what}");
+            return Some(false);
+        }
+    };
+    report.print();
+    let mistaken = Judges {
+        count: only_the_first_grows,
+        ..Judges::right()
+    };
+    let found = sequences::run(seed, count, &mistaken).err();
+    let shown = found.as_deref().unwrap_or("doesn't show");
+    println!("only the first flow's bursts grow: {shown}");
+    Some(report.complete() && found.is_some())
 }
 
 fn run_simulate(options: &[&str]) -> Option<bool> {

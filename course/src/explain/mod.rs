@@ -3,6 +3,7 @@
 mod bursts;
 mod filling;
 mod sentences;
+mod sequence;
 mod sums;
 
 use crate::arguments::{Arguments, Choice, Command};
@@ -14,6 +15,7 @@ use crate::titles::order_title;
 use plain::causes;
 use plain::orders::Order;
 use plain::registry::{Answer, Registry};
+use sequence::Sequence;
 
 pub const COMMAND: Command = Command {
     name: "explain",
@@ -28,7 +30,8 @@ rate × S; each hop before adds its threshold to S less the shortest sending tim
 for each speed. Y's parts are the bursts above, what blocks and the level's own largest frame; on a link that laptops
 share, which of the two blocks: the larger of the largest frame below and the link's best-effort frame, the last level's
 too. 21, 22 and 23 are met link by link: a `.` behind a `!` among them means that the link, or the level, before it
-decides. For a refusal by 21, 22 or 23 also the flows that fill the queue.
+decides. For a refusal by 21, 22 or 23 also the flows that fill the queue. Where all lines are registrations, two or more,
+and no --line is given, last whether their order matters: it doesn't where all were admitted.
 
 Exit status: 0, whatever the orders are answered; 1 a refused batch or an unreadable file; 2 usage.",
     words: 1..=1,
@@ -40,9 +43,9 @@ fn explain(arguments: &Arguments) -> Result<Outcome, Outcome> {
     let wanted = arguments.number("--line")?;
     let folder = Folder::read(&arguments.words[0])?;
     let mut printed = String::new();
-    let mut count = 0;
+    let mut sequence = Sequence::default();
     walk(&folder, |step, before, _| {
-        count = step.number as u64;
+        sequence.add(&step);
         if wanted.is_none_or(|line| line == step.number as u64) {
             if !printed.is_empty() {
                 printed.push('\n');
@@ -50,12 +53,16 @@ fn explain(arguments: &Arguments) -> Result<Outcome, Outcome> {
             printed += &explained(&step, before);
         }
     })?;
+    let count = sequence.lines as u64;
     if let Some(line) = wanted.filter(|line| !(1..=count).contains(line)) {
         let words = format!(
             "course: --line {line}: orders.txt has {} lines",
             commas(count)
         );
         return Err(Outcome::failed(Status::Usage, words));
+    }
+    if let Some(words) = sequence.words().filter(|_| wanted.is_none()) {
+        printed += &format!("\n{words}");
     }
     Ok(Outcome::fine(printed).with_remark(remark()))
 }
