@@ -16,7 +16,7 @@ use Rattle.model.specs.Orders.{Flow, Order, register, release, rejected, orderL
 use Rattle.model.specs.Reference.{State, Answer, apply, orderAnswers, opened, afterOrders, final}
 use Rattle.model.specs.Consistent.{consistent}
 use Rattle.model.specs.Batch.{Batch, lineAnswers, answerText, doneBatch, batch}
-use Rattle.model.specs.AnyOrder.{placesFrom, AdmittedWhole, AnyOrder}
+use Rattle.model.specs.AnyOrder.{slotsFrom, AdmittedWhole, AnyOrder}
 use Rattle.model.specs.Laws.Codes.{returned-done}
 use Rattle.model.specs.Laws.Batch.{Fits, done-fits, fits-done, lineBytes, Ended, text-length}
 use Rattle.model.specs.Results.{line-decided, line-consistent, no-frame-late, reached-consistent, any-order-lines}
@@ -91,13 +91,13 @@ any-order {table} {orders} {area} {area′} {r} batched z admitted =
         → Part (lines orders₁) (lines orders)
         → (r₁ .code ≡ 0)
         × (r₁ .line ≡ length (lines orders₁))
-        × (area₁′ ≡ answerText 1 (placesFrom 1 (length (lines orders₁))) ++ drop (answerBytes * length (lines orders₁)) area₁)
+        × (area₁′ ≡ answerText 1 (slotsFrom 1 (length (lines orders₁))) ++ drop (answerBytes * length (lines orders₁)) area₁)
     part orders₁ area₁ area₁′ r₁ batched₁ long p =
         let (t, read, done) = returned-done table orders area zero-coded in
         let all = all-map (λ o. (f : Flow) × (o ≡ register f)) orderLine (lines orders) (admitted .registrations) in
         let done₁ = batched₁ ∙ fits-done table orders₁ area₁ read (part-fits all fits long p) in
         let counted : length (map orderLine (lines orders₁)) ≡ length (lines orders₁) = length-map (lines orders₁) orderLine in
-        let answered = whole .part p .answered ∙ ap (placesFrom 1) counted in (
+        let answered = whole .part p .answered ∙ ap (slotsFrom 1) counted in (
           ap (λ (b : Batch). b .code) done₁,
           ap (λ (b : Batch). b .line) done₁,
           ap (λ (b : Batch). b .area) done₁ ∙ ap (λ (l : List Answer). answerText 1 l ++ drop (answerBytes * length (lines orders₁)) area₁) answered,
@@ -110,5 +110,5 @@ any-order {table} {orders} {area} {area′} {r} batched z admitted =
         let (code, count, written) = part orders area area′ r batched (fits .room) (part-refl (lines orders)) in
         let (code₁, count₁, written₁) = part orders₁ area area₁′ r₁ batched₁ (omega (arith, fits .room, long)) (perm-part p) in (
           λ i. record { code = (code₁ ∙ sym code) i; line = (count₁ ∙ long ∙ sym count) i },
-          written₁ ∙ ap (λ n. answerText 1 (placesFrom 1 n) ++ drop (answerBytes * n) area) long ∙ sym written,
+          written₁ ∙ ap (λ n. answerText 1 (slotsFrom 1 n) ++ drop (answerBytes * n) area) long ∙ sym written,
         )
