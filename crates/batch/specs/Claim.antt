@@ -15,7 +15,7 @@ use Rattle.model.specs.Outcomes.{Decided}
 use Rattle.model.specs.Timely.{Timely}
 use Rattle.model.specs.Batch.{lineAnswers, answerText}
 use Rattle.model.specs.Part.{Part}
-use Rattle.model.specs.AnyOrder.{placesFrom, AnyOrder}
+use Rattle.model.specs.AnyOrder.{slotsFrom, AnyOrder}
 use Rattle.batch.specs.declared.BatchResult.{BatchResult}
 use Rattle.batch.specs.View.{Batched}
 
@@ -44,12 +44,13 @@ pub record Claimed (table orders area area′ : List ℕ) (r : BatchResult) : Ty
 
 -- W-205, of an accepted batch whose lines are registrations, all admitted: other orders on the same table. That it holds is `any-order` in `ClaimLaws`.
 pub record InAnyOrder (table orders area area′ : List ℕ) (r : BatchResult) : Type 0 where
-  -- Lines that are a part of these, in any order, are all admitted, with places 1, 2, 3, .., in every area that isn't shorter.
-  pub part : (orders₁ area₁ area₁′ : List ℕ) (r₁ : BatchResult) → Batched table orders₁ area₁ area₁′ r₁ → length area ≤ length area₁
+  -- Lines that are a part of these, in any order, are all admitted, with places 1, 2, 3, .., in every area that is long enough for them.
+  pub part : (orders₁ area₁ area₁′ : List ℕ) (r₁ : BatchResult) → Batched table orders₁ area₁ area₁′ r₁
+      → answerBytes * length (lines orders₁) ≤ length area₁
       → Part (lines orders₁) (lines orders)
       → (r₁ .code ≡ 0)
       × (r₁ .line ≡ length (lines orders₁))
-      × (area₁′ ≡ answerText 1 (placesFrom 1 (length (lines orders₁))) ++ drop (answerBytes * length (lines orders₁)) area₁)
+      × (area₁′ ≡ answerText 1 (slotsFrom 1 (length (lines orders₁))) ++ drop (answerBytes * length (lines orders₁)) area₁)
   -- All of them in any order are answered the same, byte for byte.
   pub order : (orders₁ area₁′ : List ℕ) (r₁ : BatchResult) → Batched table orders₁ area area₁′ r₁ → List·Permᴰ (lines orders₁) (lines orders)
       → (r₁ ≡ r) × (area₁′ ≡ area′)

@@ -4,7 +4,6 @@ use Prim.Native.Nat.{ℕ, _*_, _≤_}
 use mathlib.Core.Path.{_≡_, ap, sym, subst, _∙_}
 use mathlib.Core.Bool.{true}
 use mathlib.Core.List.{List, [], _∷_, _++_, map, List·Permᴰ, Permᴰ·symm}
-use native.Mathlib.Nat.{le-refl}
 use native.Mathlib.Omega.{arith}
 use lib.ListN.{length, drop, length-map}
 use Rattle.model.specs.Words.{All}
@@ -17,7 +16,7 @@ use Rattle.model.specs.Orders.{Flow, Order, register, release, rejected, orderL
 use Rattle.model.specs.Reference.{State, Answer, apply, orderAnswers, opened, afterOrders, final}
 use Rattle.model.specs.Consistent.{consistent}
 use Rattle.model.specs.Batch.{Batch, lineAnswers, answerText, doneBatch, batch}
-use Rattle.model.specs.AnyOrder.{placesFrom, AdmittedWhole, AnyOrder}
+use Rattle.model.specs.AnyOrder.{slotsFrom, AdmittedWhole, AnyOrder}
 use Rattle.model.specs.Laws.Codes.{returned-done}
 use Rattle.model.specs.Laws.Batch.{Fits, done-fits, fits-done, lineBytes, Ended, text-length}
 use Rattle.model.specs.Results.{line-decided, line-consistent, no-frame-late, reached-consistent, any-order-lines}
@@ -58,18 +57,17 @@ registered-ended unended f e = subst Registered (sym e) tt
     Registered (release n) = ⊥
     Registered (rejected code) = ⊥
 
--- So what fits with these lines fits with a part of them.
+-- So where these lines fit a part of them does, in an area that is long enough for it.
 part-fits : {orders area orders₁ area₁ : List ℕ} → All (λ l. (f : Flow) × (orderLine l ≡ register f)) (lines orders) → Fits orders area
-    → length area ≤ length area₁
+    → answerBytes * length (lines orders₁) ≤ length area₁
     → Part (lines orders₁) (lines orders)
     → Fits orders₁ area₁
-part-fits {orders} {area} {orders₁} {area₁} all fits long p =
+part-fits {orders} {orders₁ = orders₁} all fits long p =
     let ends : All Ended (lines orders) = all-imp (lines orders) (λ l r. registered-ended l (r .0) (r .1)) all in
-    let fewer = length-part p in
     record {
       bytes = omega (arith, fits .bytes, text-length orders ends, text-length orders₁ (all-part Ended p ends), total-part lineBytes p);
-      few = omega (arith, fits .few, fewer);
-      room = omega (arith, fits .room, long, fewer);
+      few = omega (arith, fits .few, length-part p);
+      room = long;
     }
 
 pub any-order : {table orders area area′ : List ℕ} {r : BatchResult} → Batched table orders area area′ r → r .code ≡ 0
@@ -85,17 +83,21 @@ any-order {table} {orders} {area} {area′} {r} batched z admitted =
     zero-coded : batch table orders area .code ≡ 0
     zero-coded = sym (ap (λ (b : Batch). b .code) batched) ∙ z
 
-    part : (orders₁ area₁ area₁′ : List ℕ) (r₁ : BatchResult) → Batched table orders₁ area₁ area₁′ r₁ → length area ≤ length area₁
+    fits : Fits orders area
+    fits = done-fits table orders area zero-coded
+
+    part : (orders₁ area₁ area₁′ : List ℕ) (r₁ : BatchResult) → Batched table orders₁ area₁ area₁′ r₁
+        → answerBytes * length (lines orders₁) ≤ length area₁
         → Part (lines orders₁) (lines orders)
         → (r₁ .code ≡ 0)
         × (r₁ .line ≡ length (lines orders₁))
-        × (area₁′ ≡ answerText 1 (placesFrom 1 (length (lines orders₁))) ++ drop (answerBytes * length (lines orders₁)) area₁)
+        × (area₁′ ≡ answerText 1 (slotsFrom 1 (length (lines orders₁))) ++ drop (answerBytes * length (lines orders₁)) area₁)
     part orders₁ area₁ area₁′ r₁ batched₁ long p =
         let (t, read, done) = returned-done table orders area zero-coded in
         let all = all-map (λ o. (f : Flow) × (o ≡ register f)) orderLine (lines orders) (admitted .registrations) in
-        let done₁ = batched₁ ∙ fits-done table orders₁ area₁ read (part-fits all (done-fits table orders area zero-coded) long p) in
+        let done₁ = batched₁ ∙ fits-done table orders₁ area₁ read (part-fits all fits long p) in
         let counted : length (map orderLine (lines orders₁)) ≡ length (lines orders₁) = length-map (lines orders₁) orderLine in
-        let answered = whole .part p .answered ∙ ap (placesFrom 1) counted in (
+        let answered = whole .part p .answered ∙ ap (slotsFrom 1) counted in (
           ap (λ (b : Batch). b .code) done₁,
           ap (λ (b : Batch). b .line) done₁,
           ap (λ (b : Batch). b .area) done₁ ∙ ap (λ (l : List Answer). answerText 1 l ++ drop (answerBytes * length (lines orders₁)) area₁) answered,
@@ -104,9 +106,9 @@ any-order {table} {orders} {area} {area′} {r} batched z admitted =
     order : (orders₁ area₁′ : List ℕ) (r₁ : BatchResult) → Batched table orders₁ area area₁′ r₁ → List·Permᴰ (lines orders₁) (lines orders)
         → (r₁ ≡ r) × (area₁′ ≡ area′)
     order orders₁ area₁′ r₁ batched₁ p =
-        let (code, count, written) = part orders area area′ r batched (le-refl (length area)) (part-refl (lines orders)) in
-        let (code₁, count₁, written₁) = part orders₁ area area₁′ r₁ batched₁ (le-refl (length area)) (perm-part p) in
-        let long : length (lines orders₁) ≡ length (lines orders) = omega (arith, length-part (perm-part p), length-part (perm-part (Permᴰ·symm p))) in (
+        let long : length (lines orders₁) ≡ length (lines orders) = omega (arith, length-part (perm-part p), length-part (perm-part (Permᴰ·symm p))) in
+        let (code, count, written) = part orders area area′ r batched (fits .room) (part-refl (lines orders)) in
+        let (code₁, count₁, written₁) = part orders₁ area area₁′ r₁ batched₁ (omega (arith, fits .room, long)) (perm-part p) in (
           λ i. record { code = (code₁ ∙ sym code) i; line = (count₁ ∙ long ∙ sym count) i },
-          written₁ ∙ ap (λ n. answerText 1 (placesFrom 1 n) ++ drop (answerBytes * n) area) long ∙ sym written,
+          written₁ ∙ ap (λ n. answerText 1 (slotsFrom 1 n) ++ drop (answerBytes * n) area) long ∙ sym written,
         )

@@ -17,10 +17,10 @@ pub record AllAdmitted (orders : List Order) (answers : List Answer) : Type 0 wh
   pub registrations : All (λ o. (f : Flow) × (o ≡ register f)) orders
   pub admitted : All (λ a. a .code ≡ 0) answers
 
--- So many answers 0, with the places from `first` on.
-unfoldable pub placesFrom : (first count : ℕ) → List Answer
-placesFrom first zero = []
-placesFrom first (suc n) = record { code = 0; slot = first; link = 0; level = 0 } ∷ placesFrom (suc first) n
+-- So many answers 0, with the slots (document 01: places) from `first` on.
+unfoldable pub slotsFrom : (first count : ℕ) → List Answer
+slotsFrom first zero = []
+slotsFrom first (suc n) = record { code = 0; slot = first; link = 0; level = 0 } ∷ slotsFrom (suc first) n
 
 -- The flows at places 1, 2, 3, .. in their order; every later place is free.
 unfoldable pub inTurn : List Flow → List Slot
@@ -28,7 +28,7 @@ inTurn fs = map some fs ++ replicate (slotCount - length fs) none
 
 -- All admitted, with places 1, 2, 3, .. as they come. There the flows are held, in the order of their registrations, one to a number.
 pub record HeldInTurn (orders : List Order) (answers : List Answer) (s : State) : Type 0 where
-  pub answered : answers ≡ placesFrom 1 (length orders)
+  pub answered : answers ≡ slotsFrom 1 (length orders)
   pub flows : orders ≡ map register (heldFlows (s .slots))
   pub slots : s .slots ≡ inTurn (heldFlows (s .slots))
   pub numbers : (n : ℕ) → withNumber n (heldFlows (s .slots)) ≤ 1

@@ -8,7 +8,7 @@ use mathlib.Core.Path.{_≡_, refl}
 use mathlib.Core.Bool.{true, false}
 use mathlib.Core.List.{List, [], _∷_, map, flatten}
 use Rattle.model.specs.Words.{every, firstIndex, isNone, nth}
-use Rattle.model.specs.Columns.{isDigit, digits, number, field, fieldAt, padded, justified, between, prepend, lines}
+use Rattle.model.specs.Columns.{isDigit, digits, number, field, fieldAt, padded, justified, between, prepend, Line, lines}
 use Rattle.model.specs.QueueTable.{isRowLength, laterField, rowFields, row, bestEffortInRange, rowInRange, continues, begins, rowInTurn, sameLink, rowAgrees, rowCause, queueOf, newLink, addLevel, addRow, rowStep, lineStep, readLines, readTable}
 use Rattle.model.specs.Orders.{Flow, Order, headFields, hopField, hopFields, pathFields, numberInRange, hopsInRange, headInRange, flowOf, withPath, registrationOf, registration, releaseOf, releaseLine, kindNumber, kindOfNumber, kindOrder, orderOfKind, readOrder, orderLine}
 use Rattle.model.specs.Total.{total, largest}
@@ -17,6 +17,7 @@ use Rattle.model.specs.LinkCheck.{isEmpty, levelCode, orElse, levelsFind
 use Rattle.model.specs.Aggregates.{linkAt, queueAt, thresholdOf, speedOf, fixedDelayOf, shares, allShares, sameHop, addsAt, sharesAt, aggregateAt, levelAggregates}
 use Rattle.model.specs.Reference.{heldFlows, heldHops, withNumber, crosses, pathDelay, firstCause, whole, atHop, start, end, noQueue, metEarlier, startsElsewhere, numberFinding, lineFindings, deadlineFinding, isHeld, roomFindings, linkCause, causeAt, linkFindings, registerFindings, findings, holds, refuse, fill, perform, decide, apply, orderAnswers, afterOrders, tableOf, opened}
 use Rattle.model.specs.Consistent.{rowOf, linkConsistent, headOf, flowInRange}
+use Rattle.model.specs.AnyOrder.{AdmittedWhole}
 use Rattle.model.specs.Outcomes.{earlyFindings}
 use Rattle.model.specs.WholeThresholds as before
 use Rattle.model.specs.Answers.{answerColumns, answerLine}
@@ -72,6 +73,13 @@ gate = " 1   301      500     168   84     500  2   6 1   4 1\n"
 pub pictures : String
 pictures = " 1   302     2000    6000 1542    2000  1   4 2\n"
 
+-- The filler's drive and camera: four hops each, at levels 1 and 2.
+pub fourHops : List String
+fourHops =
+    " 1   101      800     200  200    1000  4   1 1   2 1   3 1   5 1\n"
+    ∷ " 1   201    20000    6168 1542    5000  4   1 2   2 2   3 2   5 2\n"
+    ∷ []
+
 -- A link of 100 Mbit/s; a film of 80 Mbit/s and two cameras of 20.
 pub filmTable : String
 filmTable = "   1   1   2   100 1   1000    16000\n"
@@ -85,6 +93,10 @@ camera = " 1     2    20000    1542 1542    1000  1   1 1\n"
 pub secondCamera : String
 secondCamera = " 1     3    20000    1542 1542    1000  1   1 1\n"
 
+-- The lines of texts, one after the other.
+unfoldable pub linesOf : List String → List Line
+linesOf texts = flatten (map (λ text. lines (bytes text)) texts)
+
 -- The codes of order lines, one after the other from an empty registry, and the numbers of the flows held then, lowest place first.
 pub record Sorted : Type 0 where
   pub codes : List ℕ
@@ -92,7 +104,7 @@ pub record Sorted : Type 0 where
 
 unfoldable pub sorted : (table : String) (texts : List String) → Sorted
 sorted table texts =
-    let orders : List Order = map orderLine (flatten (map (λ text. lines (bytes text)) texts)) in
+    let orders : List Order = map orderLine (linesOf texts) in
     record {
       codes = map (λ a. a .code) (orderAnswers (opened (bytes table)) orders);
       held = map (λ f. f .number) (heldFlows (afterOrders (opened (bytes table)) orders .slots));
@@ -173,6 +185,7 @@ workedBatches =
 
 -- The second and third part, by whole thresholds, before W-208: the codes of the last batch, and whether its flow, ending on link 5 or 2, is consistent beside another.
 -- The fourth, W-205: where not all are admitted the order decides who is held, 301 or 302, and how many, a film or two cameras; where all are, it decides their places.
+-- The fifth: flows that are admitted whole, so that `any-order-lines` speaks of something.
 pub worked-batches : (map (λ w. w .worked) workedBatches ≡ map (λ w. w .given) workedBatches)
     × (map (λ a. a .code) (before.lineAnswers (opened (bytes growthTable)) (lines (bytes growthOrders))) ≡ 0 ∷ 0 ∷ 22 ∷ 22 ∷ 22 ∷ [])
     × (map (λ n. before.flowsConsistent (opened (bytes growthTable) .table) (growthFlows n)) (5 ∷ 2 ∷ []) ≡ true ∷ false ∷ [])
@@ -192,8 +205,9 @@ pub worked-batches : (map (λ w. w .worked) workedBatches ≡ map (λ w. w .give
     ∷ record { codes = 0 ∷ 0 ∷ []; held = 3 ∷ 2 ∷ [] }
     ∷ []
     )
-unfolding hallTable gate pictures filmTable film camera secondCamera sorted flatten workedBatches worked growthTable growthOrders bytes bytesFrom isDigit digits number field fieldAt padded justified between prepend lines isRowLength laterField rowFields row bestEffortInRange rowInRange continues begins rowInTurn sameLink rowAgrees rowCause queueOf newLink addLevel addRow rowStep lineStep readLines readTable headFields hopField hopFields pathFields numberInRange hopsInRange headInRange flowOf withPath registrationOf registration releaseOf releaseLine kindNumber kindOfNumber kindOrder orderOfKind readOrder orderLine total largest ceilDiv shortestSending hopGrowth burstAtHop residual withinRate delayBound backlogBound blocking interference levelResidual delay backlog isEmpty levelCode orElse levelsFinding rateCode linkFinding nth linkAt queueAt thresholdOf speedOf fixedDelayOf shares allShares sameHop addsAt sharesAt aggregateAt levelAggregates heldFlows heldHops withNumber crosses pathDelay firstCause whole atHop isNone start end noQueue metEarlier startsElsewhere numberFinding lineFindings deadlineFinding every isHeld roomFindings linkCause causeAt linkFindings registerFindings findings firstIndex holds refuse fill perform decide apply tableOf opened answerColumns answerLine lineAnswers orderAnswers afterOrders answerText refusedBatch doneBatch tooLong tooShort afterTable batch earlyFindings before.shares before.allShares before.levelAggregates before.causeAt before.linkFindings before.findings before.apply before.lineAnswers before.flowConsistent before.flowsConsistent growthFlows flowInRange headOf
-worked-batches = (refl, refl, refl, refl)
+    × AdmittedWhole orderLine (opened (bytes hallTable)) (linesOf fourHops)
+unfolding linesOf fourHops hallTable gate pictures filmTable film camera secondCamera sorted flatten workedBatches worked growthTable growthOrders bytes bytesFrom isDigit digits number field fieldAt padded justified between prepend lines isRowLength laterField rowFields row bestEffortInRange rowInRange continues begins rowInTurn sameLink rowAgrees rowCause queueOf newLink addLevel addRow rowStep lineStep readLines readTable headFields hopField hopFields pathFields numberInRange hopsInRange headInRange flowOf withPath registrationOf registration releaseOf releaseLine kindNumber kindOfNumber kindOrder orderOfKind readOrder orderLine total largest ceilDiv shortestSending hopGrowth burstAtHop residual withinRate delayBound backlogBound blocking interference levelResidual delay backlog isEmpty levelCode orElse levelsFinding rateCode linkFinding nth linkAt queueAt thresholdOf speedOf fixedDelayOf shares allShares sameHop addsAt sharesAt aggregateAt levelAggregates heldFlows heldHops withNumber crosses pathDelay firstCause whole atHop isNone start end noQueue metEarlier startsElsewhere numberFinding lineFindings deadlineFinding every isHeld roomFindings linkCause causeAt linkFindings registerFindings findings firstIndex holds refuse fill perform decide apply tableOf opened answerColumns answerLine lineAnswers orderAnswers afterOrders answerText refusedBatch doneBatch tooLong tooShort afterTable batch earlyFindings before.shares before.allShares before.levelAggregates before.causeAt before.linkFindings before.findings before.apply before.lineAnswers before.flowConsistent before.flowsConsistent growthFlows flowInRange headOf
+worked-batches = (refl, refl, refl, refl, record { registrations = ((_, refl), ((_, refl), tt)); admitted = (refl, (refl, tt)) })
 
 -- 42: the link of a registry that calls find may have these best-effort frames, 0, 84 and 1,542, and not the others.
 pub worked-links : map

@@ -27,7 +27,7 @@ use Rattle.model.specs.Laws.Order.{Ranged}
 use Rattle.model.specs.Laws.Consistent.{FlowsRules, flows-part}
 use Rattle.model.specs.Laws.Reference.{register-rules, rules-register, performed, no-cause}
 use Rattle.model.specs.Laws.Reached.{none-held, opened-rules, rules-more, more-rules}
-use Rattle.model.specs.AnyOrder.{placesFrom, inTurn, HeldInTurn, SameFlows, AdmittedWhole, InTurn, AnyOrder}
+use Rattle.model.specs.AnyOrder.{slotsFrom, inTurn, HeldInTurn, SameFlows, AdmittedWhole, InTurn, AnyOrder}
 
 -- Held in turn, before so many free places: the flows, how many places there are, the first free one, and that one filled.
 abbrev slotsOf : List Flow → (free : ℕ) → List Slot
@@ -38,9 +38,9 @@ unfolding heldFlows
 held-before [] free = none-held free
 held-before (f ∷ fs) free = ap (λ (l : List Flow). f ∷ l) (held-before fs free)
 
-places-before : (fs : List Flow) (free : ℕ) → length (slotsOf fs free) ≡ length fs + free
-places-before [] free = omega (arith, length-replicate {A = Slot} free none)
-places-before (f ∷ fs) free = omega (arith, places-before fs free)
+slots-before : (fs : List Flow) (free : ℕ) → length (slotsOf fs free) ≡ length fs + free
+slots-before [] free = omega (arith, length-replicate {A = Slot} free none)
+slots-before (f ∷ fs) free = omega (arith, slots-before fs free)
 
 first-before : (fs : List Flow) (free : ℕ) → firstIndex isNone (slotsOf fs (suc free)) ≡ length fs
 unfolding firstIndex isNone
@@ -69,8 +69,8 @@ one-each n fs a = ⊎-elim (λ z. omega (arith, z)) (λ h. h) (find fs a)
         go true e r = inr (subst (λ k. withNumber k fs ≤ 1) (eqb-true _ _ e) (a .0))
         go false e r = ⊎-elim (λ z. inl (omega (arith, z))) inr r
 
-zeros : (first n : ℕ) → All (λ a. a .code ≡ 0) (placesFrom first n)
-unfolding placesFrom
+zeros : (first n : ℕ) → All (λ a. a .code ≡ 0) (slotsFrom first n)
+unfolding slotsFrom
 zeros first zero = tt
 zeros first (suc n) = (refl, zeros (suc first) n)
 
@@ -89,7 +89,7 @@ module _ (t : Table) where
 
   size : (fs : List Flow) → length fs ≤ slotCount → length (inTurn fs) ≡ slotCount
   unfolding inTurn
-  size fs h = omega (arith, places-before fs (slotCount - length fs))
+  size fs h = omega (arith, slots-before fs (slotCount - length fs))
 
   -- A registration takes the next place.
   placed : (fs : List Flow) (f : Flow) → length fs < slotCount
@@ -110,9 +110,9 @@ module _ (t : Table) where
 
   -- Consistent flows are all admitted, in turn.
   consistent-in-turn : (held fs : List Flow) → FlowsRules t (held ++ fs)
-      → (orderAnswers (holding held) (map register fs) ≡ placesFrom (suc (length held)) (length (map register fs)))
+      → (orderAnswers (holding held) (map register fs) ≡ slotsFrom (suc (length held)) (length (map register fs)))
       × (afterOrders (holding held) (map register fs) ≡ holding (held ++ fs))
-  unfolding orderAnswers afterOrders placesFrom
+  unfolding orderAnswers afterOrders slotsFrom
   consistent-in-turn held [] r = (refl, ap holding (sym (append-nil held)))
   consistent-in-turn held (f ∷ fs) r =
       let next = admitted-next held f (flows-part t (new-part f held fs) r) in
@@ -120,7 +120,7 @@ module _ (t : Table) where
       let (answered, left) = consistent-in-turn (held ++ f ∷ []) fs (subst (FlowsRules t) (sym (append-snoc held f fs)) r) in (
         ap (λ (out : Outcome). out .answer ∷ orderAnswers (out .next) (map register fs)) next
             ∙ ap (λ (l : List Answer). record { code = 0; slot = suc (length held); link = 0; level = 0 } ∷ l)
-            (answered ∙ ap (λ (k : ℕ). placesFrom (suc k) (length (map register fs))) long),
+            (answered ∙ ap (λ (k : ℕ). slotsFrom (suc k) (length (map register fs))) long),
         ap (λ (out : Outcome). afterOrders (out .next) (map register fs)) next ∙ left ∙ ap holding (append-snoc held f fs),
       )
 
