@@ -44,7 +44,7 @@ pub record Claimed (table orders area area′ : List ℕ) (r : BatchResult) : Ty
 
 -- W-205, of an accepted batch whose lines are registrations, all admitted: other orders on the same table. That it holds is `any-order` in `ClaimLaws`.
 pub record InAnyOrder (table orders area area′ : List ℕ) (r : BatchResult) : Type 0 where
-  -- Lines that are a part of these, in any order, are all admitted, with places 1, 2, 3, .., in every area that is long enough for them.
+  -- Lines that are a part of these, in any order, are all admitted, with slots 1, 2, 3, .., in every area that is long enough for them.
   pub part : (orders₁ area₁ area₁′ : List ℕ) (r₁ : BatchResult) → Batched table orders₁ area₁ area₁′ r₁
       → answerBytes * length (lines orders₁) ≤ length area₁
       → Part (lines orders₁) (lines orders)

@@ -1,4 +1,4 @@
--- W-205: registrations that are all admitted, one after the other, from an empty registry. Their order decides the places, and nothing else.
+-- W-205: registrations that are all admitted, one after the other, from an empty registry. Their order decides the slots (document 01: places), and nothing else.
 -- Another order of a list is the library's permutation, `List·Permᴰ`; a part of it (`Part`) also leaves some out.
 use Prim.Native.Nat.{ℕ, zero, suc, _-_, _≤_}
 use mathlib.Core.Path.{_≡_}
@@ -17,23 +17,23 @@ pub record AllAdmitted (orders : List Order) (answers : List Answer) : Type 0 wh
   pub registrations : All (λ o. (f : Flow) × (o ≡ register f)) orders
   pub admitted : All (λ a. a .code ≡ 0) answers
 
--- So many answers 0, with the slots (document 01: places) from `first` on.
+-- So many answers 0, with the slots from `first` on.
 unfoldable pub slotsFrom : (first count : ℕ) → List Answer
 slotsFrom first zero = []
 slotsFrom first (suc n) = record { code = 0; slot = first; link = 0; level = 0 } ∷ slotsFrom (suc first) n
 
--- The flows at places 1, 2, 3, .. in their order; every later place is free.
+-- The flows in slots 1, 2, 3, .. in their order; every later slot is free.
 unfoldable pub inTurn : List Flow → List Slot
 inTurn fs = map some fs ++ replicate (slotCount - length fs) none
 
--- All admitted, with places 1, 2, 3, .. as they come. There the flows are held, in the order of their registrations, one to a number.
+-- All admitted, with slots 1, 2, 3, .. as they come. There the flows are held, in the order of their registrations, one to a number.
 pub record HeldInTurn (orders : List Order) (answers : List Answer) (s : State) : Type 0 where
   pub answered : answers ≡ slotsFrom 1 (length orders)
   pub flows : orders ≡ map register (heldFlows (s .slots))
   pub slots : s .slots ≡ inTurn (heldFlows (s .slots))
   pub numbers : (n : ℕ) → withNumber n (heldFlows (s .slots)) ≤ 1
 
--- The same flows, places aside, on the same table; and at every queue the same figures.
+-- The same flows, slots aside, on the same table; and at every queue the same figures.
 pub record SameFlows (s s′ : State) : Type 0 where
   pub table : s .table ≡ s′ .table
   pub flows : List·Permᴰ (heldFlows (s .slots)) (heldFlows (s′ .slots))

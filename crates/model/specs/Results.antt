@@ -94,7 +94,7 @@ admitted-exactly text fs range =
     (λ z. rules-flows (opened text .table) fs (consistent z), λ e. admitted (flows-rules (opened text .table) fs e))
 
 -- So where calls are registrations and all are admitted, every part of them is admitted in any order, and every order of them all leaves the same flows and figures;
--- only the places go by the order, 1, 2, 3, .. as they come. The same of the lines of a batch.
+-- only the slots go by the order, 1, 2, 3, .. as they come. The same of the lines of a batch.
 -- This is not so where not all are admitted (`worked-batches`, its fourth part): of 301 and 302 in the example hall the one that comes first keeps the
 -- other out, and a film keeps out two cameras that get in before it.
 pub any-order : (text : List ℕ) (calls : List Call) → AdmittedWhole callOrder (opened text) calls → AnyOrder callOrder (opened text) calls

@@ -97,7 +97,7 @@ secondCamera = " 1     3    20000    1542 1542    1000  1   1 1\n"
 unfoldable pub linesOf : List String → List Line
 linesOf texts = flatten (map (λ text. lines (bytes text)) texts)
 
--- The codes of order lines, one after the other from an empty registry, and the numbers of the flows held then, lowest place first.
+-- The codes of order lines, one after the other from an empty registry, and the numbers of the flows held then, lowest slot first.
 pub record Sorted : Type 0 where
   pub codes : List ℕ
   pub held : List ℕ
@@ -184,7 +184,7 @@ workedBatches =
     ∷ []
 
 -- The second and third part, by whole thresholds, before W-208: the codes of the last batch, and whether its flow, ending on link 5 or 2, is consistent beside another.
--- The fourth, W-205: where not all are admitted the order decides who is held, 301 or 302, and how many, a film or two cameras; where all are, it decides their places.
+-- The fourth, W-205: where not all are admitted the order decides who is held, 301 or 302, and how many, a film or two cameras; where all are, it decides their slots.
 -- The fifth: flows that are admitted whole, so that `any-order-lines` speaks of something.
 pub worked-batches : (map (λ w. w .worked) workedBatches ≡ map (λ w. w .given) workedBatches)
     × (map (λ a. a .code) (before.lineAnswers (opened (bytes growthTable)) (lines (bytes growthOrders))) ≡ 0 ∷ 0 ∷ 22 ∷ 22 ∷ 22 ∷ [])

@@ -29,7 +29,7 @@ use Rattle.model.specs.Laws.Reference.{register-rules, rules-register, p
 use Rattle.model.specs.Laws.Reached.{none-held, opened-rules, rules-more, more-rules}
 use Rattle.model.specs.AnyOrder.{slotsFrom, inTurn, HeldInTurn, SameFlows, AdmittedWhole, InTurn, AnyOrder}
 
--- Held in turn, before so many free places: the flows, how many places there are, the first free one, and that one filled.
+-- Held in turn, before so many free slots: the flows, how many slots there are, the first free one, and that one filled.
 abbrev slotsOf : List Flow → (free : ℕ) → List Slot
 slotsOf fs free = map some fs ++ replicate free none
 
@@ -91,7 +91,7 @@ module _ (t : Table) where
   unfolding inTurn
   size fs h = omega (arith, slots-before fs (slotCount - length fs))
 
-  -- A registration takes the next place.
+  -- A registration takes the next slot.
   placed : (fs : List Flow) (f : Flow) → length fs < slotCount
       → perform (holding fs) (register f) ≡ record { answer = record { code = 0; slot = suc (length fs); link = 0; level = 0 }; next = holding (fs ++ f ∷ []) }
   unfolding perform fill inTurn
