@@ -3,7 +3,7 @@
 use Prim.Native.Nat.{ℕ, _*_, _≤_}
 use mathlib.Core.Path.{_≡_}
 use mathlib.Core.Bool.{true}
-use mathlib.Core.List.{List, [], _∷_, _++_, List·Permᴰ}
+use mathlib.Core.List.{List, [], _∷_, _++_, map, List·Permᴰ}
 use lib.ListN.{length, drop}
 use Rattle.model.specs.Sizes.{answerBytes}
 use Rattle.model.specs.Columns.{Line, lines}
@@ -15,7 +15,7 @@ use Rattle.model.specs.Outcomes.{Decided}
 use Rattle.model.specs.Timely.{Timely}
 use Rattle.model.specs.Batch.{lineAnswers, answerText}
 use Rattle.model.specs.Part.{Part}
-use Rattle.model.specs.AnyOrder.{slotsFrom, AnyOrder}
+use Rattle.model.specs.AnyOrder.{AllAdmitted, slotsFrom, AnyOrder}
 use Rattle.batch.specs.declared.BatchResult.{BatchResult}
 use Rattle.batch.specs.View.{Batched}
 
@@ -42,15 +42,27 @@ pub record Claimed (table orders area area′ : List ℕ) (r : BatchResult) : Ty
   pub written : area′ ≡ answerText 1 (lineAnswers (opened table) (lines orders)) ++ drop (answerBytes * length (lines orders)) area
   pub each : LineByLine (opened table) (lines orders) (lineAnswers (opened table) (lines orders))
 
--- W-205, of an accepted batch whose lines are registrations, all admitted: other orders on the same table. That it holds is `any-order` in `ClaimLaws`.
+-- W-205: the lines are registrations, and the area begins with an answer line for each of them, all with code 0.
+pub record ShownAdmitted (orders area′ : List ℕ) : Type 0 where
+  pub answers : List Answer
+  pub rest : List ℕ
+  pub shown : area′ ≡ answerText 1 answers ++ rest
+  pub each : length answers ≡ length (lines orders)
+  pub all : AllAdmitted (map orderLine (lines orders)) answers
+
+-- A batch that was done, every line admitted, with slots 1, 2, 3, ..; the bytes past the answers are as they were.
+pub record AnsweredInTurn (orders area area′ : List ℕ) (r : BatchResult) : Type 0 where
+  pub code : r .code ≡ 0
+  pub count : r .line ≡ length (lines orders)
+  pub written : area′ ≡ answerText 1 (slotsFrom 1 (length (lines orders))) ++ drop (answerBytes * length (lines orders)) area
+
+-- W-205, of an accepted batch whose lines are shown admitted: other orders on the same table. That it holds is `any-order` in `ClaimLaws`.
 pub record InAnyOrder (table orders area area′ : List ℕ) (r : BatchResult) : Type 0 where
-  -- Lines that are a part of these, in any order, are all admitted, with slots 1, 2, 3, .., in every area that is long enough for them.
+  -- Lines that are a part of these, in any order, are all admitted, in every area that is long enough for their answers.
   pub part : (orders₁ area₁ area₁′ : List ℕ) (r₁ : BatchResult) → Batched table orders₁ area₁ area₁′ r₁
       → answerBytes * length (lines orders₁) ≤ length area₁
       → Part (lines orders₁) (lines orders)
-      → (r₁ .code ≡ 0)
-      × (r₁ .line ≡ length (lines orders₁))
-      × (area₁′ ≡ answerText 1 (slotsFrom 1 (length (lines orders₁))) ++ drop (answerBytes * length (lines orders₁)) area₁)
+      → AnsweredInTurn orders₁ area₁ area₁′ r₁
   -- All of them in any order are answered the same, byte for byte.
   pub order : (orders₁ area₁′ : List ℕ) (r₁ : BatchResult) → Batched table orders₁ area area₁′ r₁ → List·Permᴰ (lines orders₁) (lines orders)
       → (r₁ ≡ r) × (area₁′ ≡ area′)

@@ -1,6 +1,7 @@
 -- Laws of the definitions, one file for each subject.
 pub mod List
 pub mod All
+pub mod Part
 pub mod Total
 pub mod Test
 pub mod Formula

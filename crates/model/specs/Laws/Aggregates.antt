@@ -10,7 +10,8 @@ use borrow.Author.Tests.{eqb-true, eqb-false, eq-eqb, ne-eqb}
 use Rattle.model.specs.Words.{Pairs, ends, pair, All}
 use Rattle.model.specs.Total.{total, largest}
 use Rattle.model.specs.Part.{Part}
-use Rattle.model.specs.Laws.Total.{perm-part, total-append, largest-append, total-part, largest-part, total-zero, largest-zero}
+use Rattle.model.specs.Laws.Part.{perm-part}
+use Rattle.model.specs.Laws.Total.{total-append, largest-append, total-part, largest-part, total-zero, largest-zero}
 use Rattle.model.specs.Formula.{Aggregate}
 use Rattle.model.specs.Laws.Formula.{AtMost}
 use Rattle.model.specs.QueueTable.{Queue, Table}

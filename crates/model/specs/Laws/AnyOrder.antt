@@ -15,7 +15,7 @@ use Rattle.model.specs.Words.{All, firstIndex, isNone}
 use Rattle.model.specs.Sizes.{slotCount}
 use Rattle.model.specs.Total.{total}
 use Rattle.model.specs.Part.{Part, empty, skip, keep, swap, both}
-use Rattle.model.specs.Laws.Total.{part-refl, perm-part, part-map, perm-map, all-part}
+use Rattle.model.specs.Laws.Part.{part-refl, perm-part, part-map, perm-map, all-part}
 use Rattle.model.specs.Laws.All.{all-imp, all-map, map-all}
 use Rattle.model.specs.QueueTable.{Table}
 use Rattle.model.specs.Orders.{Flow, Order, register, release, rejected, registering, kindNumber}

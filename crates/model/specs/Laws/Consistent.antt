@@ -13,7 +13,8 @@ use borrow.Author.Tests.{eqb-true, eqb-false, ne-eqb, leb-true, le-leb}
 use Rattle.model.specs.Words.{All, every, isNone}
 use Rattle.model.specs.Total.{total}
 use Rattle.model.specs.Part.{Part}
-use Rattle.model.specs.Laws.Total.{total-part, length-part, all-part}
+use Rattle.model.specs.Laws.Part.{length-part, all-part}
+use Rattle.model.specs.Laws.Total.{total-part}
 use Rattle.model.specs.Laws.Test.{and-both, both-and, every-all, all-every}
 use Rattle.model.specs.Laws.All.{append-all, all-append, all-imp, all-imp₂}
 use Rattle.model.specs.QueueTable.{Table}

@@ -12,7 +12,7 @@ use lib.Dec.{leb, ltb, eqb, leb·suc-suc}
 use Rattle.model.specs.Words.{All, every, firstIndex, isNone}
 use Rattle.model.specs.Total.{total}
 use Rattle.model.specs.Part.{Part, empty, skip, keep, swap, both}
-use Rattle.model.specs.Laws.Total.{part-refl}
+use Rattle.model.specs.Laws.Part.{part-refl}
 use Rattle.model.specs.Orders.{Flow}
 use Rattle.model.specs.Reference.{Slot, heldFlows, withNumber, isHeld, holds}
 

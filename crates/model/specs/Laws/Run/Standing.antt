@@ -13,7 +13,7 @@ use Rattle.model.specs.Aggregates.{linkAt, speedOf, fixedDelayOf}
 use Rattle.model.specs.Laws.Aggregates.{same-hop}
 use Rattle.model.specs.Run.{Frame, Run, hopOf, next, handedOn, moving, isAt, reaching, enter, emptyLink}
 use Rattle.model.specs.Delivery.{onCable}
-use Rattle.model.specs.Laws.Total.{perm-part, all-part}
+use Rattle.model.specs.Laws.Part.{perm-part, all-part}
 use Rattle.model.specs.Laws.All.{all-imp, all-append, map-all, filter-all, member-all}
 use Rattle.model.specs.Laws.Run.Cables.{since-all, handed-all}
 use Rattle.model.specs.Laws.Run.OneLink.{Each}
