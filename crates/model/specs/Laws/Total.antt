@@ -1,7 +1,7 @@
 -- Laws of sums and largest values over any element type and measure: of lists joined, mapped or in another order,
 -- of a part, of one element, of lists or measures compared element by element. Each is an induction. Assumes nothing.
 use Prim.Native.Nat.{ℕ, zero, suc, _+_, _*_, _≤_, max, zero-le}
-use mathlib.Core.Path.{_≡_, refl, sym, ap, fun-ext, subst}
+use mathlib.Core.Path.{_≡_, refl, sym, ap, fun-ext}
 use mathlib.Core.Bool.{Bool, true, false, cond}
 use mathlib.Core.List.{List, [], _∷_, _++_, map, reverse, reverseAux, List·Permᴰ, Permᴰ·symm}
 use native.Mathlib.Nat.{le-trans, zero-add}
