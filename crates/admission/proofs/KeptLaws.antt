@@ -23,7 +23,8 @@ use Rattle.model.specs.Schedulable.{Named}
 use Rattle.model.specs.Reference.{Slot, State, Outcome, heldFlows, isHeld, firstCause, atHop, metEarlier, roomFindings, findings, refuse, fill, perform, decide, apply}
 use Rattle.model.specs.Consistent.{flowInRange, headOf, tableConsistent, consistent}
 use Rattle.model.specs.Laws.Finding.{none-applies}
-use Rattle.model.specs.Laws.Slot.{index-below}
+use Rattle.model.specs.Laws.Aggregates.{aggregate-perm}
+use Rattle.model.specs.Laws.Slot.{index-below, fill-perm}
 use Rattle.model.specs.Laws.Reference.{slot-free, hops-free}
 use Rattle.model.specs.Laws.Reached.{StateRules, state-rules, rules-state, apply-keeps}
 use Rattle.model.specs.Laws.Schedulable.{schedulable}
@@ -46,7 +47,6 @@ use Rattle.figures.proofs.AddLaws.{figures-added}
 use Rattle.admission.specs.View.{stateOf, answerOf, LineRead, Kept, Stepped}
 use Rattle.admission.specs.declared.Answer.{Answer}
 use Rattle.admission.specs.declared.Answer.the-variants.{Done, Refused}
-use Rattle.admission.proofs.StepLaws.{figures-filled}
 
 -- 11: the ranges of a registration that was read.
 pub record Ranges (f : line.Flow) : Type 0 where
@@ -237,6 +237,6 @@ module _ (table slots pool sums : List ℕ) (k : Kept table slots pool sums) whe
                 long = more .long;
                 same = λ e lt.
                     more .same e lt
-                    ∙ sym (figures-filled (tableOf table) f (hopAt e) (slotsOf slots pool) free)
+                    ∙ sym (aggregate-perm (tableOf table) (fill-perm f (slotsOf slots pool) free) (hopAt e))
                     ∙ ap (λ (l : List Slot). lookup.aggregateAt (tableOf table) (heldFlows l) (hopAt e)) (sym seen);
               }

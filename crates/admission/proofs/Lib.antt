@@ -3,4 +3,5 @@ pub mod KeptLaws
 pub mod HeldLaws
 pub mod ReadLaws
 pub mod ReleaseLaws
+pub mod ChangeLaws
 pub mod OpenLaws

@@ -18,7 +18,8 @@ use Rattle.model.specs.Aggregates.{aggregateAt}
 use Rattle.model.specs.Reference.{Slot, State, Outcome, heldFlows, withNumber, holds, firstCause, findings, whole, fill, perform, decide, apply}
 use Rattle.model.specs.Laws.All.{all-imp}
 use Rattle.model.specs.Laws.Figures.{carried}
-use Rattle.model.specs.Laws.Slot.{index-found, number-index}
+use Rattle.model.specs.Laws.Aggregates.{aggregate-perm}
+use Rattle.model.specs.Laws.Slot.{index-found, number-index, held-perm}
 use Rattle.model.specs.Laws.Reached.{StateRules, state-rules, rules-state, clear-keeps}
 use Rattle.queue_table.specs.View.{tableOf, hopAt}
 use Rattle.flow_store.specs.View.{Store, slotsOf, slotOf, rateAt, shareAt, flowAt, countAt, entriesIn, flowIn}
@@ -28,7 +29,6 @@ use Rattle.queue_table.proofs.EntryLaws.{queue-low}
 use Rattle.recount.specs.View.{Ranged, OnQueues, FramesRaised}
 use Rattle.admission.specs.declared.Answer.the-variants.{Done}
 use Rattle.admission.specs.View.{stateOf, answerOf, Kept, Stepped}
-use Rattle.admission.proofs.StepLaws.{figures-cleared}
 use Rattle.admission.proofs.KeptLaws.{ranges, filled}
 use Rattle.admission.proofs.HeldLaws.{slot-held, by-itself, on-queues, countable, kept-alone}
 
@@ -63,7 +63,7 @@ module _ (table slots pool sums : List ℕ) (k : Kept table slots pool sums) whe
     abbrev left : List Flow
     left = heldFlows (set (slotsOf slots pool) slot none)
 
-    found : getD (slotsOf slots pool) slot none ≡ some flow
+    pub found : getD (slotsOf slots pool) slot none ≡ some flow
     found = slot-at slots slot pool inside ∙ slot-held (countAt slots slot) flow held
 
     pub ranged : Ranged table slots pool slot
@@ -74,15 +74,15 @@ module _ (table slots pool sums : List ℕ) (k : Kept table slots pool sums) whe
     some-rate =
         ranges flow (by-itself table slots pool (k .formed) (k .store) (rules .table) (kept-alone (stateOf table slots pool) rules) slot inside held .0) .some-rate
 
-    is : FlowOf (shareAt slots slot) entries flow
+    pub is : FlowOf (shareAt slots slot) entries flow
     unfolding flowAt
     is = record { is = refl; path-is = refl }
 
-    with-flow : Figures t (flow ∷ left) sums
+    pub with-flow : Figures t (flow ∷ left) sums
     with-flow =
         record {
           long = k .figures .long;
-          same = λ e lt. k .figures .same e lt ∙ figures-cleared t (hopAt e) (slotsOf slots pool) slot found;
+          same = λ e lt. k .figures .same e lt ∙ aggregate-perm t (held-perm (slotsOf slots pool) slot found) (hopAt e);
         }
 
     pub counted : PathCounted (shareAt slots slot) table entries sums

@@ -11,8 +11,8 @@ use Rattle.model.specs.Consistent.{flowInRange, consistent}
 use Rattle.causes.specs.View.{causeOf}
 use Rattle.orders.specs.declared.Flow.{Flow}
 use Rattle.orders.specs.declared.Order.{Order}
-use Rattle.orders.specs.declared.Order.the-variants.{Register, Release, Malformed, OutOfRange}
-use Rattle.orders.specs.View.{hopNumbers, lineFlow}
+use Rattle.orders.specs.declared.Order.the-variants.{Register, Release, Change, Malformed, OutOfRange}
+use Rattle.orders.specs.View.{hopNumbers, changeOf, lineFlow}
 use Rattle.queue_table.specs.View.{WellFormed, tableOf}
 use Rattle.flow_store.specs.View.{Store, slotsOf}
 use Rattle.figures.specs.View.{Figures}
@@ -42,6 +42,7 @@ pub record LineRead (f : Flow) (hops : List ℕ) : Type 0 where
 abbrev pub OrderRead : Order → (hops : List ℕ) → Type 0
 OrderRead (Register f) hops = LineRead f hops
 OrderRead (Release number) hops = Unit {0}
+OrderRead (Change c) hops = model-orders.changeInRange (changeOf c) ≡ true
 OrderRead Malformed hops = Unit {0}
 OrderRead OutOfRange hops = Unit {0}
 

@@ -1,16 +1,18 @@
-// What an order does to a consistent registry, in place on its arrays: a registration, a release, or 10 and 11. Its cost doesn't
+// What an order does to a consistent registry, in place on its arrays: a registration, a release, a change, or 10 and 11. Its cost doesn't
 // depend on the calls before.
 //
 // The arrays are those of `queue_table` (table), `flow_store` (slots, pool) and `figures` (sums).
 ghost use mathlib.Core.Path.{_≡_};
+ghost use mathlib.Core.Bool.{true};
 ghost use mathlib.Core.List.{map};
 ghost use mathlib.Core.Option.{none, some};
 ghost use Prim.Native.Nat.{_^_, _≤_, _<_};
 ghost use lib.ListN.{length, set};
 ghost use Rattle.model.specs.Sizes.{slotCount};
-ghost use Rattle.model.specs.Orders.{register, release, flowOf};
+ghost use Rattle.model.specs.Orders.{register, release, change, changeInRange, flowOf};
+ghost use Rattle.model.specs.Reference.{indexOf};
 ghost use Rattle.units.specs.View.{aggregateOf};
-ghost use Rattle.orders.specs.View.{fieldsOf, lineFlow, orderWith};
+ghost use Rattle.orders.specs.View.{changeOf, fieldsOf, lineFlow, orderWith};
 ghost use Rattle.queue_table.specs.View.{hopAt};
 ghost use Rattle.flow_store.specs.View.{Store, slotsOf, countAt, Insertable};
 ghost use Rattle.figures.specs.View.{sumNumbers, Hops, Below, PathAdded};
@@ -18,8 +20,10 @@ ghost use Rattle.admission.specs.View.{LineRead, OrderRead, Kept, Steppe
 use causes::Cause;
 use causes::Finding;
 use flow_store::SLOTS;
+use orders::Change;
 use orders::Flow;
 use orders::Order;
+use units::Aggregate;
 
 // What an order is answered.
 pub enum Answer {
@@ -119,6 +123,61 @@ fn release_flow(
     Answer::Done(held as u32 + 1)
 }
 
+// Changes rate and burst of the flow in a held slot. Its figures are written only after the last link has passed.
+fn change_held(
+    slot: usize,
+    given: Change,
+    table: &[u32],
+    slots: &mut [u32],
+    pool: &[u32],
+    sums: &mut [u64],
+) -> Answer
+    requires { ⌜ Kept (now table) (now slots) (now pool) (now sums) ⌝ }
+    requires { ⌜ (slot ≡ indexOf (given .number) (slotsOf (now slots) (now pool))) × (slot < slotCount) ⌝ }
+    requires { ⌜ changeInRange (changeOf given) ≡ true ⌝ }
+    ensures { λ r. ⌜ Stepped (change (changeOf given)) (now (table .entry)) (now (slots .entry)) (now (pool .entry)) (now (slots .exit)) (now (pool .entry)) (now (sums .exit)) r ⌝ }
+{
+    let flow = flow_store::flow_at(slot, &slots[..]);
+    let was = flow.share;
+    if given.burst.0 < was.frame.0 {
+        return Answer::Refused(Cause::FrameAboveBurst);
+    }
+    let share = Aggregate {
+        rate: given.rate,
+        burst: given.burst,
+        frame: was.frame,
+    };
+    let mut entries = [0u32; orders::MOST_HOPS];
+    let hops = flow_store::path_into(slot, &slots[..], pool, &mut entries);
+    let path = &entries[..hops];
+    let found = figures::check_change(was, share, table, &sums[..], path);
+    if let Finding::Against(cause) = found {
+        return Answer::Refused(cause);
+    }
+    flow_store::change(slot, given, slots);
+    figures::change_path(was, share, table, path, sums);
+    Answer::Done(slot as u32 + 1)
+}
+
+// Changes the flow with the number of the change.
+fn change_flow(
+    given: Change,
+    table: &[u32],
+    slots: &mut [u32],
+    pool: &[u32],
+    sums: &mut [u64],
+) -> Answer
+    requires { ⌜ Kept (now table) (now slots) (now pool) (now sums) ⌝ }
+    requires { ⌜ changeInRange (changeOf given) ≡ true ⌝ }
+    ensures { λ r. ⌜ Stepped (change (changeOf given)) (now (table .entry)) (now (slots .entry)) (now (pool .entry)) (now (slots .exit)) (now (pool .entry)) (now (sums .exit)) r ⌝ }
+{
+    let held = flow_store::find(given.number, &slots[..]);
+    if held == SLOTS {
+        return Answer::Refused(Cause::NumberNotHeld);
+    }
+    change_held(held, given, table, slots, pool, sums)
+}
+
 // Carries out the order of a line.
 pub fn perform(
     order: Order,
@@ -135,6 +194,7 @@ pub fn perform(
     match order {
         Order::Register(flow) => register_flow(flow, hops, table, slots, pool, sums),
         Order::Release(number) => release_flow(number, table, slots, pool, sums),
+        Order::Change(given) => change_flow(given, table, slots, &pool[..], sums),
         Order::Malformed => Answer::Refused(Cause::Malformed),
         Order::OutOfRange => Answer::Refused(Cause::OutOfRange),
     }

@@ -14,6 +14,7 @@ use Rattle.model.specs.Reference.{Slot}
 use Rattle.units.specs.View.{aggregateOf, AtSource}
 use Rattle.queue_table.specs.View.{hopAt}
 use Rattle.orders.specs.declared.Flow.{Flow}
+use Rattle.orders.specs.declared.Change.{Change}
 
 -- How many numbers the array of the slots has, and where those of slot i stand; its flow number stands at i.
 abbrev pub slotNumbers : ℕ
@@ -134,6 +135,11 @@ pathRemoved start end by pool = paste pool start (drop (start + by) pool) (end -
 pub record Narrow (f : Flow) : Type 0 where
   pub share : AtSource (aggregateOf (f .share))
   pub deadline : f .deadline .0 ≤ 10000000
+
+-- So do those of a change.
+pub record ChangeNarrow (c : Change) : Type 0 where
+  pub rate : c .rate .0 ≤ 10000000
+  pub burst : c .burst .0 ≤ 1000000
 
 -- A flow with its path that goes to a free slot, and for which the pool has room.
 pub record Insertable (slot : ℕ) (f : Flow) (entries slots pool : List ℕ) : Type 0 where

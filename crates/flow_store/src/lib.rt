@@ -10,16 +10,17 @@ ghost use mathlib.Core.Bool.{false};
 ghost use mathlib.Core.List.{List, map};
 ghost use mathlib.Core.Option.{none, some};
 ghost use Prim.Native.Nat.{ℕ, _+_, _-_, _^_, _≤_, _<_};
-ghost use lib.ListN.{length, set, take, drop};
+ghost use lib.ListN.{length, getD, set, take, drop};
 ghost use lib.Seq.{paste};
 ghost use Rattle.model.specs.Words.{firstIndex, isNone};
 ghost use Rattle.model.specs.Sizes.{hopsMost, slotCount, hopEntries};
 ghost use Rattle.model.specs.Orders.{flowOf};
-ghost use Rattle.model.specs.Reference.{holds};
+ghost use Rattle.model.specs.Reference.{holds, changedSlot};
 ghost use Rattle.units.specs.View.{aggregateOf};
 ghost use Rattle.queue_table.specs.View.{hopAt};
-ghost use Rattle.orders.specs.View.{fieldsOf};
-ghost use Rattle.flow_store.specs.View.{slotNumbers, blockSlots, countAt, headAt, shareAt, slotsOf, countsFrom, entriesIn, Store, flowStored, pathInserted, pathRemoved, Narrow, Insertable, OthersFrom};
+ghost use Rattle.orders.specs.View.{changeOf, fieldsOf};
+ghost use Rattle.flow_store.specs.View.{slotNumbers, blockSlots, countAt, headAt, shareAt, slotsOf, countsFrom, entriesIn, Store, flowStored, pathInserted, pathRemoved, Narrow, ChangeNarrow, Insertable, OthersFrom};
+use orders::Change;
 use orders::Flow;
 use units::Aggregate;
 use units::Bytes;
@@ -236,6 +237,18 @@ pub fn insert(slot: usize, flow: Flow, entries: &[u32], slots: &mut [u32], pool:
     let end = start_of(SLOTS, &slots[..]);
     insert_path(start, end, entries, pool);
     store_flow(slot, flow, slots);
+}
+
+// Gives the flow in a slot another rate and burst. They fit the array as those that `insert` stores do.
+pub fn change(slot: usize, given: Change, slots: &mut [u32])
+    requires { ⌜ (slot < slotCount) × (length (now slots) ≡ slotNumbers) × ChangeNarrow given ⌝ }
+    ensures { λ _. ⌜ ((pool : List ℕ) → slotsOf (now (slots .exit)) pool ≡ set (slotsOf (now (slots .entry)) pool) slot (changedSlot (changeOf given) (getD (slotsOf (now (slots .entry)) pool) slot none))) ⌝ }
+    ensures { λ _. ⌜ ((pool : List ℕ) → Store (now (slots .entry)) pool → Store (now (slots .exit)) pool) ⌝ }
+{
+    let rate = given.rate.0 as u32;
+    let burst = given.burst.0 as u32;
+    slots[RATES + slot] = rate;
+    slots[BURSTS + slot] = burst;
 }
 
 // Copies the path of a slot to the front of `entries` and answers its hop count. What stands behind it then is free.

@@ -2,31 +2,36 @@
 use Prim.Native.Nat.{ℕ, _≤_}
 use mathlib.Core.Path.{_≡_}
 use mathlib.Core.List.{List, [], _∷_, _++_, List·Memᴰ}
-use mathlib.Core.Option.{some}
+use mathlib.Core.Option.{none, some}
 use lib.ListN.{length}
 use Rattle.model.specs.Sizes.{slotCount}
 use Rattle.model.specs.Columns.{lines}
-use Rattle.model.specs.QueueTable.{Queue, Link, Table, TableText, accepted, refused}
-use Rattle.model.specs.Orders.{Hop, Order, register, release, rejected}
+use Rattle.model.specs.QueueTable.{Queue, Link, TableText, accepted, refused}
+use Rattle.model.specs.Orders.{Hop, Order, register, release, change, rejected}
 use Rattle.model.specs.Aggregates.{linkAt, queueAt}
-use Rattle.model.specs.Reference.{Cause, Answer}
+use Rattle.model.specs.Reference.{Slot, State, Cause, Answer, slotWith}
 
--- Causes that name neither link nor level: of a line that can't be read, against a release, against a registration.
+-- Causes that name neither link nor level: of a line that can't be read; against a release or a change, of a flow that isn't held; against a
+-- registration or a change, of a burst; against a registration.
 abbrev pub lineCodes : List ℕ
 lineCodes = 10 ∷ 11 ∷ []
 
-abbrev pub releaseCodes : List ℕ
-releaseCodes = 13 ∷ []
+abbrev pub heldCodes : List ℕ
+heldCodes = 13 ∷ []
+
+abbrev pub burstCodes : List ℕ
+burstCodes = 17 ∷ []
 
 abbrev pub registerCodes : List ℕ
-registerCodes = 12 ∷ 17 ∷ 20 ∷ 30 ∷ 31 ∷ []
+registerCodes = 12 ∷ 20 ∷ 30 ∷ 31 ∷ []
 
 abbrev pub plainCodes : Order → List ℕ
-plainCodes (register f) = registerCodes
-plainCodes (release n) = releaseCodes
+plainCodes (register f) = burstCodes ++ registerCodes
+plainCodes (release n) = heldCodes
+plainCodes (change c) = heldCodes ++ burstCodes
 plainCodes (rejected code) = lineCodes
 
--- Causes against a registration that name a hop of its line, a link, a queue.
+-- Causes that name a hop of a registration's line, a link, a queue.
 abbrev pub hopCodes : List ℕ
 hopCodes = 14 ∷ 15 ∷ 16 ∷ []
 
@@ -37,7 +42,7 @@ abbrev pub queueCodes : List ℕ
 queueCodes = 22 ∷ 23 ∷ []
 
 abbrev pub causeCodes : List ℕ
-causeCodes = lineCodes ++ releaseCodes ++ registerCodes ++ hopCodes ++ linkCodes ++ queueCodes
+causeCodes = lineCodes ++ heldCodes ++ burstCodes ++ registerCodes ++ hopCodes ++ linkCodes ++ queueCodes
 
 -- An answer line.
 abbrev pub orderCodes : List ℕ
@@ -62,10 +67,22 @@ abbrev pub batchCodes : List ℕ
 batchCodes = openCodes ++ hostCodes
 
 -- The hops of an order's line.
-unfoldable pub pathOf : Order → List Hop
-pathOf (register f) = f .path
-pathOf (release n) = []
-pathOf (rejected code) = []
+unfoldable pub hopsOf : Order → List Hop
+hopsOf (register f) = f .path
+hopsOf (release n) = []
+hopsOf (change c) = []
+hopsOf (rejected code) = []
+
+-- The path whose links are checked: that of the line, for a change that of the flow in its slot.
+unfoldable pub pathIn : Slot → List Hop
+pathIn none = []
+pathIn (some f) = f .path
+
+unfoldable pub pathOf : List Slot → Order → List Hop
+pathOf slots (register f) = f .path
+pathOf slots (release n) = []
+pathOf slots (change c) = pathIn (slotWith (c .number) slots)
+pathOf slots (rejected code) = []
 
 -- A link that a hop of the path is on.
 pub record OnPath (path : List Hop) (link : ℕ) : Type 0 where
@@ -73,19 +90,20 @@ pub record OnPath (path : List Hop) (link : ℕ) : Type 0 where
   pub member : List·Memᴰ hop path
   pub same : link ≡ hop .link
 
--- A cause against the order `o`, and what its link and level are: those of the hop for 14, 15, 16; the link, and level 0, for 21; the failing queue
--- for 22, 23, both on the path; else both 0.
-pub data Names (t : Table) (o : Order) (c : Cause) : Type 0 where
-  nothing : List·Memᴰ (c .code) (plainCodes o) → c .link ≡ 0 → c .level ≡ 0 → Names t o c
-  hop : List·Memᴰ (c .code) hopCodes → List·Memᴰ (record { link = c .link; level = c .level }) (pathOf o) → Names t o c
-  link : List·Memᴰ (c .code) linkCodes → OnPath (pathOf o) (c .link) → (k : Link) → linkAt t (c .link) ≡ some k → c .level ≡ 0 → Names t o c
-  queue : List·Memᴰ (c .code) queueCodes → OnPath (pathOf o) (c .link) → (q : Queue) → queueAt t (record { link = c .link; level = c .level }) ≡ some q
-      → Names t o c
+-- A cause against the order `o` on the state `s`, and what its link and level are: those of the hop for 14, 15, 16; the link, and level 0, for 21; the failing
+-- queue for 22, 23, both on the path; else both 0.
+pub data Names (s : State) (o : Order) (c : Cause) : Type 0 where
+  nothing : List·Memᴰ (c .code) (plainCodes o) → c .link ≡ 0 → c .level ≡ 0 → Names s o c
+  hop : List·Memᴰ (c .code) hopCodes → List·Memᴰ (record { link = c .link; level = c .level }) (hopsOf o) → Names s o c
+  link : List·Memᴰ (c .code) linkCodes → OnPath (pathOf (s .slots) o) (c .link) → (k : Link) → linkAt (s .table) (c .link) ≡ some k → c .level ≡ 0 → Names s o c
+  queue : List·Memᴰ (c .code) queueCodes → OnPath (pathOf (s .slots) o) (c .link) → (q : Queue)
+      → queueAt (s .table) (record { link = c .link; level = c .level }) ≡ some q
+      → Names s o c
 
 -- An answer to an order as listed: done, with one of the places; or a cause, and place 0.
-pub data Listed (t : Table) (o : Order) (a : Answer) : Type 0 where
-  done : a .code ≡ 0 → 1 ≤ a .slot → a .slot ≤ slotCount → a .link ≡ 0 → a .level ≡ 0 → Listed t o a
-  because : a .slot ≡ 0 → Names t o (record { code = a .code; link = a .link; level = a .level }) → Listed t o a
+pub data Listed (s : State) (o : Order) (a : Answer) : Type 0 where
+  done : a .code ≡ 0 → 1 ≤ a .slot → a .slot ≤ slotCount → a .link ≡ 0 → a .level ≡ 0 → Listed s o a
+  because : a .slot ≡ 0 → Names s o (record { code = a .code; link = a .link; level = a .level }) → Listed s o a
 
 -- A table text's refusal: 1 to 4 with one of its lines, counted from 1; 5 with line 0.
 pub data FaultListed (text : List ℕ) (code line : ℕ) : Type 0 where

@@ -15,6 +15,7 @@ pub mod Finding
 pub mod LinkMeets
 pub mod Consistent
 pub mod Slot
+pub mod Change
 pub mod Order
 pub mod Table
 pub mod Reference

@@ -22,10 +22,17 @@ pub record Flow : Type 0 where
   pub deadline : ℕ
   pub path : List Hop
 
--- A registration with its flow, a release with its flow number, or 10 or 11.
+-- A change as its line gives it: a flow's number, its new rate in kbit/s and its new burst in bytes.
+pub record Change : Type 0 where
+  pub number : ℕ
+  pub rate : ℕ
+  pub burst : ℕ
+
+-- A registration with its flow, a release with its flow number, a change, or 10 or 11.
 pub data Order : Type 0 where
   register : Flow → Order
   release : ℕ → Order
+  change : Change → Order
   rejected : ℕ → Order
 
 -- The columns of a registration before its hops.
@@ -37,12 +44,17 @@ pub record Head : Type 0 where
   pub deadline : ℕ
   pub hops : ℕ
 
+-- A change's columns, with which a registration begins too.
+unfoldable pub changeFields : List ℕ → Option Change
+changeFields line =
+    andThen (fieldAt 3 8 line) λ number. andThen (fieldAt 9 17 line) λ rate. andThen (fieldAt 18 25 line) λ burst.
+    some (record { number = number; rate = rate; burst = burst })
+
 unfoldable pub headFields : List ℕ → Option Head
 headFields line =
-    andThen (fieldAt 3 8 line) λ number. andThen (fieldAt 9 17 line) λ rate.
-    andThen (fieldAt 18 25 line) λ burst. andThen (fieldAt 26 30 line) λ frame.
+    andThen (changeFields line) λ c. andThen (fieldAt 26 30 line) λ frame.
     andThen (fieldAt 31 38 line) λ deadline. andThen (fieldAt 39 41 line) λ hops.
-    some (record { number = number; rate = rate; burst = burst; frame = frame; deadline = deadline; hops = hops })
+    some (record { number = c .number; rate = c .rate; burst = c .burst; frame = frame; deadline = deadline; hops = hops })
 
 -- A hop's six columns: link 1-4, level 5-6.
 unfoldable pub hopField : List ℕ → Option Hop
@@ -63,6 +75,12 @@ pathFields hops line = cond (eqb (length line) (headColumns + hopColumns * hops)
 unfoldable pub numberInRange : ℕ → Bool
 numberInRange = between 1 65535
 
+abbrev pub rateInRange : ℕ → Bool
+rateInRange = between 1 10000000
+
+abbrev pub burstInRange : ℕ → Bool
+burstInRange = between 84 1000000
+
 unfoldable pub hopsInRange : ℕ → Bool
 hopsInRange = between 1 hopsMost
 
@@ -70,8 +88,8 @@ hopsInRange = between 1 hopsMost
 unfoldable pub headInRange : Head → Bool
 headInRange h =
     numberInRange (h .number)
-    && between 1 10000000 (h .rate)
-    && between 84 1000000 (h .burst)
+    && rateInRange (h .rate)
+    && burstInRange (h .burst)
     && between 84 1542 (h .frame)
     && between 1 10000000 (h .deadline)
 
@@ -99,23 +117,39 @@ releaseOf (some n) = cond (numberInRange n) (release n) (rejected 11)
 unfoldable pub releaseLine : List ℕ → Order
 releaseLine line = cond (eqb (length line) 8) (releaseOf (fieldAt 3 8 line)) (rejected 10)
 
--- Kind 1 registers, kind 2 releases.
+unfoldable pub changeInRange : Change → Bool
+changeInRange c = numberInRange (c .number) && rateInRange (c .rate) && burstInRange (c .burst)
+
+unfoldable pub changeOf : Option Change → Order
+changeOf none = rejected 10
+changeOf (some c) = cond (changeInRange c) (change c) (rejected 11)
+
+-- W-206: a change ends after column 25.
+unfoldable pub changeLine : List ℕ → Order
+changeLine line = cond (eqb (length line) 25) (changeOf (changeFields line)) (rejected 10)
+
+-- Kind 1 registers, kind 2 releases, kind 3 changes.
 pub data Kind : Type 0 where
   registering : Kind
   releasing : Kind
+  changing : Kind
 
 unfoldable pub kindNumber : Kind → ℕ
 kindNumber registering = 1
 kindNumber releasing = 2
+kindNumber changing = 3
 
 unfoldable pub kindOfNumber : ℕ → Option Kind
-kindOfNumber n = cond (eqb n (kindNumber registering)) (some registering) (cond (eqb n (kindNumber releasing)) (some releasing) none)
+kindOfNumber n =
+    cond (eqb n (kindNumber registering)) (some registering)
+    (cond (eqb n (kindNumber releasing)) (some releasing) (cond (eqb n (kindNumber changing)) (some changing) none))
 
 -- Another kind is out of range and the rest isn't read.
 unfoldable pub kindOrder : List ℕ → Option Kind → Order
 kindOrder line none = rejected 11
 kindOrder line (some registering) = registration line
 kindOrder line (some releasing) = releaseLine line
+kindOrder line (some changing) = changeLine line
 
 unfoldable pub orderOfKind : List ℕ → Option ℕ → Order
 orderOfKind line none = rejected 10

@@ -1,6 +1,7 @@
--- What is said of one order on the reference model: refused, admitted, released, decided as the mission's second line has it; lacking room.
+-- What is said of one order on the reference model: refused, admitted, released, changed, decided as the mission's second line has it; lacking room.
 use Prim.Native.Nat.{ℕ, suc, _+_, _≤_, _<_}
 use mathlib.Core.Path.{_≡_}
+use mathlib.Core.Bool.{true}
 use mathlib.Core.Logic.{_⊎_, _↔_}
 use mathlib.Core.List.{List, [], _∷_, _++_}
 use mathlib.Core.Option.{Option, none, some}
@@ -8,8 +9,9 @@ use lib.ListN.{length, getD, set}
 use Rattle.model.specs.Words.{All}
 use Rattle.model.specs.Sizes.{slotCount, hopEntries}
 use Rattle.model.specs.Orders as orders
-use Rattle.model.specs.Orders.{Flow, Order, register}
-use Rattle.model.specs.Reference.{Slot, State, Cause, Outcome, heldFlows, heldHops, withNumber, numberFinding, lineFindings, deadlineFinding, roomFindings, findings}
+use Rattle.model.specs.Orders.{Flow, Change, Order, register}
+use Rattle.model.specs.Reference.{Slot, State, Cause, Outcome, heldFlows, heldHops, withNumber, numberFinding, lineFindings, deadlineFinding, roomFindings, changed, findings}
+use Rattle.model.specs.Consistent.{consistent}
 use Rattle.model.specs.Admissible.{Admissible}
 
 -- None of the findings applies.
@@ -53,10 +55,21 @@ pub record Released (s : State) (n : ℕ) (out : Outcome) : Type 0 where
   pub answer : out .answer ≡ record { code = 0; slot = suc index; link = 0; level = 0 }
   pub next : out .next ≡ withSlot s index none
 
--- An order that answers 0 is a registration or a release, and was carried out.
+-- A change: the slot that held the flow with this number holds it with the new rate and burst, all else of it kept, and is answered.
+pub record Changed (s : State) (c : Change) (out : Outcome) : Type 0 where
+  pub index : ℕ
+  pub inside : index < length (s .slots)
+  pub flow : Flow
+  pub held : getD (s .slots) index none ≡ some flow
+  pub number : flow .number ≡ c .number
+  pub answer : out .answer ≡ record { code = 0; slot = suc index; link = 0; level = 0 }
+  pub next : out .next ≡ withSlot s index (some (changed c flow))
+
+-- An order that answers 0 is a registration, a release or a change, and was carried out.
 pub data Done (s : State) (o : Order) (out : Outcome) : Type 0 where
   admission : (f : Flow) → o ≡ register f → Admitted s f out → Done s o out
   release : (n : ℕ) → o ≡ orders.release n → Released s n out → Done s o out
+  change : (c : Change) → o ≡ orders.change c → Changed s c out → Done s o out
 
 -- None of 12, 14 to 17, 30 and 31 against a registration.
 pub record NoneOthers (s : State) (f : Flow) : Type 0 where
@@ -64,12 +77,21 @@ pub record NoneOthers (s : State) (f : Flow) : Type 0 where
   pub line : NoneApplies (lineFindings (s .table) f)
   pub room : NoneApplies (roomFindings (s .slots) f)
 
+-- W-206: the flow of a change is held, and the held flows with this one so changed are consistent, 17 among what that asks.
+pub record Changeable (s : State) (c : Change) : Type 0 where
+  pub index : ℕ
+  pub flow : Flow
+  pub held : getD (s .slots) index none ≡ some flow
+  pub number : flow .number ≡ c .number
+  pub meets : consistent (withSlot s index (some (changed c flow))) ≡ true
+
 -- Mission, line 2: the order `o` on the state `s` is answered, and leaves the state, as document 01 decides it. A registration that was read answers 0 if
 -- and only if none of 12, 14 to 17, 30 and 31 is against it and the threshold-based model admits it; a release, if and only if its flow number is held. Any
 -- other code is the cause that comes first.
 pub record Decided (s : State) (o : Order) (out : Outcome) : Type 0 where
   pub exactly : (f : Flow) → o ≡ register f → (out .answer .code ≡ 0) ↔ (NoneOthers s f × Admissible (s .table) (heldFlows (s .slots)) f)
   pub held : (n : ℕ) → o ≡ orders.release n → (out .answer .code ≡ 0) ↔ (1 ≤ withNumber n (heldFlows (s .slots)))
+  pub changed : (c : Change) → o ≡ orders.change c → (out .answer .code ≡ 0) ↔ Changeable s c
   pub done : out .answer .code ≡ 0 → Done s o out
   pub refused : (out .answer .code ≡ 0 → ⊥) → Refused s o out
 

@@ -4,14 +4,14 @@ use Prim.Native.Nat.{ℕ, suc, _+_}
 use mathlib.Core.Bool.{Bool, true, false, cond, not, _||_}
 use mathlib.Core.List.{List, [], _∷_, _++_, map}
 use mathlib.Core.Option.{Option, none, some}
-use lib.ListN.{length, set, replicate}
+use lib.ListN.{length, getD, set, replicate}
 use lib.Dec.{leb, ltb, eqb}
 use Rattle.model.specs.Words.{every, isNone, firstIndex}
 use Rattle.model.specs.Sizes.{slotCount, hopEntries}
 use Rattle.model.specs.Total.{total}
 use Rattle.model.specs.Columns.{Line, ended, unended, lines, fieldAt}
 use Rattle.model.specs.QueueTable.{Link, Table, TableText, accepted, refused, readTable}
-use Rattle.model.specs.Orders.{Hop, Flow, Order, register, release, rejected, Kind, kindNumber, readOrder}
+use Rattle.model.specs.Orders.{Hop, Flow, Change, Order, register, release, change, rejected, Kind, kindNumber, readOrder}
 use Rattle.model.specs.LinkCheck.{Finding, linkFinding}
 use Rattle.model.specs.Aggregates.{linkAt, queueAt, thresholdOf, fixedDelayOf, levelAggregates}
 
@@ -141,11 +141,42 @@ registerFindings s f =
     ∷ roomFindings (s .slots) f
     ++ linkFindings (s .table) (f ∷ heldFlows (s .slots)) (f .path)
 
--- The causes against an order: 10 or 11 of its line comes before all others. 13 flow number not held (release).
+-- Whether a slot holds the flow with this number.
+unfoldable pub holds : ℕ → Slot → Bool
+holds n none = false
+holds n (some f) = eqb (f .number) n
+
+-- The index of the slot that holds the flow with this number, counted from 0; where none does, that of no slot.
+abbrev pub indexOf : (number : ℕ) → List Slot → ℕ
+indexOf n slots = firstIndex (holds n) slots
+
+-- That slot.
+abbrev pub slotWith : (number : ℕ) → List Slot → Slot
+slotWith n slots = getD slots (indexOf n slots) none
+
+-- W-206: a flow with the rate and burst of a change; number, frame, deadline and path are kept.
+unfoldable pub changed : Change → Flow → Flow
+changed c f =
+    record { number = f .number; rate = c .rate; burst = c .burst; frame = f .frame; deadline = f .deadline; path = f .path }
+
+unfoldable pub changedSlot : Change → Slot → Slot
+changedSlot c none = none
+changedSlot c (some f) = some (changed c f)
+
+-- The causes against a change, after 10 and 11, by the slot that holds its flow: 13 flow number not held; 17 against the held frame; then the links
+-- of the held path, where the flow counts as changed beside the others.
+unfoldable pub changeFindings : State → Change → Slot → List (Option Cause)
+changeFindings s c none = whole 13 true ∷ []
+changeFindings s c (some f) =
+    whole 17 (ltb (c .burst) (f .frame))
+    ∷ linkFindings (s .table) (changed c f ∷ heldFlows (set (s .slots) (indexOf (c .number) (s .slots)) none)) (f .path)
+
+-- The causes against an order: 10 or 11 of its line comes before all others. 13 flow number not held (release, change).
 unfoldable pub findings : State → Order → List (Option Cause)
 findings s (rejected code) = whole code true ∷ []
 findings s (register f) = registerFindings s f
 findings s (release n) = whole 13 (eqb (withNumber n (heldFlows (s .slots))) 0) ∷ []
+findings s (change c) = changeFindings s c (slotWith (c .number) (s .slots))
 
 -- What an answer line holds after the line number.
 pub record Answer : Type 0 where
@@ -157,10 +188,6 @@ pub record Answer : Type 0 where
 pub record Outcome : Type 0 where
   pub answer : Answer
   pub next : State
-
-unfoldable pub holds : ℕ → Slot → Bool
-holds n none = false
-holds n (some f) = eqb (f .number) n
 
 -- A refusal answers its cause and slot 0; nothing changes.
 unfoldable pub refuse : State → Cause → Outcome
@@ -174,11 +201,13 @@ fill s i contents =
       next = record { table = s .table; slots = set (s .slots) i contents };
     }
 
--- With no cause a registration puts its flow in the lowest free slot, a release empties the slot of the flow with its number.
+-- With no cause a registration puts its flow in the lowest free slot, a release empties the slot of the flow with its number, a change
+-- leaves the flow in its slot with another rate and burst.
 unfoldable pub perform : State → Order → Outcome
 perform s (rejected code) = refuse s (record { code = code; link = 0; level = 0 })
 perform s (register f) = fill s (firstIndex isNone (s .slots)) (some f)
-perform s (release n) = fill s (firstIndex (holds n) (s .slots)) none
+perform s (release n) = fill s (indexOf n (s .slots)) none
+perform s (change c) = fill s (indexOf (c .number) (s .slots)) (changedSlot c (slotWith (c .number) (s .slots)))
 
 unfoldable pub decide : State → Order → Option Cause → Outcome
 decide s o none = perform s o

@@ -53,14 +53,14 @@ module _ (s : State) (ok : consistent s ≡ true) where
   unfolding step
   call-decided c = decided s (state-rules s ok) (callOrder c) (kindNumber (c .kind)) (call-readable c)
 
-  pub call-listed : (c : Call) → Listed (s .table) (callOrder c) (step s c .answer)
+  pub call-listed : (c : Call) → Listed s (callOrder c) (step s c .answer)
   unfolding step
   call-listed c = listed s (state-rules s ok) (callOrder c) (kindNumber (c .kind)) (call-readable c)
 
   pub line-decided : (l : Line) → Decided s (orderLine l) (apply s (orderLine l))
   line-decided l = let (kind, r) = line-readable l in decided s (state-rules s ok) (orderLine l) kind r
 
-  pub line-listed : (l : Line) → Listed (s .table) (orderLine l) (apply s (orderLine l) .answer)
+  pub line-listed : (l : Line) → Listed s (orderLine l) (apply s (orderLine l) .answer)
   line-listed l = let (kind, r) = line-readable l in listed s (state-rules s ok) (orderLine l) kind r
 
   -- No frame is late, in a queue or end to end, none is lost, and every one arrives, in every run over the held flows.

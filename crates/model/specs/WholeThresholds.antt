@@ -3,18 +3,18 @@ use Prim.Native.Nat.{ℕ, suc, _+_}
 use mathlib.Core.Bool.{Bool, _&&_}
 use mathlib.Core.List.{List, [], _∷_, _++_, map}
 use mathlib.Core.Option.{Option, none, some}
-use lib.ListN.{length}
-use lib.Dec.{leb}
+use lib.ListN.{length, set}
+use lib.Dec.{leb, ltb}
 use Rattle.model.specs.Words.{every, isNone}
 use Rattle.model.specs.Sizes.{slotCount, hopEntries}
 use Rattle.model.specs.Columns.{Line}
 use Rattle.model.specs.Formula.{Aggregate}
 use Rattle.model.specs.QueueTable.{Queue, Link, Table}
-use Rattle.model.specs.Orders.{Hop, Flow, Order, register, release, rejected, orderLine}
+use Rattle.model.specs.Orders.{Hop, Flow, Change, Order, register, release, change, rejected, orderLine}
 use Rattle.model.specs.LinkCheck.{linkFinding}
 use Rattle.model.specs.Aggregates.{Share, linkAt, queueAt, thresholdOf, source, grown, sharesAt}
 use Rattle.model.specs.Reference as now
-use Rattle.model.specs.Reference.{State, Cause, Answer, Outcome, heldFlows, heldHops, withNumber, firstCause, lineFindings, deadlineFinding, roomFindings, linkCause, decide}
+use Rattle.model.specs.Reference.{Slot, State, Cause, Answer, Outcome, heldFlows, heldHops, withNumber, firstCause, whole, indexOf, slotWith, changed, lineFindings, deadlineFinding, roomFindings, linkCause, decide}
 use Rattle.model.specs.Consistent.{flowInRange}
 use Rattle.model.specs.Outcomes.{earlyFindings}
 
@@ -51,9 +51,15 @@ unfoldable pub flowsConsistent : Table → List Flow → Bool
 flowsConsistent t fs = every (flowConsistent t fs) fs && leb (length fs) slotCount && leb (heldHops fs) hopEntries
 
 -- The causes against an order by it; all else is as in `Reference`.
+unfoldable pub changeFindings : State → Change → Slot → List (Option Cause)
+changeFindings s c none = now.changeFindings s c none
+changeFindings s c (some f) =
+    whole 17 (ltb (c .burst) (f .frame)) ∷ linkFindings (s .table) (changed c f ∷ heldFlows (set (s .slots) (indexOf (c .number) (s .slots)) none)) (f .path)
+
 unfoldable pub findings : State → Order → List (Option Cause)
 findings s (register f) = earlyFindings s f ++ roomFindings (s .slots) f ++ linkFindings (s .table) (f ∷ heldFlows (s .slots)) (f .path)
 findings s (release n) = now.findings s (release n)
+findings s (change c) = changeFindings s c (slotWith (c .number) (s .slots))
 findings s (rejected code) = now.findings s (rejected code)
 
 unfoldable pub apply : State → Order → Outcome

@@ -13,10 +13,10 @@ use Rattle.model.specs.Total.{total, largest}
 use Rattle.model.specs.Formula.{ceilDiv, shortestSending, hopGrowth, burstAtHop, residual, withinRate, delayBound, backlogBound, blocking, interference, levelResidual, delay, backlog}
 use Rattle.model.specs.Columns.{isDigit, digits, number, field, fieldAt, between, prepend, lines}
 use Rattle.model.specs.QueueTable.{Queue, Table, isRowLength, laterField, rowFields, row, bestEffortInRange, rowInRange, continues, begins, rowInTurn, sameLink, rowAgrees, rowCause, queueOf, newLink, addLevel, addRow, rowStep, lineStep, readLines, readTable}
-use Rattle.model.specs.Orders.{Hop, Flow, registering, headFields, hopField, hopFields, pathFields, numberInRange, hopsInRange, headInRange, flowOf, withPath, registrationOf, registration, kindNumber, kindOfNumber, kindOrder, orderOfKind, readOrder}
+use Rattle.model.specs.Orders.{Hop, Flow, registering, changing, changeInRange, changeOf, changeLine, changeFields, headFields, hopField, hopFields, pathFields, numberInRange, hopsInRange, headInRange, flowOf, withPath, registrationOf, registration, kindNumber, kindOfNumber, kindOrder, orderOfKind, readOrder}
 use Rattle.model.specs.LinkCheck.{isEmpty, levelCode, orElse, levelsFinding, rateCode, linkFinding}
 use Rattle.model.specs.Aggregates.{linkAt, queueAt, thresholdOf, speedOf, fixedDelayOf, shares, allShares, sameHop, addsAt, sharesAt, aggregateAt, levelAggregates}
-use Rattle.model.specs.Reference.{State, heldFlows, heldHops, withNumber, crosses, pathDelay, firstCause, whole, start, end, noQueue, metEarlier, startsElsewhere, numberFinding, lineFindings, deadlineFinding, isHeld, roomFindings, linkCause, causeAt, linkFindings, registerFindings, findings, refuse, fill, perform, decide, apply, Call, lineOfKind, onlyLine, callOrder, step, tableOf, opened, afterOrders, final}
+use Rattle.model.specs.Reference.{State, heldFlows, heldHops, withNumber, crosses, pathDelay, firstCause, whole, start, end, noQueue, metEarlier, startsElsewhere, numberFinding, lineFindings, deadlineFinding, isHeld, roomFindings, linkCause, causeAt, linkFindings, registerFindings, holds, changed, changedSlot, changeFindings, findings, refuse, fill, perform, decide, apply, Call, lineOfKind, onlyLine, callOrder, step, tableOf, opened, afterOrders, final}
 use Rattle.model.specs.Reference as book
 use Rattle.model.specs.Run as run
 use Rattle.model.specs.Run.{Frame, Sends, Run, window, bytesOf, Conforming}
@@ -37,12 +37,17 @@ text =
 unfoldable pub registers : String → Call
 registers line = record { kind = registering; bytes = bytes line }
 
--- Flow 1 over both links, flow 2 on the lower level of link 1, flow 3 on link 2. Their deadlines are what thresholds and fixed delays sum to.
+unfoldable pub changes : String → Call
+changes line = record { kind = changing; bytes = bytes line }
+
+-- Flow 1 over both links, flow 2 on the lower level of link 1, flow 3 on link 2. Their deadlines are what thresholds and fixed delays sum to. Flow 2 gets its
+-- burst by a change.
 pub calls : List Call
 calls =
     registers " 1     1     1000     168   84      16  2   1 1   2 1\n"
-    ∷ registers " 1     2     1000     252   84      12  1   1 2\n"
+    ∷ registers " 1     2     2000      84   84      12  1   1 2\n"
     ∷ registers " 1     3     1000      84   84       8  1   2 1\n"
+    ∷ changes " 3     2     1000     252\n"
     ∷ []
 
 abbrev pub state : State
@@ -73,7 +78,7 @@ table =
 
 -- The calls admit these flows on this table.
 pub the-state : (state .table ≡ table) × (heldFlows (state .slots) ≡ flows)
-unfolding text calls registers bytes bytesFrom isDigit digits number field fieldAt between prepend lines isRowLength laterField rowFields row bestEffortInRange rowInRange continues begins rowInTurn sameLink rowAgrees rowCause queueOf newLink addLevel addRow rowStep lineStep readLines readTable headFields hopField hopFields pathFields numberInRange hopsInRange headInRange flowOf withPath registrationOf registration kindNumber kindOfNumber kindOrder orderOfKind readOrder total largest ceilDiv shortestSending hopGrowth burstAtHop residual withinRate delayBound backlogBound blocking interference levelResidual delay backlog isEmpty levelCode orElse levelsFinding rateCode linkFinding nth linkAt queueAt thresholdOf speedOf fixedDelayOf shares allShares sameHop addsAt sharesAt aggregateAt levelAggregates heldFlows heldHops withNumber crosses pathDelay firstCause whole book.atHop isNone start end noQueue metEarlier startsElsewhere numberFinding lineFindings deadlineFinding every isHeld roomFindings linkCause causeAt linkFindings registerFindings findings firstIndex refuse fill perform decide apply lineOfKind onlyLine callOrder step tableOf opened final afterOrders
+unfolding text calls registers changes bytes bytesFrom isDigit digits number field fieldAt between prepend lines isRowLength laterField rowFields row bestEffortInRange rowInRange continues begins rowInTurn sameLink rowAgrees rowCause queueOf newLink addLevel addRow rowStep lineStep readLines readTable changeFields headFields hopField hopFields pathFields numberInRange hopsInRange headInRange flowOf withPath registrationOf registration changeInRange changeOf changeLine kindNumber kindOfNumber kindOrder orderOfKind readOrder total largest ceilDiv shortestSending hopGrowth burstAtHop residual withinRate delayBound backlogBound blocking interference levelResidual delay backlog isEmpty levelCode orElse levelsFinding rateCode linkFinding nth linkAt queueAt thresholdOf speedOf fixedDelayOf shares allShares sameHop addsAt sharesAt aggregateAt levelAggregates heldFlows heldHops withNumber crosses pathDelay firstCause whole book.atHop isNone start end noQueue metEarlier startsElsewhere numberFinding lineFindings deadlineFinding every isHeld roomFindings linkCause causeAt linkFindings registerFindings changed changedSlot changeFindings findings holds firstIndex refuse fill perform decide apply lineOfKind onlyLine callOrder step tableOf opened final afterOrders
 the-state = (refl, refl)
 
 -- What is promised of the flows and the table that calls lead to.

@@ -7,13 +7,16 @@ use lib.ListN.{take, getD}
 use Rattle.model.specs.Sizes.{hopsMost}
 use Rattle.model.specs.Orders as model
 use Rattle.orders.specs.declared.Flow.{Flow}
+use Rattle.orders.specs.declared.Change as declared
 use Rattle.orders.specs.declared.Kind.{Kind}
 use Rattle.orders.specs.declared.Kind.the-variants as kind
 use Rattle.orders.specs.declared.KindRead.{KindRead}
 use Rattle.orders.specs.declared.KindRead.the-variants as kind-read
 use Rattle.orders.specs.declared.Order.{Order}
-use Rattle.orders.specs.declared.Order.the-variants.{Register, Release, Malformed, OutOfRange}
+use Rattle.orders.specs.declared.Order.the-variants.{Register, Release, Change, Malformed, OutOfRange}
 use Rattle.orders.specs.declared.OrderLine.{OrderLine}
+use Rattle.orders.specs.declared.Source.{Source}
+use Rattle.orders.specs.declared.Source.the-variants as source
 use Rattle.orders.specs.declared.Head.{Head}
 use Rattle.orders.specs.declared.Head.the-variants as head
 use Rattle.orders.specs.declared.Hop.{Hop}
@@ -41,6 +44,7 @@ linePath hops n = take n (hopsIn hops)
 abbrev pub kindOf : Kind → model.Kind
 kindOf kind.Register = model.registering
 kindOf kind.Release = model.releasing
+kindOf kind.Change = model.changing
 
 abbrev pub kindIn : KindRead → Option model.Kind
 kindIn (kind-read.Is kind) = some (kindOf kind)
@@ -62,10 +66,14 @@ fieldsOf f =
 abbrev pub lineFlow : Flow → (hops : List ℕ) → model.Flow
 lineFlow f hops = model.flowOf (fieldsOf f) (linePath hops (f .hops))
 
+abbrev pub changeOf : declared.Change → model.Change
+changeOf c = record { number = c .number; rate = c .rate .0; burst = c .burst .0 }
+
 -- What an order says with the hops beside it; only a registration has any.
 abbrev pub orderWith : Order → (hops : List ℕ) → model.Order
 orderWith (Register f) hops = model.register (lineFlow f hops)
 orderWith (Release n) hops = model.release n
+orderWith (Change c) hops = model.change (changeOf c)
 orderWith Malformed hops = model.rejected 10
 orderWith OutOfRange hops = model.rejected 11
 
@@ -76,8 +84,13 @@ orderOf l = orderWith (l .order) (l .hops)
 abbrev pub hopsFit : Order → Type 0
 hopsFit (Register f) = f .hops ≤ hopsMost
 hopsFit (Release n) = Unit {0}
+hopsFit (Change c) = Unit {0}
 hopsFit Malformed = Unit {0}
 hopsFit OutOfRange = Unit {0}
+
+abbrev pub sourceOf : Source → Option model.Change
+sourceOf (source.Fields c) = some (changeOf c)
+sourceOf source.Malformed = none
 
 abbrev pub headOf : Head → Option model.Head
 headOf (head.Fields f) = some (fieldsOf f)

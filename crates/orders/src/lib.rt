@@ -4,9 +4,9 @@ ghost use Prim.Native.Nat.{_≤_, _<_};
 ghost use lib.ListN.{length, drop};
 ghost use Rattle.model.specs.Sizes.{hopsMost};
 ghost use Rattle.model.specs.Columns.{fieldAt, lines};
-ghost use Rattle.model.specs.Orders.{kindNumber, kindOfNumber, readOrder, releaseLine, registration, headFields, headInRange, hopField, pathFields};
+ghost use Rattle.model.specs.Orders.{kindNumber, kindOfNumber, readOrder, releaseLine, changeLine, registration, changeFields, changeInRange, headFields, headInRange, hopField, pathFields};
 ghost use Rattle.model.specs.Reference.{lineOfKind, onlyLine};
-ghost use Rattle.orders.specs.View.{hopNumbers, hopIn, kindOf, kindIn, orderOf, hopsFit, fieldsOf, headOf, hopOf, pathOf};
+ghost use Rattle.orders.specs.View.{hopNumbers, hopIn, kindOf, kindIn, changeOf, orderOf, hopsFit, fieldsOf, sourceOf, headOf, hopOf, pathOf};
 use columns::Field;
 use columns::NextLine;
 use units::Aggregate;
@@ -35,10 +35,18 @@ pub struct Flow {
     pub hops: u32,
 }
 
+// The rate and burst that a line gives to the flow with this number.
+pub struct Change {
+    pub number: u32,
+    pub rate: Rate,
+    pub burst: Bytes,
+}
+
 // What a line or a call asks for.
 pub enum Kind {
     Register,
     Release,
+    Change,
 }
 
 // The kind that a number stands for.
@@ -52,6 +60,8 @@ pub enum Order {
     Register(Flow),
     // With a flow number.
     Release(u32),
+    // With a flow number, and its new rate and burst.
+    Change(Change),
     // 10: columns wrong.
     Malformed,
     // 11: out of range.
@@ -62,6 +72,11 @@ pub enum Order {
 pub struct OrderLine {
     pub order: Order,
     pub hops: [u32; HOP_NUMBERS],
+}
+
+enum Source {
+    Fields(Change),
+    Malformed,
 }
 
 enum Head {
@@ -105,17 +120,31 @@ fn read_release(line: &[u8]) -> OrderLine
     bare(Order::OutOfRange)
 }
 
+// The flow number, rate and burst, with which a registration and a change begin.
+fn read_source(line: &[u8]) -> Source
+    ensures { λ r. ⌜ sourceOf r ≡ changeFields (now (line .entry)) ⌝ }
+{
+    let Field::Number(number) = columns::read_at(line, 3, 8) else {
+        return Source::Malformed;
+    };
+    let Field::Number(rate) = columns::read_at(line, 9, 17) else {
+        return Source::Malformed;
+    };
+    let Field::Number(burst) = columns::read_at(line, 18, 25) else {
+        return Source::Malformed;
+    };
+    Source::Fields(Change {
+        number,
+        rate: Rate(columns::wide(rate)),
+        burst: Bytes(columns::wide(burst)),
+    })
+}
+
 // The columns of a registration before its hops.
 fn read_head(line: &[u8]) -> Head
     ensures { λ r. ⌜ headOf r ≡ headFields (now (line .entry)) ⌝ }
 {
-    let Field::Number(number) = columns::read_at(line, 3, 8) else {
-        return Head::Malformed;
-    };
-    let Field::Number(rate) = columns::read_at(line, 9, 17) else {
-        return Head::Malformed;
-    };
-    let Field::Number(burst) = columns::read_at(line, 18, 25) else {
+    let Source::Fields(source) = read_source(line) else {
         return Head::Malformed;
     };
     let Field::Number(frame) = columns::read_at(line, 26, 30) else {
@@ -128,15 +157,31 @@ fn read_head(line: &[u8]) -> Head
         return Head::Malformed;
     };
     Head::Fields(Flow {
-        number,
+        number: source.number,
         share: Aggregate {
-            rate: Rate(columns::wide(rate)),
-            burst: Bytes(columns::wide(burst)),
+            rate: source.rate,
+            burst: source.burst,
             frame: Bytes(columns::wide(frame)),
         },
         deadline: Micros(columns::wide(deadline)),
         hops,
     })
+}
+
+// The ranges of a change.
+fn source_in_range(source: Change) -> bool
+    ensures { λ r. ⌜ r ≡ changeInRange (changeOf source) ⌝ }
+{
+    let number = source.number;
+    let rate = source.rate.0;
+    let burst = source.burst.0;
+    if !columns::within(1, 65535, columns::wide(number)) {
+        return false;
+    }
+    if !columns::within(1, 10_000_000, rate) {
+        return false;
+    }
+    columns::within(84, 1_000_000, burst)
 }
 
 // The ranges of a registration, its hop count aside.
@@ -145,17 +190,14 @@ pub fn in_range(flow: Flow) -> bool
 {
     let number = flow.number;
     let share = flow.share;
-    let rate = share.rate.0;
-    let burst = share.burst.0;
     let frame = share.frame.0;
     let deadline = flow.deadline.0;
-    if !columns::within(1, 65535, columns::wide(number)) {
-        return false;
-    }
-    if !columns::within(1, 10_000_000, rate) {
-        return false;
-    }
-    if !columns::within(84, 1_000_000, burst) {
+    let source = Change {
+        number,
+        rate: share.rate,
+        burst: share.burst,
+    };
+    if !source_in_range(source) {
         return false;
     }
     if !columns::within(84, 1542, frame) {
@@ -243,6 +285,22 @@ fn read_registration(line: &[u8]) -> OrderLine
     }
 }
 
+fn read_change(line: &[u8]) -> OrderLine
+    ensures { λ r. ⌜ orderOf r ≡ changeLine (now (line .entry)) ⌝ }
+    ensures { λ r. ⌜ hopsFit (r .order) ⌝ }
+{
+    if line.len() != 25 {
+        return bare(Order::Malformed);
+    }
+    let Source::Fields(source) = read_source(line) else {
+        return bare(Order::Malformed);
+    };
+    if source_in_range(source) {
+        return bare(Order::Change(source));
+    }
+    bare(Order::OutOfRange)
+}
+
 // Document 01's number of a kind.
 pub fn kind_number(kind: Kind) -> u32
     ensures { λ r. ⌜ r ≡ kindNumber (kindOf kind) ⌝ }
@@ -250,6 +308,7 @@ pub fn kind_number(kind: Kind) -> u32
     match kind {
         Kind::Register => 1,
         Kind::Release => 2,
+        Kind::Change => 3,
     }
 }
 
@@ -261,6 +320,9 @@ pub fn kind_of_number(number: u32) -> KindRead
     }
     if number == kind_number(Kind::Release) {
         return KindRead::Is(Kind::Release);
+    }
+    if number == kind_number(Kind::Change) {
+        return KindRead::Is(Kind::Change);
     }
     KindRead::Other
 }
@@ -279,6 +341,7 @@ pub fn read_order(line: &[u8]) -> OrderLine
     match kind {
         Kind::Register => read_registration(line),
         Kind::Release => read_release(line),
+        Kind::Change => read_change(line),
     }
 }
 

@@ -1,14 +1,13 @@
 -- The first line holds: of each answer by what the reference model answers, and of a call on a registry that isn't consistent by its 42.
 -- Assumes nothing.
 use Prim.Native.Nat.{ℕ}
-use mathlib.Core.Path.{_≡_, refl, ap, sym, subst, _∙_}
+use mathlib.Core.Path.{_≡_, ap, sym, subst, _∙_}
 use mathlib.Core.Bool.{true}
 use mathlib.Core.List.{List, [], _∷_, List·Memᴰ, List·Memᴰ·head, List·Memᴰ·tail, List·Memᴰ·not-nil, List·Memᴰ·cases-cons}
 use mathlib.Core.Logic.{⊎-elim}
 use native.Mathlib.Decide.{ℕ-discrete}
-use Rattle.model.specs.Words.{Pairs, ends, pair}
 use Rattle.model.specs.Columns.{Line, lines}
-use Rattle.model.specs.QueueTable.{Table, TableText}
+use Rattle.model.specs.QueueTable.{TableText}
 use Rattle.model.specs.Orders.{orderLine}
 use Rattle.model.specs.Reference.{State, Answer, Call, callOrder, apply, orderAnswers, opened, afterOrders, final}
 use Rattle.model.specs.Consistent.{consistent}
@@ -16,7 +15,6 @@ use Rattle.model.specs.Codes.{callCodes, Listed, TextListed, BatchListed}
 use Rattle.model.specs.Batch.{Batch, lineAnswers}
 use Rattle.model.specs.Results as results
 use Rattle.model.specs.Results.{line-listed, line-consistent, text-listed, reached-consistent}
-use Rattle.model.specs.Laws.Reference.{same-table}
 use Rattle.model.specs.Laws.Decided.{listed-code}
 use Rattle.model.specs.Laws.Codes.{text-code, batch-code}
 use Rattle.queue_table.specs.View.{tableOf, textOf}
@@ -29,7 +27,7 @@ use Rattle.registry.specs.declared.Opened.{Opened}
 use Rattle.registry.specs.declared.Called.{Called}
 use Rattle.registry.specs.View.{stateIn, Consistent, OpensOn, Performs}
 use Rattle.registry.specs.DecisionLaws.{decision}
-use Rattle.promises.specs.Listed.{OpenListed, CallListed, LineListed, BatchAnswers}
+use Rattle.promises.specs.Listed.{OpenListed, CallListed, LinesListed, end, line, BatchAnswers}
 
 pub open-listed : (text : List ℕ) (o : Opened) → OpensOn text o → OpenListed text o
 open-listed text o opens =
@@ -57,8 +55,8 @@ call-listed before c called p =
       spoilt = spoilt;
     }
   where
-    listed : Consistent before → Listed (stateIn before .table) (callOrder c) (answerOf (called .answer))
-    listed kept = subst (Listed (stateIn before .table) (callOrder c)) (sym (p .answer kept)) (results.call-listed (stateIn before) (kept .is-consistent) c)
+    listed : Consistent before → Listed (stateIn before) (callOrder c) (answerOf (called .answer))
+    listed kept = subst (Listed (stateIn before) (callOrder c)) (sym (p .answer kept)) (results.call-listed (stateIn before) (kept .is-consistent) c)
 
     spoilt : (Consistent before → ⊥) → (answerOf (called .answer) ≡ record { code = 42; slot = 0; link = 0; level = 0 }) × (called .registry ≡ before)
     spoilt other = let (answer, same) = p .kept-out other in (ap answerOf answer, same)
@@ -68,13 +66,12 @@ call-listed before c called p =
     go (no d) =
         absurd (d (List·Memᴰ·head (ap (λ (a : Answer). a .code) (spoilt (λ kept. d (List·Memᴰ·tail (listed-code _ _ _ (listed kept)))) .0))))
 
-lines-listed : (s : State) → consistent s ≡ true → (t : Table) → s .table ≡ t → (ls : List Line) → Pairs (LineListed t) ls (lineAnswers s ls)
+lines-listed : (s : State) → consistent s ≡ true → (ls : List Line) → LinesListed s ls (lineAnswers s ls)
 unfolding lineAnswers orderAnswers
-lines-listed s ok t e [] = ends
-lines-listed s ok t e (l ∷ ls) =
-    let listed = subst (λ (t : Table). Listed t (orderLine l) (apply s (orderLine l) .answer)) e (line-listed s ok l) in
-    pair (record { code = listed-code t (orderLine l) _ listed; listed = listed })
-    (lines-listed (apply s (orderLine l) .next) (line-consistent s ok l) t (same-table s (orderLine l) ∙ e) ls)
+lines-listed s ok [] = end
+lines-listed s ok (l ∷ ls) =
+    let listed = line-listed s ok l in
+    line (listed-code s (orderLine l) _ listed) listed (lines-listed (apply s (orderLine l) .next) (line-consistent s ok l) ls)
 
 pub batch-listed : (table orders area area′ : List ℕ) (r : BatchResult) → Batched table orders area area′ r → BatchAnswers table orders area area′ r
 unfolding final afterOrders
@@ -87,5 +84,5 @@ batch-listed table orders area area′ r batched =
       listed = returned;
       unwritten = λ other. ap (λ (b : Batch). b .area) batched ∙ unwritten (λ z. other (ap (λ (b : Batch). b .code) batched ∙ z));
       written = λ z. claim batched z .written;
-      lines-listed = lines-listed (opened table) (reached-consistent table []) (opened table .table) refl (lines orders);
+      lines-listed = lines-listed (opened table) (reached-consistent table []) (lines orders);
     }

@@ -6,7 +6,7 @@ ghost use mathlib.Core.Path.{_≡_};
 ghost use mathlib.Core.Bool.{true, false};
 ghost use lib.ListN.{length};
 ghost use Rattle.model.specs.Columns.{lines};
-ghost use Rattle.model.specs.Orders.{registering, releasing, kindNumber};
+ghost use Rattle.model.specs.Orders.{registering, releasing, changing, kindNumber};
 ghost use Rattle.model.specs.Reference.{onlyLine};
 ghost use Rattle.orders.specs.View.{kindOf};
 ghost use Rattle.figures.specs.View.{sumNumbers};
@@ -99,7 +99,7 @@ fn call_arrays(
     admission::perform(order, &hops, table, slots, pool, sums)
 }
 
-// A direct call of either kind on any registry whatever.
+// A direct call of any kind on any registry whatever.
 fn call(registry: Registry, kind: Kind, bytes: &[u8]) -> Called
     ensures { λ r. ⌜ Performs registry (callOf (kindOf kind) (now (bytes .entry))) r ⌝ }
 {
@@ -134,13 +134,21 @@ pub fn release(registry: Registry, bytes: &[u8]) -> Called
     call(registry, Kind::Release, bytes)
 }
 
-// One call of either kind.
+// Changes rate and burst of the flow that one order line with its LF names.
+pub fn change(registry: Registry, bytes: &[u8]) -> Called
+    ensures { λ r. ⌜ Performs registry (callOf changing (now (bytes .entry))) r ⌝ }
+{
+    call(registry, Kind::Change, bytes)
+}
+
+// One call of any kind.
 pub fn apply(registry: Registry, kind: Kind, bytes: &[u8]) -> Called
     ensures { λ r. ⌜ Performs registry (callOf (kindOf kind) (now (bytes .entry))) r ⌝ }
 {
     match kind {
         Kind::Register => register(registry, bytes),
         Kind::Release => release(registry, bytes),
+        Kind::Change => change(registry, bytes),
     }
 }
 

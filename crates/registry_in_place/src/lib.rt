@@ -1,5 +1,5 @@
 // Direct calls that change the registry where it stands (document 01, "Where each form goes"): thin functions over the calls by value.
-ghost use Rattle.model.specs.Orders.{registering, releasing};
+ghost use Rattle.model.specs.Orders.{registering, releasing, changing};
 ghost use Rattle.orders.specs.View.{kindOf};
 ghost use Rattle.registry.specs.View.{callOf, Performs};
 ghost use Rattle.registry_in_place.specs.View.{InPlace};
@@ -26,13 +26,23 @@ pub fn release(registry: &mut Registry, bytes: &[u8]) -> Answer
     called.answer
 }
 
-// One call of either kind on a registry that is held here and lent, for callers that hold theirs by value.
+// Changes rate and burst of the flow that one order line with its LF names.
+pub fn change(registry: &mut Registry, bytes: &[u8]) -> Answer
+    ensures { λ r. ⌜ InPlace (now (registry .entry)) (callOf changing (now (bytes .entry))) r (now (registry .exit)) ⌝ }
+{
+    let called = registry::change(*registry, bytes);
+    *registry = called.registry;
+    called.answer
+}
+
+// One call of any kind on a registry that is held here and lent, for callers that hold theirs by value.
 pub fn apply(mut registry: Registry, kind: Kind, bytes: &[u8]) -> Called
     ensures { λ r. ⌜ Performs registry (callOf (kindOf kind) (now (bytes .entry))) r ⌝ }
 {
     let answer = match kind {
         Kind::Register => register(&mut registry, bytes),
         Kind::Release => release(&mut registry, bytes),
+        Kind::Change => change(&mut registry, bytes),
     };
     Called { answer, registry }
 }

@@ -18,7 +18,7 @@ use Rattle.model.specs.Part.{Part, empty, skip, keep, swap, both}
 use Rattle.model.specs.Laws.Part.{part-refl, perm-part, part-map, perm-map, all-part}
 use Rattle.model.specs.Laws.All.{all-imp, all-map, map-all}
 use Rattle.model.specs.QueueTable.{Table}
-use Rattle.model.specs.Orders.{Flow, Order, register, release, rejected, registering, kindNumber}
+use Rattle.model.specs.Orders.{Flow, Order, register, release, change, rejected, registering, kindNumber}
 use Rattle.model.specs.Aggregates.{aggregateAt}
 use Rattle.model.specs.Laws.Aggregates.{aggregate-perm}
 use Rattle.model.specs.Reference.{Slot, State, Answer, Outcome, heldFlows, withNumber, perform, fill, findings, apply, orderAnswers, afterOrders, opened}
@@ -156,6 +156,7 @@ module _ (t : Table) where
 registered : Order → Flow
 registered (register f) = f
 registered (release n) = record { number = n; rate = 0; burst = 0; frame = 0; deadline = 0; path = [] }
+registered (change c) = record { number = c .number; rate = 0; burst = 0; frame = 0; deadline = 0; path = [] }
 registered (rejected code) = record { number = 0; rate = 0; burst = 0; frame = 0; deadline = 0; path = [] }
 
 module _ (text : List ℕ) where

@@ -18,7 +18,7 @@ use Rattle.model.specs.Laws.All.{all-imp}
 use Rattle.model.specs.Laws.Test.{or-neither}
 use Rattle.model.specs.Columns.{Line, ended, unended, prepend, lines}
 use Rattle.model.specs.QueueTable.{Table, TableText, accepted, readTable}
-use Rattle.model.specs.Orders.{Flow, Order, register, release, rejected, orderLine}
+use Rattle.model.specs.Orders.{Flow, Order, register, release, change, rejected, orderLine}
 use Rattle.model.specs.Reference.{State, Answer, apply, orderAnswers, opened}
 use Rattle.model.specs.Answers.{answerLine}
 use Rattle.model.specs.Laws.Answers.{line-length, joined-same, zero-shown}
@@ -82,6 +82,7 @@ registered-ended unended f e = subst Registered (sym e) tt
     Registered : Order → Type 0
     Registered (register f) = Unit {0}
     Registered (release n) = ⊥
+    Registered (change c) = ⊥
     Registered (rejected code) = ⊥
 
 -- So a part of such lines makes no longer text, and fits where its own answers do.

@@ -1,4 +1,4 @@
--- What is read from a line: a registration's numbers are in their ranges, a release's number is, and anything else is 10 or 11.
+-- What is read from a line: the numbers of a registration, a release or a change are in their ranges, and anything else is 10 or 11.
 -- Along the reading, test by test. Assumes nothing.
 use Prim.Native.Nat.{ℕ, zero, suc, _+_, _*_}
 use mathlib.Core.Path.{_≡_, refl, ap, sym, _∙_}
@@ -11,7 +11,7 @@ use lib.Dec.{eqb}
 use borrow.Author.Tests.{eqb-true}
 use Rattle.model.specs.Sizes.{headColumns, hopColumns}
 use Rattle.model.specs.Columns.{Line, ended, unended, lines, fieldAt}
-use Rattle.model.specs.Orders.{Hop, Order, register, release, rejected, Head, headFields, hopField, hopFields, pathFields, numberInRange, hopsInRange, headInRange, flowOf, withPath, registration, registrationOf, releaseOf, releaseLine, registering, releasing, kindNumber, kindOfNumber, kindOrder, orderOfKind, readOrder, orderLine}
+use Rattle.model.specs.Orders.{Hop, Change, Order, register, release, change, rejected, Head, headFields, hopField, hopFields, pathFields, numberInRange, hopsInRange, headInRange, flowOf, withPath, registration, registrationOf, releaseOf, releaseLine, changeFields, changeInRange, changeOf, changeLine, registering, releasing, changing, kindNumber, kindOfNumber, kindOrder, orderOfKind, readOrder, orderLine}
 use Rattle.model.specs.Reference.{Call, lineOfKind, onlyLine, callOrder}
 use Rattle.model.specs.Consistent.{headOf, flowInRange}
 use Rattle.model.specs.Laws.Test.{both-and, and-then}
@@ -20,6 +20,7 @@ use Rattle.model.specs.Laws.Test.{both-and, and-then}
 abbrev pub Readable : (kind : ℕ) → Order → Type 0
 Readable kind (register f) = (kind ≡ kindNumber registering) × (flowInRange f ≡ true)
 Readable kind (release n) = (kind ≡ kindNumber releasing) × (numberInRange n ≡ true)
+Readable kind (change c) = (kind ≡ kindNumber changing) × (changeInRange c ≡ true)
 Readable kind (rejected code) = (code ≡ 10) ⊎ (code ≡ 11)
 
 either : (kind : ℕ) (b : Bool) (x y : Order) → (b ≡ true → Readable kind x) → Readable kind y → Readable kind (cond b x y)
@@ -61,15 +62,21 @@ module _ (kind : ℕ) (line : List ℕ) where
   release-readable none two = inl refl
   release-readable (some n) two = either kind (numberInRange n) _ _ (λ r. (two, r)) (inr refl)
 
+  change-readable : (o : Option Change) → kind ≡ kindNumber changing → Readable kind (changeOf o)
+  unfolding changeOf
+  change-readable none three = inl refl
+  change-readable (some c) three = either kind (changeInRange c) _ _ (λ r. (three, r)) (inr refl)
+
   kind-readable : Readable kind (orderOfKind line (some kind))
-  unfolding orderOfKind kindOrder kindOfNumber registration releaseLine
-  kind-readable = go (eqb kind (kindNumber registering)) (eqb kind (kindNumber releasing)) refl refl
+  unfolding orderOfKind kindOrder kindOfNumber registration releaseLine changeLine
+  kind-readable = go (eqb kind (kindNumber registering)) (eqb kind (kindNumber releasing)) (eqb kind (kindNumber changing)) refl refl refl
     where
-      go : (b d : Bool) → eqb kind (kindNumber registering) ≡ b → eqb kind (kindNumber releasing) ≡ d
-          → Readable kind (kindOrder line (cond b (some registering) (cond d (some releasing) none)))
-      go true d one two = registration-readable (headFields line) (eqb-true _ _ one)
-      go false true one two = either kind (eqb (length line) 8) _ _ (λ e. release-readable (fieldAt 3 8 line) (eqb-true _ _ two)) (inl refl)
-      go false false one two = inr refl
+      go : (a b d : Bool) → eqb kind (kindNumber registering) ≡ a → eqb kind (kindNumber releasing) ≡ b → eqb kind (kindNumber changing) ≡ d
+          → Readable kind (kindOrder line (cond a (some registering) (cond b (some releasing) (cond d (some changing) none))))
+      go true b d one two three = registration-readable (headFields line) (eqb-true _ _ one)
+      go false true d one two three = either kind (eqb (length line) 8) _ _ (λ e. release-readable (fieldAt 3 8 line) (eqb-true _ _ two)) (inl refl)
+      go false false true one two three = either kind (eqb (length line) 25) _ _ (λ e. change-readable (changeFields line) (eqb-true _ _ three)) (inl refl)
+      go false false false one two three = inr refl
 
   own-kind : (o : Option ℕ) → fieldAt 1 2 line ≡ o → Readable kind (lineOfKind kind line o)
   unfolding lineOfKind readOrder
@@ -89,15 +96,17 @@ pub call-readable : (c : Call) → Readable (kindNumber (c .kind)) (callOrder c)
 unfolding callOrder
 call-readable c = only-line (kindNumber (c .kind)) (lines (c .bytes))
 
--- A registration's numbers are in their ranges.
+-- The numbers of a registration or a change are in their ranges.
 abbrev pub Ranged : Order → Type 0
 Ranged (register f) = flowInRange f ≡ true
 Ranged (release n) = Unit {0}
+Ranged (change c) = changeInRange c ≡ true
 Ranged (rejected code) = Unit {0}
 
 pub ranged : (kind : ℕ) (o : Order) → Readable kind o → Ranged o
 ranged kind (register f) r = r .1
 ranged kind (release n) r = tt
+ranged kind (change c) r = r .1
 ranged kind (rejected code) r = tt
 
 pub call-ranged : (kind : ℕ) (l : List Line) → Ranged (onlyLine kind l)

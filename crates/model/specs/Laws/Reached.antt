@@ -1,28 +1,32 @@
 -- Every state reached from any table text by any list of calls is consistent. A refusal leaves the state; an admission's causes are the rules for
--- one flow more; a release leaves a part. Assumes nothing.
+-- one flow more; a release leaves a part, and a change one flow more beside it. Assumes nothing.
 use Prim.Native.Nat.{ℕ, zero, suc, _+_, _≤_, _<_}
-use mathlib.Core.Path.{_≡_, refl, subst, _∙_}
+use mathlib.Core.Path.{_≡_, refl, sym, subst, _∙_}
 use mathlib.Core.Bool.{Bool, true, false, cond, _&&_}
+use mathlib.Core.Logic.{_↔_}
 use mathlib.Core.List.{List, [], _∷_}
 use mathlib.Core.Option.{Option, none, some}
 use native.Mathlib.Omega.{arith}
-use lib.ListN.{length, replicate, length-set, length-replicate}
+use lib.ListN.{length, getD, set, replicate, length-set, length-replicate}
 use lib.Dec.{eqb}
 use borrow.Author.Tests.{eqb-true, eq-eqb, lt-leb, le-ltb}
 use Rattle.model.specs.Words.{every, firstIndex, isNone}
 use Rattle.model.specs.Total.{total}
-use Rattle.model.specs.Orders.{Flow, Order, register, release, rejected, kindNumber}
+use Rattle.model.specs.Orders.{Flow, Change, Order, register, release, change, rejected, changeInRange, kindNumber}
 use Rattle.model.specs.Sizes.{slotCount, hopEntries}
-use Rattle.model.specs.Reference.{Slot, State, Cause, Call, heldFlows, heldHops, withNumber, isHeld, holds, firstCause, numberFinding, roomFindings, findings, refuse, fill, perform, decide, apply, callOrder, step, opened, afterOrders, final}
+use Rattle.model.specs.Reference.{Slot, State, Cause, Call, heldFlows, heldHops, withNumber, isHeld, firstCause, numberFinding, roomFindings, indexOf, slotWith, changed, changedSlot, changeFindings, findings, refuse, fill, perform, decide, apply, callOrder, step, opened, afterOrders, final}
 use Rattle.model.specs.Laws.Finding.{none-applies, none-whole}
 use Rattle.model.specs.Laws.LinkMeets.{findings-meet, meet-findings}
-use Rattle.model.specs.Laws.Slot.{all-held, not-all-held, fill-part, clear-part}
+use Rattle.model.specs.Outcomes.{NoneApplies, withSlot, Changeable}
+use Rattle.model.specs.Laws.Part.{perm-part}
+use Rattle.model.specs.Laws.Slot.{all-held, not-all-held, fill-perm, clear-part, index-only}
+use Rattle.model.specs.Laws.Change.{no-other, changed-rules, rules-changed}
 use Rattle.model.specs.Laws.Order.{Readable, call-readable}
 use Rattle.model.specs.Laws.Table.{table-consistent}
 use Rattle.model.specs.Laws.Test.{and-both, both-and}
 use Rattle.model.specs.Consistent.{tableConsistent, flowInRange, consistent}
 use Rattle.model.specs.Laws.Consistent.{FlowsRules, flows-rules, rules-flows, flows-part, flows-more}
-use Rattle.model.specs.Laws.Reference.{RegisterRules, register-rules, number-new, slot-free, hops-free}
+use Rattle.model.specs.Laws.Reference.{RegisterRules, register-rules, number-new, slot-free, hops-free, carried-over}
 
 -- What a consistent state meets.
 pub record StateRules (s : State) : Type 0 where
@@ -116,7 +120,7 @@ register-keeps s f range m r =
     record {
       table = r .table;
       size = length-set (s .slots) (firstIndex isNone (s .slots)) (some f) ∙ r .size;
-      flows = flows-part (s .table) (fill-part f (s .slots) (slot-free (s .slots) f (m .others .room))) (rules-more s f (r .size) range (r .flows) m);
+      flows = flows-part (s .table) (perm-part (fill-perm f (s .slots) (slot-free (s .slots) f (m .others .room)))) (rules-more s f (r .size) range (r .flows) m);
     }
 
 pub clear-keeps : (s : State) (i : ℕ) → StateRules s → StateRules (fill s i none .next)
@@ -128,6 +132,40 @@ clear-keeps s i r =
       flows = flows-part (s .table) (clear-part (s .slots) i) (r .flows);
     }
 
+-- There is no cause against a change that was read exactly when its flow is held and all flows are consistent with it so changed.
+module _ (s : State) (c : Change) (range : changeInRange c ≡ true) (r : StateRules s) where
+  abbrev index : ℕ
+  index = indexOf (c .number) (s .slots)
+
+  change-keeps : NoneApplies (findings s (change c)) → StateRules (perform s (change c) .next)
+  unfolding perform fill findings changeFindings changedSlot
+  change-keeps = go (slotWith (c .number) (s .slots)) refl
+    where
+      go : (x : Slot) → slotWith (c .number) (s .slots) ≡ x → NoneApplies (changeFindings s c x) → StateRules (withSlot s index (changedSlot c x))
+      go none e a = clear-keeps s index r
+      go (some f) e a =
+          record {
+            table = r .table;
+            size = length-set (s .slots) index (some (changed c f)) ∙ r .size;
+            flows = changed-rules (s .table) (s .slots) index e (r .flows) c range a;
+          }
+
+  pub changeable : NoneApplies (findings s (change c)) ↔ Changeable s c
+  unfolding findings changeFindings
+  changeable = (
+    λ a.
+    let done = carried-over s c a in
+    record { index = done .index; flow = done .flow; held = done .held; number = done .number; meets = rules-state _ (subst StateRules (done .next) (change-keeps a)) },
+    λ m.
+    let other : withNumber (c .number) (heldFlows (set (s .slots) (m .index) none)) ≡ 0 =
+    subst (λ n. withNumber n (heldFlows (set (s .slots) (m .index) none)) ≡ 0) (m .number) (no-other (s .table) (s .slots) (m .index) (m .held) (r .flows)) in
+    let there : m .index ≡ index = sym (index-only (c .number) (s .slots) (m .index) (m .held) (m .number) other) in
+    let held : slotWith (c .number) (s .slots) ≡ some (m .flow) = subst (λ i. getD (s .slots) i none ≡ some (m .flow)) there (m .held) in
+    let after : StateRules (withSlot s index (some (changed c (m .flow)))) =
+    subst (λ i. StateRules (withSlot s i (some (changed c (m .flow))))) there (state-rules _ (m .meets)) in
+    subst (λ x. NoneApplies (changeFindings s c x)) (sym held) (rules-changed (s .table) (s .slots) index held (r .flows) c (after .flows)),
+  )
+
 pub apply-keeps : (s : State) (o : Order) (kind : ℕ) → Readable kind o → StateRules s → StateRules (apply s o .next)
 unfolding apply decide perform refuse findings
 apply-keeps s o kind p r = go o p (firstCause (findings s o)) refl
@@ -135,7 +173,8 @@ apply-keeps s o kind p r = go o p (firstCause (findings s o)) refl
     go : (o : Order) → Readable kind o → (x : Option Cause) → firstCause (findings s o) ≡ x → StateRules (decide s o x .next)
     go o p (some c) e = r
     go (register f) p none e = register-keeps s f (p .1) (register-rules s f (none-applies _ e)) r
-    go (release n) p none e = clear-keeps s (firstIndex (holds n) (s .slots)) r
+    go (release n) p none e = clear-keeps s (indexOf n (s .slots)) r
+    go (change c) p none e = change-keeps s c (p .1) r (none-applies _ e)
     go (rejected code) p none e = r
 
 pub final-keeps : (s : State) (calls : List Call) → StateRules s → StateRules (final s calls)

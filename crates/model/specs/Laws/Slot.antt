@@ -2,16 +2,17 @@
 use Prim.Native.Nat.{ℕ, zero, suc, _+_, _≤_, _<_}
 use mathlib.Core.Path.{_≡_, refl, sym, ap, subst, _∙_}
 use mathlib.Core.Bool.{Bool, true, false, cond, not, _&&_, true≢false, false≢true}
-use mathlib.Core.List.{List, [], _∷_}
+use mathlib.Core.List.{List, [], _∷_, List·Permᴰ, List·Permᴰ·cons, List·Permᴰ·swap, List·Permᴰ·trans, Permᴰ·refl}
 use mathlib.Core.Option.{none, some, Option·none-ne-some, Option·some-injective}
 use native.Mathlib.Nat.{zero-add, not-suc-le-zero}
 use native.Mathlib.Omega.{arith}
-use borrow.Author.Tests.{lt-ltb, le-leb}
+use borrow.Author.Tests.{lt-ltb, le-leb, eq-eqb}
 use lib.ListN.{length, getD, set}
+use lib.Seq.{getD-set-same, set-set}
 use lib.Dec.{leb, ltb, eqb, leb·suc-suc}
 use Rattle.model.specs.Words.{All, every, firstIndex, isNone}
 use Rattle.model.specs.Total.{total}
-use Rattle.model.specs.Part.{Part, empty, skip, keep, swap, both}
+use Rattle.model.specs.Part.{Part, empty, skip, keep}
 use Rattle.model.specs.Laws.Part.{part-refl}
 use Rattle.model.specs.Orders.{Flow}
 use Rattle.model.specs.Reference.{Slot, heldFlows, withNumber, isHeld, holds}
@@ -90,12 +91,12 @@ number-found n (some f ∷ slots) h = go (eqb (f .number) n) (number-found n slo
     go false r h = r (omega arith)
 
 -- The lowest free slot filled: one flow more. Any slot emptied: a part.
-pub fill-part : (f : Flow) (slots : List Slot) → every isHeld slots ≡ false
-    → Part (heldFlows (set slots (firstIndex isNone slots) (some f))) (f ∷ heldFlows slots)
+pub fill-perm : (f : Flow) (slots : List Slot) → every isHeld slots ≡ false
+    → List·Permᴰ (heldFlows (set slots (firstIndex isNone slots) (some f))) (f ∷ heldFlows slots)
 unfolding heldFlows every isHeld isNone firstIndex
-fill-part f [] e = absurd (true≢false e)
-fill-part f (none ∷ slots) e = part-refl (f ∷ heldFlows slots)
-fill-part f (some g ∷ slots) e = both (keep (fill-part f slots e)) swap
+fill-perm f [] e = absurd (true≢false e)
+fill-perm f (none ∷ slots) e = Permᴰ·refl (f ∷ heldFlows slots)
+fill-perm f (some g ∷ slots) e = List·Permᴰ·trans (List·Permᴰ·cons refl (fill-perm f slots e)) (List·Permᴰ·swap refl refl)
 
 pub clear-part : (slots : List Slot) (i : ℕ) → Part (heldFlows (set slots i none)) (heldFlows slots)
 unfolding heldFlows
@@ -131,3 +132,39 @@ held-at P (none ∷ slots) zero a e = absurd (Option·none-ne-some _ e)
 held-at P (none ∷ slots) (suc i) a e = held-at P slots i a e
 held-at P (some g ∷ slots) zero a e = subst P (Option·some-injective _ _ e) (a .0)
 held-at P (some g ∷ slots) (suc i) a e = held-at P slots i (a .1) e
+
+pub held-inside : (slots : List Slot) (i : ℕ) {f : Flow} → getD slots i none ≡ some f → i < length slots
+held-inside [] i e = absurd (Option·none-ne-some _ e)
+held-inside (x ∷ slots) zero e = omega arith
+held-inside (x ∷ slots) (suc i) e = omega (arith, held-inside slots i e)
+
+-- That one, and those in the other slots.
+pub held-perm : (slots : List Slot) (i : ℕ) {f : Flow} → getD slots i none ≡ some f → List·Permᴰ (heldFlows slots) (f ∷ heldFlows (set slots i none))
+unfolding heldFlows
+held-perm [] i e = absurd (Option·none-ne-some _ e)
+held-perm (none ∷ slots) zero e = absurd (Option·none-ne-some _ e)
+held-perm (none ∷ slots) (suc i) e = held-perm slots i e
+held-perm (some g ∷ slots) zero e = List·Permᴰ·cons (Option·some-injective _ _ e) (Permᴰ·refl (heldFlows slots))
+held-perm (some g ∷ slots) (suc i) e = List·Permᴰ·trans (List·Permᴰ·cons refl (held-perm slots i e)) (List·Permᴰ·swap refl refl)
+
+-- A slot with another flow in it.
+pub put-perm : (slots : List Slot) (i : ℕ) (f : Flow) → i < length slots → List·Permᴰ (heldFlows (set slots i (some f))) (f ∷ heldFlows (set slots i none))
+put-perm slots i f h =
+    subst (λ l. List·Permᴰ (heldFlows (set slots i (some f))) (f ∷ heldFlows l)) (set-set slots i (some f) none)
+    (held-perm (set slots i (some f)) i (getD-set-same slots i (some f) none h))
+
+-- Where no other slot holds a number, its slot is the first that does.
+pub index-only : (n : ℕ) (slots : List Slot) (i : ℕ) {f : Flow} → getD slots i none ≡ some f → f .number ≡ n → withNumber n (heldFlows (set slots i none)) ≡ 0
+    → firstIndex (holds n) slots ≡ i
+unfolding heldFlows firstIndex holds withNumber total
+index-only n [] i e own z = absurd (Option·none-ne-some _ e)
+index-only n (none ∷ slots) zero e own z = absurd (Option·none-ne-some _ e)
+index-only n (none ∷ slots) (suc i) e own z = ap suc (index-only n slots i e own z)
+index-only n (some g ∷ slots) zero e own z = rw (eq-eqb (g .number) n (ap (λ (f : Flow). f .number) (Option·some-injective _ _ e) ∙ own))
+index-only n (some g ∷ slots) (suc i) e own z = go (eqb (g .number) n) (λ z. index-only n slots i e own z) z
+  where
+    go : (b : Bool) → (withNumber n (heldFlows (set slots i none)) ≡ 0 → firstIndex (holds n) slots ≡ i)
+        → cond b 1 0 + withNumber n (heldFlows (set slots i none)) ≡ 0
+        → cond b 0 (suc (firstIndex (holds n) slots)) ≡ suc i
+    go true r z = absurd (omega (arith, z))
+    go false r z = ap suc (r (omega (arith, z)))

@@ -19,11 +19,11 @@ use Rattle.model.specs.Columns.{Line}
 use Rattle.model.specs.Formula.{Aggregate, burstAtHop}
 use Rattle.model.specs.Laws.Formula.{AtMost, ceilDiv-mono, growth-most}
 use Rattle.model.specs.QueueTable.{Queue, Link, Table}
-use Rattle.model.specs.Orders.{Hop, Flow, Order, register, release, rejected, orderLine}
+use Rattle.model.specs.Orders.{Hop, Flow, Change, Order, register, release, change, rejected, orderLine}
 use Rattle.model.specs.LinkCheck.{Finding}
 use Rattle.model.specs.Laws.LinkCheck.{link-mono}
 use Rattle.model.specs.Aggregates.{Share, linkAt, queueAt, thresholdOf, speedOf, source, grown, growth, shares, allShares, sameHop, addsAt, sharesAt, aggregateAt, levelAggregates}
-use Rattle.model.specs.Reference.{State, Cause, Answer, Outcome, heldFlows, withNumber, firstCause, lineFindings, deadlineFinding, roomFindings, linkCause, causeAt, linkFindings, registerFindings, findings, refuse, decide, apply, orderAnswers}
+use Rattle.model.specs.Reference.{Slot, State, Cause, Answer, Outcome, heldFlows, withNumber, firstCause, slotWith, changeFindings, lineFindings, deadlineFinding, roomFindings, linkCause, causeAt, linkFindings, registerFindings, findings, refuse, decide, apply, orderAnswers}
 use Rattle.model.specs.Outcomes.{earlyFindings}
 use Rattle.model.specs.Consistent.{flowInRange, flowConsistent, flowsConsistent}
 use Rattle.model.specs.Batch.{lineAnswers}
@@ -132,16 +132,26 @@ module _ (t : Table) where
         both-and (both-and (all-every (flowConsistent t fs) fs (all-imp fs flow-less (every-all (before.flowConsistent t fs) fs flows))) slots) hops
 
 pub order-same : (s : State) (o : Order) → before.apply s o .answer .code ≡ 0 → apply s o ≡ before.apply s o
-unfolding apply before.apply findings before.findings registerFindings earlyFindings lineFindings roomFindings decide refuse
-order-same s (register f) z =
-    let found = found-same (s .table) (f ∷ heldFlows (s .slots)) (earlyFindings s f ++ roomFindings (s .slots) f) (f .path) in
-    ap (decide s (register f)) (first-same found (passed (firstCause (before.findings s (register f))) z))
+unfolding apply before.apply findings before.findings registerFindings earlyFindings lineFindings roomFindings changeFindings before.changeFindings decide refuse
+order-same s o z = ap (decide s o) (first-same (go o) (passed (firstCause (before.findings s o)) z))
   where
-    passed : (x : Option Cause) → decide s (register f) x .answer .code ≡ 0 → Passed x
+    passed : (x : Option Cause) → decide s o x .answer .code ≡ 0 → Passed x
     passed none z = tt
     passed (some c) z = z
-order-same s (release n) z = refl
-order-same s (rejected code) z = refl
+
+    same : (l : List (Option Cause)) → Pairs (λ x y. Passed y → x ≡ y) l l
+    same [] = ends
+    same (x ∷ l) = pair (λ z. refl) (same l)
+
+    against : (c : Change) (x : Slot) → Pairs (λ x y. Passed y → x ≡ y) (changeFindings s c x) (before.changeFindings s c x)
+    against c none = same _
+    against c (some f) = found-same (s .table) _ (_ ∷ []) (f .path)
+
+    go : (o : Order) → Pairs (λ x y. Passed y → x ≡ y) (findings s o) (before.findings s o)
+    go (register f) = found-same (s .table) (f ∷ heldFlows (s .slots)) (earlyFindings s f ++ roomFindings (s .slots) f) (f .path)
+    go (release n) = same _
+    go (change c) = against c (slotWith (c .number) (s .slots))
+    go (rejected code) = same _
 
 pub lines-same : (s : State) (ls : List Line) → All (λ a. a .code ≡ 0) (before.lineAnswers s ls) → lineAnswers s ls ≡ before.lineAnswers s ls
 unfolding lineAnswers orderAnswers before.lineAnswers

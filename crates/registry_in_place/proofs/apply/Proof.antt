@@ -38,13 +38,13 @@ use denote.Triple.Entry.{onEntry, Vals}
 use denote.Triple.Spec.{Meets, tripleOf}
 use denote.Triple.Table.{entered, cited}
 use denote.Triple.Walked.{says, Stays, stay-none, stay-none-slice, walkOf, goes-none, goes-none-slice, Walks, ends-at, walked, walk-meets}
-use Rattle.model.specs.Orders.{registering, releasing}
+use Rattle.model.specs.Orders.{registering, releasing, changing}
 use Rattle.admission.proofs.Answer as An
 use Rattle.admission.proofs.Answer.Laws as An′
 use Rattle.registry.specs.declared.Registry.{Registry}
 use Rattle.registry.specs.declared.Called.{Called}
 use Rattle.orders.specs.declared.Kind.{Kind}
-use Rattle.orders.specs.declared.Kind.the-variants.{Register, Release}
+use Rattle.orders.specs.declared.Kind.the-variants.{Register, Release, Change}
 use Rattle.orders.specs.View.{kindOf}
 use Rattle.registry.specs.View.{callOf, Performs}
 use Rattle.registry.proofs.Registry as Re
@@ -61,6 +61,9 @@ use Rattle.registry_in_place.proofs.register.Met as register-met
 use Rattle.registry_in_place.proofs.release.Symbol as release-def
 use Rattle.registry_in_place.proofs.release.Symbol.{name as #release}
 use Rattle.registry_in_place.proofs.release.Met as release-met
+use Rattle.registry_in_place.proofs.change.Symbol as change-def
+use Rattle.registry_in_place.proofs.change.Symbol.{name as #change}
+use Rattle.registry_in_place.proofs.change.Met as change-met
 use Rattle.registry_in_place.proofs.apply.Key.{name as #apply}
 use Rattle.registry_in_place.proofs.apply as apply
 use Rattle.registry_in_place.proofs.apply.Statement as stated
@@ -87,12 +90,12 @@ abbrev lends : ℕ → Name → Body
 lends t callee = seq (assign (place t []) (addrOf (place 4 []))) (call callee (copy (place t []) ∷ copy (place 3 []) ∷ []) (place 6 []))
 
 abbrev chooses : Body
-chooses = switch (copy (place 2 (variant 0 ∷ field 0 ∷ []))) (arm (0 ∷ []) (lends 7 #register) (arm (1 ∷ []) (lends 8 #release) noDefault))
+chooses = switch (copy (place 2 (variant 0 ∷ field 0 ∷ []))) (arm (0 ∷ []) (lends 7 #register) (arm (1 ∷ []) (lends 8 #release) (arm (2 ∷ []) (lends 9 #change) noDefault)))
 
 abbrev gives : Body
 gives = seq (assign (place 5 []) (rvOpd (copy (place 6 []))))
-    (seq (assign (place 9 []) (rvOpd (copy (place 4 []))))
-    (seq (assign (place 0 []) (aggregate (copy (place 5 []) ∷ copy (place 9 []) ∷ []))) return))
+    (seq (assign (place 10 []) (rvOpd (copy (place 4 []))))
+    (seq (assign (place 0 []) (aggregate (copy (place 5 []) ∷ copy (place 10 []) ∷ []))) return))
 
 abbrev function : Fn
 function = record {
@@ -106,6 +109,7 @@ function = record {
       ∷ local Re′.mir memorySlot
       ∷ local An′.mir valueLocal
       ∷ local An′.mir valueLocal
+      ∷ local ref valueLocal
       ∷ local ref valueLocal
       ∷ local ref valueLocal
       ∷ local Re′.mir valueLocal
@@ -137,9 +141,9 @@ module _ {M : Type 1} (𝓤 : URA M) (H : Heap 𝓤) (A : Atoms 𝓤) (W : Given
       owned ! Re.the-row (Is Re.the-row) (LL.makes Re.the-type Re′.the-plain 𝓤 H A) h _ was $ fjoin ! $ frame ! $
       owned ! Ca.the-row (Is Ca.the-row) (LL.makes Ca.the-type Ca′.the-plain 𝓤 H A) r _ is $ done !
 
-  module _ (C : Calls 𝓤 H) (Λ : Loops 𝓤 H) (l₀ l₁ l₂ l₃ l₄ l₅ l₆ l₇ l₈ l₉ : ℕ) where
+  module _ (C : Calls 𝓤 H) (Λ : Loops 𝓤 H) (l₀ l₁ l₂ l₃ l₄ l₅ l₆ l₇ l₈ l₉ l₁₀ : ℕ) where
     abbrev E : Env 𝓤 H
-    E = (Ca′.mir, l₀) ∷ (Re′.mir, l₁) ∷ (Ki′.mir, l₂) ∷ (slice, l₃) ∷ (Re′.mir, l₄) ∷ (An′.mir, l₅) ∷ (An′.mir, l₆) ∷ (ref, l₇) ∷ (ref, l₈) ∷ (Re′.mir, l₉) ∷ []
+    E = (Ca′.mir, l₀) ∷ (Re′.mir, l₁) ∷ (Ki′.mir, l₂) ∷ (slice, l₃) ∷ (Re′.mir, l₄) ∷ (An′.mir, l₅) ∷ (An′.mir, l₆) ∷ (ref, l₇) ∷ (ref, l₈) ∷ (ref, l₉) ∷ (Re′.mir, l₁₀) ∷ []
 
     -- what is to hold where an arm ends
     abbrev Then : Kind → Kit.Post 𝓤 H
@@ -154,21 +158,21 @@ module _ {M : Type 1} (𝓤 : URA M) (H : Heap 𝓤) (A : Atoms 𝓤) (W : Given
 
     -- around the switch: the registry g in `_4`, the token, what the bytes own, and the locals, the last first
     abbrev Around : Kind → Registry → List (Item 𝓤)
-    Around k g = ‵ (fat fullShare Re′.mir l₄ 0 (rv g)) ∷ Token ∷ Own ∷ room Re′.mir l₉ (room ref l₈ (room ref l₇ (room An′.mir l₆ (room An′.mir l₅ (
-        ‵ (fdies Re′.mir l₄) ∷ cell slice l₃ sv (cell Ki′.mir l₂ (kv k) (cell Re′.mir l₁ (rv h) (room Ca′.mir l₀ []))))))))
+    Around k g = ‵ (fat fullShare Re′.mir l₄ 0 (rv g)) ∷ Token ∷ Own ∷ room Re′.mir l₁₀ (room ref l₉ (room ref l₈ (room ref l₇ (room An′.mir l₆ (room An′.mir l₅ (
+        ‵ (fdies Re′.mir l₄) ∷ cell slice l₃ sv (cell Ki′.mir l₂ (kv k) (cell Re′.mir l₁ (rv h) (room Ca′.mir l₀ [])))))))))
 
     -- once the call has returned: the answer is stored, the result is put together and returned, and the locals are freed
     answers : (k : Kind) → Is Ki.the-row k (kv k ∷ []) → (r : Called) (v : Val) → Performs h (callOf (kindOf k) (now s)) r → Is An.the-row (r .answer) (v ∷ []) → Is Re.the-row (r .registry) (rv (r .registry) ∷ [])
         → Sq W (Around k (r .registry)) (settles E (place 6 []) v (Then k))
     answers k chosen r v e answered left =
-        land-last ! (from ! (stop !)) (init ! 9 refl (EL.lawful An.the-type An′.the-laws 𝓤 H A W tt .typed (r .answer) _ answered .0)) $ rewrite ! 9 (λ (u : Val). ‵ (fat fullShare An′.mir l₆ 0 u)) (ap only told) refl $
+        land-last ! (from ! (stop !)) (init ! 11 refl (EL.lawful An.the-type An′.the-laws 𝓤 H A W tt .typed (r .answer) _ answered .0)) $ rewrite ! 11 (λ (u : Val). ‵ (fat fullShare An′.mir l₆ 0 u)) (ap only told) refl $
         exec ! C Λ E gives (atRet E (Post k)) $
-        assigns ! (of-opd ! (load ! (from ! (stop !)) (look ! 9 refl))) (from ! (stop !)) (init ! 11 refl (EL.lawful An.the-type An′.the-laws 𝓤 H A W tt .typed (r .answer) _ spelled .0)) $
+        assigns ! (of-opd ! (load ! (from ! (stop !)) (look ! 11 refl))) (from ! (stop !)) (init ! 13 refl (EL.lawful An.the-type An′.the-laws 𝓤 H A W tt .typed (r .answer) _ spelled .0)) $
         assigns ! (of-opd ! (load ! (from ! (stop !)) (look ! 0 refl))) (from ! (stop !)) (init ! 3 refl (LL.lawful Re.the-type Re′.the-laws 𝓤 H A W .typed (r .registry) _ left .0)) $
-        assigns ! (agg ! (and-then ! (load ! (from ! (stop !)) (look ! 11 refl)) (and-then ! (load ! (from ! (stop !)) (look ! 3 refl)) (no-more !)))) (from ! (stop !)) (init ! 20 refl (LL.lawful Ca.the-type Ca′.the-laws 𝓤 H A W .typed r _ both .0)) $
-        returns ! (look ! 20 refl) $ forget ! 0 refl $ forget ! 3 refl $ forget ! 9 refl $ forget ! 11 refl $ forget ! 14 refl $ forget ! 16 refl $ forget ! 18 refl $ forget ! 20 refl $
-        move ! (20 ∷ 21 ∷ []) $ free1 ! $ move ! (18 ∷ 19 ∷ []) $ free1 ! $ move ! (16 ∷ 17 ∷ []) $ free1 ! $ move ! (14 ∷ 15 ∷ []) $ free1 ! $ move ! (0 ∷ 13 ∷ []) $ free1 ! $
-        move ! (10 ∷ 11 ∷ []) $ free1 ! $ move ! (8 ∷ 9 ∷ []) $ free1 ! $ move ! (6 ∷ 7 ∷ []) $ free1 ! $ move ! (4 ∷ 5 ∷ []) $ free1 ! $ move ! (2 ∷ 3 ∷ []) $ free1 ! $ free0 ! $ by ! (exits k chosen r e both)
+        assigns ! (agg ! (and-then ! (load ! (from ! (stop !)) (look ! 13 refl)) (and-then ! (load ! (from ! (stop !)) (look ! 3 refl)) (no-more !)))) (from ! (stop !)) (init ! 22 refl (LL.lawful Ca.the-type Ca′.the-laws 𝓤 H A W .typed r _ both .0)) $
+        returns ! (look ! 22 refl) $ forget ! 0 refl $ forget ! 3 refl $ forget ! 11 refl $ forget ! 13 refl $ forget ! 16 refl $ forget ! 18 refl $ forget ! 20 refl $ forget ! 22 refl $
+        move ! (22 ∷ 23 ∷ []) $ free1 ! $ move ! (20 ∷ 21 ∷ []) $ free1 ! $ move ! (18 ∷ 19 ∷ []) $ free1 ! $ move ! (16 ∷ 17 ∷ []) $ free1 ! $ move ! (0 ∷ 15 ∷ []) $ free1 ! $
+        move ! (12 ∷ 13 ∷ []) $ free1 ! $ move ! (10 ∷ 11 ∷ []) $ free1 ! $ move ! (8 ∷ 9 ∷ []) $ free1 ! $ move ! (6 ∷ 7 ∷ []) $ free1 ! $ move ! (4 ∷ 5 ∷ []) $ free1 ! $ move ! (2 ∷ 3 ∷ []) $ free1 ! $ free0 ! $ by ! (exits k chosen r e both)
       where
         told : v ∷ [] ≡ av (r .answer) ∷ []
         told = EL.tells An.the-type An′.the-laws (r .answer) (v ∷ []) answered

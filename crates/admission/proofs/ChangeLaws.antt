@@ -1,0 +1,172 @@
+-- A change: the flow in the slot is counted in by its share, its figures are those with the new one in its place, and the registry is consistent again.
+-- Assumes nothing.
+use Prim.Native.Nat.{ℕ, _+_, _≤_, _<_}
+use mathlib.Core.Path.{_≡_, refl, sym, ap, subst, _∙_}
+use mathlib.Core.Bool.{true, false, _&&_}
+use mathlib.Core.List.{List, [], _∷_, map}
+use mathlib.Core.Option.{Option, none, some}
+use native.Mathlib.Omega.{arith}
+use lib.ListN.{length, getD, set}
+use lib.Dec.{ltb}
+use borrow.Author.Tests.{lt-ltb, le-ltb}
+use Rattle.model.specs.Words.{All}
+use Rattle.model.specs.Sizes.{slotCount}
+use Rattle.model.specs.Formula.{Aggregate}
+use Rattle.model.specs.QueueTable.{Table}
+use Rattle.model.specs.Orders as line
+use Rattle.model.specs.Orders.{Flow, change, numberInRange, rateInRange, burstInRange, changeInRange, changing, kindNumber}
+use Rattle.model.specs.Aggregates.{aggregateAt}
+use Rattle.model.specs.Schedulable.{Named}
+use Rattle.model.specs.Laws.Columns.{between-true}
+use Rattle.model.specs.Laws.Test.{and-both}
+use Rattle.model.specs.Laws.All.{all-imp}
+use Rattle.model.specs.Laws.Part.{all-part}
+use Rattle.model.specs.Laws.Aggregates.{aggregate-perm}
+use Rattle.model.specs.Reference.{Slot, State, Cause, Outcome, heldFlows, firstCause, whole, atHop, metEarlier, lineFindings, linkFindings, indexOf, slotWith, changed, changedSlot, changeFindings, findings, fill, perform, decide, apply}
+use Rattle.model.specs.Laws.Slot.{held-at, held-inside, clear-part, put-perm}
+use Rattle.model.specs.Consistent.{consistent}
+use Rattle.model.specs.Laws.Consistent.{FlowRules}
+use Rattle.model.specs.Laws.Reached.{StateRules, state-rules, rules-state, apply-keeps}
+use Rattle.units.specs.View.{AtSource}
+use Rattle.queue_table.specs.View.{tableOf, hopAt}
+use Rattle.orders.specs.declared.Change.{Change}
+use Rattle.orders.specs.View.{changeOf}
+use Rattle.flow_store.specs.View.{Store, slotsOf, frameAt, shareAt, flowAt, countAt, entriesIn, flowIn, ChangeNarrow}
+use Rattle.causes.specs.declared.Finding.{Finding}
+use Rattle.causes.specs.View.{findingOf}
+use Rattle.figures.specs.View.{Figures, FlowOf, OnTable, ChangeChecked, PathChanged}
+use Rattle.admission.specs.declared.Answer.the-variants.{Done}
+use Rattle.admission.specs.View.{stateOf, answerOf, Kept, Stepped}
+use Rattle.admission.proofs.KeptLaws.{filled, held-named}
+use Rattle.admission.proofs.ReleaseLaws as held
+use Rattle.admission.proofs.ReleaseLaws.{slot-count}
+
+-- 11 of a change that was read.
+pub narrow : (given : Change) → changeInRange (changeOf given) ≡ true → ChangeNarrow given
+unfolding changeInRange
+narrow given e =
+    let (first, burst) = and-both (numberInRange (given .number) && rateInRange (given .rate .0)) _ e in
+    let (number, rate) = and-both (numberInRange (given .number)) _ first in
+    record { rate = between-true 1 10000000 (given .rate .0) rate .1; burst = between-true 84 1000000 (given .burst .0) burst .1 }
+
+-- The flow with the number is in this slot.
+module _ (table slots pool sums : List ℕ) (k : Kept table slots pool sums) (given : Change) (slot : ℕ) (at : slot ≡ indexOf (given .number) (slotsOf slots pool))
+    (inside : slot < slotCount) where
+  abbrev s : State
+  s = stateOf table slots pool
+
+  abbrev t : Table
+  t = tableOf table
+
+  abbrev c : line.Change
+  c = changeOf given
+
+  abbrev entries : List ℕ
+  entries = entriesIn slots pool slot
+
+  abbrev flow : Flow
+  flow = flowIn slots pool slot
+
+  abbrev others : List Flow
+  others = heldFlows (set (slotsOf slots pool) slot none)
+
+  -- Its share at the source, with the new rate and burst.
+  abbrev pub share : Aggregate
+  share = record { rate = given .rate .0; burst = given .burst .0; frame = frameAt slots slot }
+
+  pub count : 1 ≤ countAt slots slot
+  count = slot-count (given .number) slots pool slot at (λ e. omega (arith, e))
+
+  rules : StateRules s
+  rules = state-rules s (k .is-consistent)
+
+  found : getD (slotsOf slots pool) slot none ≡ some flow
+  found = held.found table slots pool sums k slot inside count
+
+  alone : FlowRules t (heldFlows (slotsOf slots pool)) flow
+  alone = held-at (FlowRules t (heldFlows (slotsOf slots pool))) (slotsOf slots pool) slot (rules .flows .flows) found
+
+  pub on-table : OnTable table entries
+  unfolding flowAt lineFindings
+  on-table = record { named = held.on table slots pool sums k slot inside; once = alone .line .1 .1 .0 }
+
+  is-changed : FlowOf share entries (changed c flow)
+  unfolding flowAt changed
+  is-changed = record { is = refl; path-is = refl }
+
+  others-named : All (λ g. All (Named t) (g .path)) others
+  others-named = all-part (λ g. All (Named t) (g .path)) (clear-part (slotsOf slots pool) slot) (held-named table slots pool sums k)
+
+  -- The causes against the change.
+  abbrev links : ℕ → List (Option Cause)
+  links i = linkFindings t (changed c flow ∷ heldFlows (set (slotsOf slots pool) i none)) (flow .path)
+
+  against : findings s (change c) ≡ whole 17 (ltb (given .burst .0) (frameAt slots slot)) ∷ links slot
+  unfolding findings changeFindings flowAt
+  against =
+      ap (changeFindings s c) (ap (λ i. getD (slotsOf slots pool) i none) (sym at) ∙ found)
+      ∙ ap (λ i. whole 17 (ltb (given .burst .0) (frameAt slots slot)) ∷ links i) (sym at)
+
+  pub over-burst : given .burst .0 < frameAt slots slot → firstCause (findings s (change c)) ≡ some (record { code = 17; link = 0; level = 0 })
+  unfolding firstCause whole
+  over-burst lt = ap firstCause against ∙ rw (lt-ltb (given .burst .0) (frameAt slots slot) lt)
+
+  past-burst : (given .burst .0 < frameAt slots slot → ⊥) → firstCause (findings s (change c)) ≡ firstCause (links slot)
+  unfolding firstCause whole
+  past-burst ge = ap firstCause against ∙ rw (le-ltb (given .burst .0) (frameAt slots slot) (omega (arith, ge)))
+
+  -- What the check of the links found.
+  pub checked : (given .burst .0 < frameAt slots slot → ⊥) → {r : Finding} → ChangeChecked (shareAt slots slot) share table sums entries r
+      → findingOf r ≡ firstCause (findings s (change c))
+  unfolding flowAt changed
+  checked ge found-at =
+      found-at .first others flow (changed c flow) (k .formed) on-table (held.is table slots pool sums k slot inside count) is-changed refl
+      (held.with-flow table slots pool sums k slot inside count) others-named
+      ∙ sym (past-burst ge)
+
+  module _ (range : changeInRange c ≡ true) where
+    pub at-source : AtSource share
+    at-source =
+        let small = narrow given range in
+        (small .rate, small .burst, held.ranged table slots pool sums k slot inside count .share .2)
+
+    -- The slot holds the flow so changed, its figures are those, and the slot is answered.
+    pub stepped-changed : firstCause (findings s (change c)) ≡ none → {slots′ sums′ : List ℕ}
+        → slotsOf slots′ pool ≡ set (slotsOf slots pool) slot (changedSlot c (getD (slotsOf slots pool) slot none))
+        → Store slots′ pool
+        → PathChanged (shareAt slots slot) share table entries sums sums′
+        → Stepped (change c) table slots pool slots′ pool sums′ (Done (slot + 1))
+    unfolding apply decide perform fill
+    stepped-changed nothing {slots′} {sums′} view store moved =
+        record { answer = answer; next = next; kept = record { formed = k .formed; store = store; is-consistent = is-consistent; figures = figures } }
+      where
+        done : apply s (change c) ≡ fill s (indexOf (given .number) (slotsOf slots pool)) (changedSlot c (slotWith (given .number) (slotsOf slots pool)))
+        done = ap (decide s (change c)) nothing
+
+        answer : answerOf (Done (slot + 1)) ≡ apply s (change c) .answer
+        answer = ap (λ (i : ℕ). answerOf (Done (i + 1))) at ∙ filled s _ _ ∙ sym (ap (λ (out : Outcome). out .answer) done)
+
+        next : stateOf table slots′ pool ≡ apply s (change c) .next
+        next =
+            ap (λ (l : List Slot). record { table = t; slots = l })
+            (view ∙ ap (λ i. set (slotsOf slots pool) i (changedSlot c (getD (slotsOf slots pool) i none))) at)
+            ∙ sym (ap (λ (out : Outcome). out .next) done)
+
+        is-consistent : consistent (stateOf table slots′ pool) ≡ true
+        is-consistent = rw next (rules-state _ (apply-keeps s (change c) (kindNumber changing) (refl, range) rules))
+
+        figures : Figures t (heldFlows (slotsOf slots′ pool)) sums′
+        unfolding flowAt changed changedSlot
+        figures =
+            let now =
+            moved .same flow (changed c flow) others on-table (held.is table slots pool sums k slot inside count) is-changed refl
+            (held.with-flow table slots pool sums k slot inside count) in
+            let seen : slotsOf slots′ pool ≡ set (slotsOf slots pool) slot (some (changed c flow)) =
+            view ∙ ap (λ x. set (slotsOf slots pool) slot (changedSlot c x)) found in
+            record {
+              long = now .long;
+              same = λ e lt.
+                  now .same e lt
+                  ∙ sym (aggregate-perm t (put-perm (slotsOf slots pool) slot (changed c flow) (held-inside (slotsOf slots pool) slot found)) (hopAt e))
+                  ∙ ap (λ (l : List Slot). aggregateAt t (heldFlows l) (hopAt e)) (sym seen);
+            }
