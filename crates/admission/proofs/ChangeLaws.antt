@@ -136,7 +136,7 @@ module _ (table slots pool sums : List ℕ) (k : Kept table slots pool sums) (gi
         → Store slots′ pool
         → PathChanged (shareAt slots slot) share table entries sums sums′
         → Stepped (change c) table slots pool slots′ pool sums′ (Done (slot + 1))
-    unfolding apply decide perform fill
+    unfolding apply decide perform fill flowAt changed changedSlot
     stepped-changed nothing {slots′} {sums′} view store moved =
         record { answer = answer; next = next; kept = record { formed = k .formed; store = store; is-consistent = is-consistent; figures = figures } }
       where
@@ -156,7 +156,6 @@ module _ (table slots pool sums : List ℕ) (k : Kept table slots pool sums) (gi
         is-consistent = rw next (rules-state _ (apply-keeps s (change c) (kindNumber changing) (refl, range) rules))
 
         figures : Figures t (heldFlows (slotsOf slots′ pool)) sums′
-        unfolding flowAt changed changedSlot
         figures =
             let now =
             moved .same flow (changed c flow) others on-table (held.is table slots pool sums k slot inside count) is-changed refl

@@ -139,14 +139,13 @@ fn change_held(
 {
     let flow = flow_store::flow_at(slot, &slots[..]);
     let was = flow.share;
-    if given.burst.0 < was.frame.0 {
+    let rate = given.rate;
+    let burst = given.burst;
+    let frame = was.frame;
+    if burst.0 < frame.0 {
         return Answer::Refused(Cause::FrameAboveBurst);
     }
-    let share = Aggregate {
-        rate: given.rate,
-        burst: given.burst,
-        frame: was.frame,
-    };
+    let share = Aggregate { rate, burst, frame };
     let mut entries = [0u32; orders::MOST_HOPS];
     let hops = flow_store::path_into(slot, &slots[..], pool, &mut entries);
     let path = &entries[..hops];

@@ -156,11 +156,13 @@ fn read_head(line: &[u8]) -> Head
     let Field::Number(hops) = columns::read_at(line, 39, 41) else {
         return Head::Malformed;
     };
+    let rate = source.rate;
+    let burst = source.burst;
     Head::Fields(Flow {
         number: source.number,
         share: Aggregate {
-            rate: source.rate,
-            burst: source.burst,
+            rate,
+            burst,
             frame: Bytes(columns::wide(frame)),
         },
         deadline: Micros(columns::wide(deadline)),
@@ -190,12 +192,14 @@ pub fn in_range(flow: Flow) -> bool
 {
     let number = flow.number;
     let share = flow.share;
+    let rate = share.rate;
+    let burst = share.burst;
     let frame = share.frame.0;
     let deadline = flow.deadline.0;
     let source = Change {
         number,
-        rate: share.rate,
-        burst: share.burst,
+        rate,
+        burst,
     };
     if !source_in_range(source) {
         return false;

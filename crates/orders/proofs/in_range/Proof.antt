@@ -1,56 +1,36 @@
 -- `orders::in_range` meets its contract: its tests are the definition's, in the same order.
 -- Assumes nothing.
 use borrow.Author.Needs.{needs}
-use mathlib.Core.Path.{_≡_, sym, _∙_, ap}
-use mathlib.Core.Bool.{true}
+use mathlib.Core.Path.{_≡_, refl, sym, _∙_, ap₂}
+use mathlib.Core.Bool.{Bool, true, _&&_}
 use borrow.Author.Tests.{not-true, not-false}
 use Rattle.model.specs.Columns.{between}
-use Rattle.model.specs.Orders.{headInRange, numberInRange}
+use Rattle.model.specs.Orders.{Head, changeInRange, headInRange}
 use Rattle.orders.proofs.in_range.Statement.{statement}
 use Rattle.orders.proofs.in_range.Tie as tie
 
-number-within : (c : tie.Else1) → between 1 65535 (c .before .before .before .before .args .flow .number) ≡ true
-number-within c = ap (between 1 65535) (sym (c .before .before .wide .ensures)) ∙ sym (c .before .within .ensures) ∙ not-false _ (c .if1 .left)
+source-within : (c : tie.Else1) → changeInRange (record { number = c .before .before .before .before .before .args .flow .number; rate = c .before .before .before .before .before .args .flow .share .rate .0; burst = c .before .before .before .before .before .args .flow .share .burst .0 }) ≡ true
+source-within c = sym (c .before .source-in-range .ensures) ∙ not-false _ (c .if1 .left)
 
-rate-within : (c : tie.Else2) → between 1 10000000 (c .before .before .before .before .before .before .args .flow .share .rate .0) ≡ true
-rate-within c = sym (c .before .within2 .ensures) ∙ not-false _ (c .if2 .left)
+frame-within : (c : tie.Else2) → between 84 1542 (c .before .before .before .before .before .before .before .args .flow .share .frame .0) ≡ true
+frame-within c = sym (c .before .within .ensures) ∙ not-false _ (c .if2 .left)
 
-burst-within : (c : tie.Else3) → between 84 1000000 (c .before .before .before .before .before .before .before .before .args .flow .share .burst .0) ≡ true
-burst-within c = sym (c .before .within3 .ensures) ∙ not-false _ (c .if3 .left)
-
-frame-within : (c : tie.Else4) → between 84 1542 (c .before .before .before .before .before .before .before .before .before .before .args .flow .share .frame .0) ≡ true
-frame-within c = sym (c .before .within4 .ensures) ∙ not-false _ (c .if4 .left)
+-- The ranges of a change come first.
+parts : (h : Head) {source frame : Bool} → changeInRange (record { number = h .number; rate = h .rate; burst = h .burst }) ≡ source → between 84 1542 (h .frame) ≡ frame
+    → headInRange h ≡ (source && frame && between 1 10000000 (h .deadline))
+unfolding headInRange changeInRange
+parts h source frame = ap₂ (λ (a b : Bool). a && b && between 1 10000000 (h .deadline)) source frame
 
 returns : tie.Need-returns
-unfolding headInRange numberInRange
-returns c =
-    let ends = ap (between 1 65535) (sym (c .before .before .wide .ensures)) ∙ sym (c .before .within .ensures) ∙ not-true _ (c .if1 .taken) in
-    sym (simp (ends))
+returns c = sym (parts _ (sym (c .before .source-in-range .ensures) ∙ not-true _ (c .if1 .taken)) refl)
 
 returns-2 : tie.Need-returns-2
-unfolding headInRange numberInRange
-returns-2 c =
-    let ends = sym (c .before .within2 .ensures) ∙ not-true _ (c .if2 .taken) in
-    sym (simp (number-within (c .before .before), ends))
+returns-2 c = sym (parts _ (source-within (c .before .before)) (sym (c .before .within .ensures) ∙ not-true _ (c .if2 .taken)))
 
 returns-3 : tie.Need-returns-3
-unfolding headInRange numberInRange
-returns-3 c =
-    let ends = sym (c .before .within3 .ensures) ∙ not-true _ (c .if3 .taken) in
-    sym (simp (number-within (c .before .before .before .before), rate-within (c .before .before), ends))
-
-returns-4 : tie.Need-returns-4
-unfolding headInRange numberInRange
-returns-4 c =
-    let ends = sym (c .before .within4 .ensures) ∙ not-true _ (c .if4 .taken) in
-    sym (simp (number-within (c .before .before .before .before .before .before), rate-within (c .before .before .before .before), burst-within (c .before .before), ends))
-
-returns-5 : tie.Need-returns-5
-unfolding headInRange numberInRange
-returns-5 c = c .within5 .ensures ∙ sym (simp (number-within (c .before .before .before .before .before .before .before), rate-within (c .before .before .before .before .before), burst-within (c .before .before .before), frame-within (c .before)))
+returns-3 c = c .within2 .ensures ∙ sym (parts _ (source-within (c .before .before .before)) (frame-within (c .before)))
 
 pub in-range-spec : {M : Type 1} → statement M
 in-range-spec =
     tie.close
-    (tie.spec (λ c κs. search needs) (λ c κs. search needs) returns (λ c κs. search needs) returns-2 (λ c κs. search needs) returns-3
-    (λ c κs. search needs) returns-4 (λ c κs. search needs) returns-5)
+    (tie.spec (λ c κs. search needs) returns (λ c κs. search needs) returns-2 (λ c κs. search needs) returns-3)

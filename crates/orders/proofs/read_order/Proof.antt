@@ -46,7 +46,12 @@ unfolding kindOrder
 returns-4 c =
     (by-kind _ (number (c .before .before .before .before .before .before .before .before)) (kind (c .before .before .before .before) ∙ ap (λ (k : code.Kind). some (kindOf k)) (c .before .enum-told4 .given .1)) (c .read-release .ensures .0), c .read-release .ensures .1)
 
+returns-5 : tie.Need-returns-5
+unfolding kindOrder
+returns-5 c =
+    (by-kind _ (number (c .before .before .before .before .before .before .before .before)) (kind (c .before .before .before .before) ∙ ap (λ (k : code.Kind). some (kindOf k)) (c .before .enum-told5 .given .1)) (c .read-change .ensures .0), c .read-change .ensures .1)
+
 pub read-order-spec : {M : Type 1} → statement M
 read-order-spec =
     tie.close
-    (tie.spec (λ c κs. search needs) (λ c. search needs) (λ c. search needs) (λ c κs. search needs) returns (λ c κs. search needs) (λ c. search needs) (λ c. search needs) (λ c κs. search needs) returns-2 (λ c. search needs) (λ c κs. search needs) (λ c. search needs) (λ c κs. search needs) returns-3 returns-4)
+    (tie.spec (λ c κs. search needs) (λ c. search needs) (λ c. search needs) (λ c κs. search needs) returns (λ c κs. search needs) (λ c. search needs) (λ c. search needs) (λ c κs. search needs) returns-2 (λ c. search needs) (λ c κs. search needs) (λ c. search needs) (λ c κs. search needs) (λ c. search needs) (λ c κs. search needs) returns-3 returns-4 returns-5)
