@@ -125,7 +125,7 @@ fn release_flow(
 
 // Changes rate and burst of the flow in a held slot. Its figures are written only after the last link has passed.
 fn change_held(
-    slot: usize,
+    held: usize,
     given: Change,
     table: &[u32],
     slots: &mut [u32],
@@ -133,11 +133,11 @@ fn change_held(
     sums: &mut [u64],
 ) -> Answer
     requires { ⌜ Kept (now table) (now slots) (now pool) (now sums) ⌝ }
-    requires { ⌜ (slot ≡ indexOf (given .number) (slotsOf (now slots) (now pool))) × (slot < slotCount) ⌝ }
+    requires { ⌜ (held ≡ indexOf (given .number) (slotsOf (now slots) (now pool))) × (held < slotCount) ⌝ }
     requires { ⌜ changeInRange (changeOf given) ≡ true ⌝ }
     ensures { λ r. ⌜ Stepped (change (changeOf given)) (now (table .entry)) (now (slots .entry)) (now (pool .entry)) (now (slots .exit)) (now (pool .entry)) (now (sums .exit)) r ⌝ }
 {
-    let flow = flow_store::flow_at(slot, &slots[..]);
+    let flow = flow_store::flow_at(held, &slots[..]);
     let was = flow.share;
     let rate = given.rate;
     let burst = given.burst;
@@ -147,15 +147,15 @@ fn change_held(
     }
     let share = Aggregate { rate, burst, frame };
     let mut entries = [0u32; orders::MOST_HOPS];
-    let hops = flow_store::path_into(slot, &slots[..], pool, &mut entries);
+    let hops = flow_store::path_into(held, &slots[..], pool, &mut entries);
     let path = &entries[..hops];
     let found = figures::check_change(was, share, table, &sums[..], path);
     if let Finding::Against(cause) = found {
         return Answer::Refused(cause);
     }
-    flow_store::change(slot, given, slots);
+    flow_store::change(held, given, slots);
     figures::change_path(was, share, table, path, sums);
-    Answer::Done(slot as u32 + 1)
+    Answer::Done(held as u32 + 1)
 }
 
 // Changes the flow with the number of the change.
