@@ -1,24 +1,22 @@
 -- The loop that counts a flow in hop by hop: what the hops left add and the figures so far make the whole.
 -- Assumes nothing.
 use Prim.Native.Nat.{ℕ, _+_, _*_, _^_, _≤_, _<_}
-use mathlib.Core.Path.{_≡_, refl, sym, ap, _∙_}
+use mathlib.Core.Path.{_≡_, sym, ap, ap₂, _∙_}
 use mathlib.Core.List.{List, [], _∷_}
 use native.Mathlib.Omega.{arith}
 use native.Mathlib.Decide.{ℕ-discrete}
-use lib.ListN.{length, getD, drop}
+use lib.ListN.{length, getD}
 use Rattle.model.specs.Sizes.{queuesMost, hopsMost}
 use Rattle.model.specs.Orders.{Flow}
 use Rattle.model.specs.Formula.{Aggregate}
 use Rattle.model.specs.QueueTable.{Table}
 use Rattle.model.specs.Aggregates as model
-use Rattle.model.specs.Aggregates.{sharesAt}
 use Rattle.model.specs.WithFlow.{together}
-use Rattle.model.specs.Laws.Aggregates.{hop-same}
-use Rattle.model.specs.Laws.Figures.{shares-nothing, shares-other, shares-here, aggregate-alone, aggregate-more}
+use Rattle.model.specs.Laws.Figures.{aggregate-alone, aggregate-more}
 use Rattle.queue_table.specs.View.{tableOf, hopAt, AllQueues}
 use Rattle.figures.specs.View.{sumNumbers, figureAt, growthAt, ShareBounded, Below, figureStored, FlowOf, PathAdded, Figures}
-use Rattle.figures.proofs.FigureLaws.{stored-length, stored-here, stored-other, stored-below}
-use Rattle.figures.proofs.EntryLaws.{other-entry, shares-next, shares-end}
+use Rattle.figures.proofs.FigureLaws.{at-most, stored-length, stored-here, stored-other, stored-more}
+use Rattle.figures.proofs.EntryLaws.{leftAt, left-none, left-here, left-other}
 
 -- The figures so far, `sums`, with the hops from `i` on left, before which S is `sum`.
 pub record Adding (share : Aggregate) (table entries before sums : List ℕ) (sum i : ℕ) : Type 0 where
@@ -27,8 +25,7 @@ pub record Adding (share : Aggregate) (table entries before sums : List ℕ) (su
   pub sum-below : sum ≤ i * 100000
   pub below : (bound : ℕ) → Below bound before → Below (bound + i * 2 ^ 31) sums
   pub left : (f : Flow) → AllQueues table entries → FlowOf share entries f → (e : ℕ) → e < queuesMost
-      → together (sharesAt (hopAt e) (model.shares (tableOf table) f sum (drop i (f .path)))) (figureAt sums e)
-      ≡ together (model.aggregateAt (tableOf table) (f ∷ []) (hopAt e)) (figureAt before e)
+      → together (leftAt table f sum i e) (figureAt sums e) ≡ together (model.aggregateAt (tableOf table) (f ∷ []) (hopAt e)) (figureAt before e)
 
 module _ (share : Aggregate) (table entries before : List ℕ) where
   abbrev t : Table
@@ -49,9 +46,7 @@ module _ (share : Aggregate) (table entries before : List ℕ) where
     adding-all end few =
         record {
           long = so-far .long;
-          same = λ f named is e lt.
-              let nothing = ap (λ l. together (sharesAt (hopAt e) l) (figureAt sums e)) (shares-end is table sum i end) in
-              sym (shares-nothing (hopAt e) (figureAt sums e)) ∙ sym nothing ∙ so-far .left f named is e lt;
+          same = λ f named is e lt. sym (left-none is table sum i end e (figureAt sums e)) ∙ so-far .left f named is e lt;
           below = λ bound b j. omega (arith, so-far .below bound b j, so-far .within);
         }
 
@@ -67,38 +62,14 @@ module _ (share : Aggregate) (table entries before : List ℕ) where
       abbrev sums′ : List ℕ
       sums′ = figureStored sums x there
 
-      next-below : (bound : ℕ) → Below bound before → Below (bound + (i + 1) * 2 ^ 31) sums′
-      unfolding figureAt together
-      next-below bound b =
-          let now : Below (bound + i * 2 ^ 31) sums = so-far .below bound b in
-          stored-below sums x there (bound + (i + 1) * 2 ^ 31) (λ j. omega (arith, now j)) (omega (arith, small .0, now (3 * x))) (omega (arith, small .1, now (3 * x + 1))) (omega (arith, small .2, now (3 * x + 2)))
-
       module _ (f : Flow) (named : AllQueues table entries) (is : FlowOf share entries f) where
-        rest : List model.Share
-        rest = model.shares t f (sum + growthAt table x) (drop (i + 1) (f .path))
-
-        here : model.Share
-        here = record { hop = hopAt x; adds = model.grown share sum }
-
         step : (e : ℕ) → Dec (e ≡ x)
-            → together (sharesAt (hopAt e) rest) (figureAt sums′ e) ≡ together (sharesAt (hopAt e) (here ∷ rest)) (figureAt sums e)
-        unfolding here
+            → together (leftAt table f (sum + growthAt table x) (i + 1) e) (figureAt sums′ e) ≡ together (leftAt table f sum i e) (figureAt sums e)
         step e (yes same) =
             rw same
-            (ap (together (sharesAt (hopAt x) rest)) (stored-here sums x there (omega (arith, so-far .long)))
-            ∙ sym (shares-here (hopAt x) here rest (figureAt sums x) (hop-same (hopAt x) (hopAt x) refl)))
-        step e (no other) =
-            ap (together (sharesAt (hopAt e) rest)) (stored-other sums x there e other)
-            ∙ ap (λ a. together a (figureAt sums e)) (sym (shares-other (hopAt e) here rest (other-entry e x other)))
-
-        next-left : (e : ℕ) → e < queuesMost
-            → together (sharesAt (hopAt e) (model.shares t f (sum + growthAt table x) (drop (i + 1) (f .path)))) (figureAt sums′ e)
-            ≡ together (model.aggregateAt t (f ∷ []) (hopAt e)) (figureAt before e)
-        unfolding rest here
-        next-left e lt =
-            step e (ℕ-discrete e x)
-            ∙ ap (λ l. together (sharesAt (hopAt e) l) (figureAt sums e)) (sym (shares-next is table sum i named more))
-            ∙ so-far .left f named is e lt
+            (ap (together (leftAt table f (sum + growthAt table x) (i + 1) x)) (stored-here sums x there (omega (arith, so-far .long)))
+            ∙ sym (left-here is table sum i named more (figureAt sums x)))
+        step e (no other) = ap₂ together (sym (left-other is table sum i named more e other)) (stored-other sums x there e other)
 
       next : Adding share table entries before sums′ (sum + growthAt table x) (i + 1)
       next =
@@ -106,8 +77,8 @@ module _ (share : Aggregate) (table entries before : List ℕ) where
             long = stored-length sums x there ∙ so-far .long;
             within = omega arith;
             sum-below = omega (arith, so-far .sum-below);
-            below = next-below;
-            left = next-left;
+            below = λ bound b j. omega (arith, stored-more sums x small (at-most there) (bound + i * 2 ^ 31) (so-far .below bound b) j);
+            left = λ f named is e lt. step f named is e (ℕ-discrete e x) ∙ so-far .left f named is e lt;
           }
 
       -- Its share and S past it are those that were worked out.

@@ -1,4 +1,4 @@
--- The levels of a link, as they are or with a flow counted in at one of them: no sum over them is large. Which arrays are so bounded.
+-- The levels of a link, as they are or with the figures of one more flow at one of them: no sum over them is large. Which arrays are so bounded.
 -- Assumes nothing.
 use Prim.Native.Nat.{ℕ, zero, suc, _+_, _*_, _/_, _%_, _^_, _≤_, _<_}
 use mathlib.Core.Path.{_≡_, refl, sym, ap₂, _∙_}
@@ -14,11 +14,12 @@ use Rattle.model.specs.Sizes.{linksMost, levelsMost, queuesMost}
 use Rattle.model.specs.Total.{total}
 use Rattle.model.specs.Formula.{Aggregate}
 use Rattle.model.specs.WithFlow.{together}
+use Rattle.model.specs.Laws.Formula.{AtMost}
 use Rattle.model.specs.Laws.Total.{total-le, largest-le}
 use Rattle.model.specs.Laws.All.{all-append}
 use Rattle.queue_table.specs.View.{upTo, entryAt, linkIn, levelIn}
 use Rattle.queue_table.proofs.ViewLaws.{length-up}
-use Rattle.figures.specs.View.{sumNumbers, figureAt, levelFigures, levelsWith, Summable, Below, ShareBounded, Bounded}
+use Rattle.figures.specs.View.{sumNumbers, figureAt, levelFigures, levelsWith, Summable, Below, ShareBounded, LevelBounded, Bounded}
 
 module _ {A : Type 0} where
   set-all : (P : A → Type 0) (l : List A) (i : ℕ) (v : A) → All P l → P v → All P (set l i v)
@@ -45,27 +46,36 @@ levels-summable levels long rates bursts frames =
     let frame = largest-le (λ a. a .frame) 1542 levels frames in
     (omega arith, omega arith)
 
-module _ (sums : List ℕ) (bounded : Bounded sums) (e : ℕ) (low : e < queuesMost) (share : Aggregate) (small : ShareBounded share) where
-  each : (m : Aggregate → ℕ) (most : ℕ) → ((d : ℕ) → d < queuesMost → m (figureAt sums d) ≤ most) → m (together (figureAt sums e) share) ≤ most
-      → All (λ a. m a ≤ most) (levelsWith sums e share)
+-- The figures of a queue, with no more than a share counted in.
+pub level-bounded : (sums : List ℕ) → Bounded sums → (e : ℕ) → e < queuesMost → {share a : Aggregate} → ShareBounded share
+    → AtMost a (together (figureAt sums e) share)
+    → LevelBounded a
+unfolding together
+level-bounded sums bounded e low small most = (
+  omega (arith, small .0, most .rate, bounded .rates e low),
+  omega (arith, small .1, most .burst, bounded .bursts e low),
+  omega (arith, small .2, most .frame, bounded .frames e low),
+)
+
+module _ (sums : List ℕ) (bounded : Bounded sums) (e : ℕ) (low : e < queuesMost) (own : Aggregate) (small : LevelBounded own) where
+  each : (m : Aggregate → ℕ) (most : ℕ) → ((d : ℕ) → d < queuesMost → m (figureAt sums d) ≤ most) → m own ≤ most
+      → All (λ a. m a ≤ most) (levelsWith sums e own)
   unfolding levelsWith levelFigures
-  each m most figures own =
-      set-all (λ a. m a ≤ most) (levelFigures sums (linkIn e)) (levelIn e) (together (figureAt sums e) share)
+  each m most figures there =
+      set-all (λ a. m a ≤ most) (levelFigures sums (linkIn e)) (levelIn e) own
       (up-all (λ a. m a ≤ most) levelsMost (λ p. figureAt sums (entryAt (linkIn e) p)) (λ p lt. figures (entryAt (linkIn e) p) (omega (arith, div-add-mod e levelsMost))))
-      own
+      there
 
-  long : length (levelsWith sums e share) ≡ levelsMost
+  long : length (levelsWith sums e own) ≡ levelsMost
   unfolding levelsWith levelFigures
-  long =
-      length-set (levelFigures sums (linkIn e)) (levelIn e) (together (figureAt sums e) share) ∙ length-up levelsMost (λ p. figureAt sums (entryAt (linkIn e) p))
+  long = length-set (levelFigures sums (linkIn e)) (levelIn e) own ∙ length-up levelsMost (λ p. figureAt sums (entryAt (linkIn e) p))
 
-  pub summable : Summable (levelsWith sums e share)
-  unfolding together
+  pub summable : Summable (levelsWith sums e own)
   summable =
-      levels-summable (levelsWith sums e share) long
-      (each (λ a. a .rate) 20000000 (λ d lt. omega (arith, bounded .rates d lt)) (omega (arith, small .0, bounded .rates e low)))
-      (each (λ a. a .burst) (2 ^ 33) (λ d lt. omega (arith, bounded .bursts d lt)) (omega (arith, small .1, bounded .bursts e low)))
-      (each (λ a. a .frame) 1542 (λ d lt. bounded .frames d lt) (omega (arith, small .2, bounded .frames e low)))
+      levels-summable (levelsWith sums e own) long
+      (each (λ a. a .rate) 20000000 (λ d lt. omega (arith, bounded .rates d lt)) (small .0))
+      (each (λ a. a .burst) (2 ^ 33) (λ d lt. omega (arith, bounded .bursts d lt)) (small .1))
+      (each (λ a. a .frame) 1542 (λ d lt. bounded .frames d lt) (small .2))
 
 -- The levels as they are.
 pub summable-alone : (sums : List ℕ) → Bounded sums → (link : ℕ) → link < linksMost → Summable (levelFigures sums link)

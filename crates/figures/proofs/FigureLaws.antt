@@ -1,6 +1,6 @@
 -- Figures stored in the array are read back, and those of the other queues stay as they were.
 -- Assumes nothing.
-use Prim.Native.Nat.{ℕ, zero, suc, _+_, _*_, _/_, _%_, _^_, _≤_, _<_, max}
+use Prim.Native.Nat.{ℕ, zero, suc, _+_, _-_, _*_, _/_, _%_, _^_, _≤_, _<_, max}
 use mathlib.Core.Path.{_≡_, refl, sym, ap, _∙_}
 use mathlib.Core.List.{List, [], _∷_}
 use native.Mathlib.Nat.{add-zero}
@@ -9,10 +9,11 @@ use lib.ListN.{length, getD, set, length-set}
 use lib.Seq.{getD-set-same, getD-set-other, set-getD, ext-getD}
 use Rattle.model.specs.Sizes.{queuesMost}
 use Rattle.model.specs.Formula.{Aggregate}
+use Rattle.model.specs.Laws.Formula.{AtMost}
 use Rattle.model.specs.QueueTable.{Table}
 use Rattle.model.specs.Orders.{Flow}
 use Rattle.model.specs.WithFlow.{together}
-use Rattle.figures.specs.View.{figureAt, Below, figureStored, Figures}
+use Rattle.figures.specs.View.{figureAt, replaced, Below, ShareBounded, figureStored, Figures}
 
 set-below : (bound : ℕ) (l : List ℕ) (i v : ℕ) → Below bound l → v ≤ bound → Below bound (set l i v)
 set-below bound [] i v b h k = b k
@@ -61,10 +62,45 @@ module _ (sums : List ℕ) (e : ℕ) (a : Aggregate) where
         frame = getD-set-same two (3 * e + 2) (a .frame) 0 (omega (arith, long)) i;
       }
 
-  pub stored-below : (bound : ℕ) → Below bound sums → a .rate ≤ bound → a .burst ≤ bound → a .frame ≤ bound → Below bound (figureStored sums e a)
+  stored-below : (bound : ℕ) → Below bound sums → a .rate ≤ bound → a .burst ≤ bound → a .frame ≤ bound → Below bound (figureStored sums e a)
   unfolding figureStored
   stored-below bound b r s f =
       set-below bound two (3 * e + 2) (a .frame) (set-below bound one (3 * e + 1) (a .burst) (set-below bound sums (3 * e) (a .rate) b r) s) f
+
+-- No aggregate is more than itself.
+pub at-most : (a : Aggregate) → AtMost a a
+at-most a = record { rate = omega arith; burst = omega arith; frame = omega arith }
+
+-- No number grows by more than a share where the figures of a queue don't.
+pub stored-more : (sums : List ℕ) (e : ℕ) {share a : Aggregate} → ShareBounded share → AtMost a (together (figureAt sums e) share)
+    → (bound : ℕ) → Below bound sums → Below (bound + 2 ^ 31) (figureStored sums e a)
+unfolding figureAt together
+stored-more sums e {a = a} small most bound b =
+    stored-below sums e a (bound + 2 ^ 31) (λ j. omega (arith, b j)) (omega (arith, small .0, most .rate, b (3 * e))) (omega (arith, small .1, most .burst, b (3 * e + 1)))
+    (omega (arith, small .2, most .frame, b (3 * e + 2)))
+
+-- A share with the largest frame of another.
+abbrev pub keptFrame : (was share : Aggregate) → Aggregate
+keptFrame was share = record { rate = share .rate; burst = share .burst; frame = was .frame }
+
+pub kept-same : (was share : Aggregate) → was .frame ≡ share .frame → keptFrame was share ≡ share
+kept-same was share same = λ i. record { rate = share .rate; burst = share .burst; frame = same i }
+
+-- A flow counted by another share beside the figures `rest` and `a`.
+pub replaced-own : (rest a was share : Aggregate) → replaced (together rest (together a was)) was share ≡ together rest (together a (keptFrame was share))
+unfolding replaced together
+replaced-own rest a was share = λ i. record { rate = rate i; burst = burst i; frame = max (rest .frame) (max (a .frame) (was .frame)) }
+  where
+    rate : rest .rate + (a .rate + was .rate) - was .rate + share .rate ≡ rest .rate + (a .rate + share .rate)
+    rate = omega arith
+
+    burst : rest .burst + (a .burst + was .burst) - was .burst + share .burst ≡ rest .burst + (a .burst + share .burst)
+    burst = omega arith
+
+-- It is no more than if it were counted in twice.
+pub replaced-most : (own was share : Aggregate) → AtMost (replaced own was share) (together own share)
+unfolding replaced together
+replaced-most own was share = record { rate = omega arith; burst = omega arith; frame = omega arith }
 
 -- A number of the array has room for one more flow.
 pub sum-fits : (sums : List ℕ) (k more : ℕ) → Below (2 ^ 63) sums → more ≤ 2 ^ 31 → getD sums k 0 + more < 2 ^ 64

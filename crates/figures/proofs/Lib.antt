@@ -8,3 +8,4 @@ pub mod LoadLaws
 pub mod BoundLaws
 pub mod LinkLaws
 pub mod CheckLaws
+pub mod ChangeLaws

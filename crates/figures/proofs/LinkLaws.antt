@@ -1,5 +1,5 @@
--- The check of eight levels in the arrays is the model's check of the link, as the flows are and with one more counted in at its hop.
--- Levels past the link's own carry no flow of the table, so the law of padding applies. Assumes nothing.
+-- The check of eight levels in the arrays is the model's check of the link, as the flows are, with one more counted in at its hop, and with
+-- one in place of another there. Levels past the link's own carry no flow of the table, so the law of padding applies. Assumes nothing.
 use Prim.Native.Nat.{ℕ, zero, suc, _+_, _-_, _≤_, _<_}
 use mathlib.Core.Path.{_≡_, refl, sym, ap, ap₂, subst, _∙_}
 use mathlib.Core.Bool.{true}
@@ -9,9 +9,10 @@ use native.Mathlib.Nat.{add-zero}
 use native.Mathlib.Omega.{arith}
 use native.Mathlib.Decide.{decLt}
 use native.Mathlib.Numerals.{add-one}
-use lib.ListN.{length, set}
+use lib.ListN.{length, getD, set}
+use lib.Seq.{set-set}
 use Rattle.model.specs.Words.{All, nth}
-use Rattle.model.specs.Sizes.{linksMost, levelsMost}
+use Rattle.model.specs.Sizes.{linksMost, levelsMost, queuesMost}
 use Rattle.model.specs.Formula.{Aggregate}
 use Rattle.model.specs.QueueTable.{Queue, Link, Table}
 use Rattle.model.specs.Orders.{Hop, Flow}
@@ -22,13 +23,14 @@ use Rattle.model.specs.Schedulable.{Named, LinkMeets}
 use Rattle.model.specs.Reference.{linkCause, causeAt}
 use Rattle.model.specs.Laws.Aggregates.{growthSum}
 use Rattle.model.specs.Laws.LinkSteps.{padding}
-use Rattle.model.specs.Laws.Figures.{Crossed, counted, levels-more, levels-append, levels-length, levels-empty, aggregate-unnamed}
+use Rattle.model.specs.Laws.Figures.{Crossed, counted, shares-nothing, levels-more, levels-append, levels-length, levels-empty, aggregate-unnamed}
 use Rattle.queue_table.specs.View.{upTo, entryAt, linkIn, levelIn, linkCount, speedAt, bestEffortAt, levelsAt, queueAt, linkAt, tableOf, hopAt, isQueue, WellFormed}
 use Rattle.queue_table.proofs.ViewLaws.{length-up, up-same}
 use Rattle.queue_table.proofs.LookupLaws.{link-found, link-missing, queue-no-level}
-use Rattle.figures.specs.View.{figureAt, levelFigures, levelsWith, findingAt, causeWith, codeAt, Figures}
+use Rattle.figures.specs.View.{figureAt, levelFigures, levelsWith, countedAt, replaced, changedAt, findingAt, causeWith, codeAt, Figures}
 use Rattle.queue_table.proofs.EntryLaws.{queue-within, queue-low}
 use Rattle.figures.proofs.EntryLaws.{entry-hop}
+use Rattle.figures.proofs.FigureLaws.{keptFrame, kept-same, replaced-own}
 
 up-split : {A : Type 0} (m k : ℕ) (f : ℕ → A) → upTo (m + k) f ≡ upTo m f ++ upTo k (λ p. f (m + p))
 unfolding upTo
@@ -52,8 +54,11 @@ module _ (table : List ℕ) where
   abbrev t : Table
   t = tableOf table
 
-  figure-levels : (fs : List Flow) (sums : List ℕ) (i : ℕ) → i < linksMost → Figures t fs sums
-      → model.levelAggregates t fs (i + 1) 1 (upTo levelsMost (queueAt table i)) ≡ levelFigures sums i
+  -- What the flows have at the eight levels of a link, counted from 0.
+  abbrev pub eightOf : (fs : List Flow) (link : ℕ) → List Aggregate
+  eightOf fs i = model.levelAggregates t fs (i + 1) 1 (upTo levelsMost (queueAt table i))
+
+  figure-levels : (fs : List Flow) (sums : List ℕ) (i : ℕ) → i < linksMost → Figures t fs sums → eightOf fs i ≡ levelFigures sums i
   unfolding levelFigures
   figure-levels fs sums i h figures =
       levels-up t fs (i + 1) levelsMost (queueAt table i)
@@ -62,7 +67,7 @@ module _ (table : List ℕ) where
 
   -- Eight levels say what the link's own levels say.
   eight-levels : (fs : List Flow) (i speed bestEffort : ℕ) → i < linkCount table → levelsAt table i ≤ levelsMost → All (λ g. All (Named t) (g .path)) fs
-      → linkFinding speed bestEffort (upTo levelsMost (queueAt table i)) (model.levelAggregates t fs (i + 1) 1 (upTo levelsMost (queueAt table i)))
+      → linkFinding speed bestEffort (upTo levelsMost (queueAt table i)) (eightOf fs i)
       ≡ linkFinding speed bestEffort (upTo (levelsAt table i) (queueAt table i)) (model.levelAggregates t fs (i + 1) 1 (upTo (levelsAt table i) (queueAt table i)))
   eight-levels fs i speed bestEffort h shallow on =
       let m : ℕ = levelsAt table i in
@@ -80,34 +85,67 @@ module _ (table : List ℕ) where
       (model.levelAggregates t fs (i + 1) 1 own)
       (sym (levels-length t fs (i + 1) 1 own)))
 
-  -- The finding at a hop of the new flow.
-  module _ (well : WellFormed table) (fs : List Flow) (sums : List ℕ) (figures : Figures t fs sums) (on : All (λ g. All (Named t) (g .path)) fs)
-      (f : Flow) (f-on : All (Named t) (f .path)) (e : ℕ) (named : isQueue table e ≡ true) {before after : List Hop} (c : Crossed (f .path) before (hopAt e) after)
-    where
-      abbrev i : ℕ
-      i = linkIn e
+  -- The link of queue `e`.
+  module _ (e : ℕ) (named : isQueue table e ≡ true) (sums : List ℕ) where
+    abbrev i : ℕ
+    i = linkIn e
 
-      abbrev there : Aggregate
-      there = model.grown (model.source f) (growthSum t before)
+    -- The finding there, where the levels with the figures `own` at the queue are those of the flows.
+    pub hop-cause : WellFormed table → (fs : List Flow) → All (λ g. All (Named t) (g .path)) fs → (own : Aggregate) → eightOf fs i ≡ levelsWith sums e own
+        → causeAt t fs (hopAt e .link) (model.linkAt t (hopAt e .link)) ≡ causeWith table sums e own
+    unfolding causeAt linkAt hopAt
+    hop-cause well fs on own levels =
+        let within = queue-within table e named in
+        ap (causeAt t fs (i + 1)) (link-found table i (within .0))
+        ∙ ap (linkCause (i + 1))
+        (sym (eight-levels fs i (speedAt table i) (bestEffortAt table i) (within .0) (well .shallow i (within .0)) on)
+        ∙ ap (findingAt table i) levels)
 
-      hop-levels : model.levelAggregates t (f ∷ fs) (i + 1) 1 (upTo levelsMost (queueAt table i)) ≡ levelsWith sums e there
-      unfolding levelsWith counted hopAt
-      hop-levels =
-          let within = queue-within table e named in
-          let few : i < linksMost = omega (arith, within .0, well .few) in
-          levels-more t f fs c 1 (levelIn e) (upTo levelsMost (queueAt table i)) (omega arith)
-          ∙ ap₂ (λ (l : List Aggregate) (a : Aggregate). set l (levelIn e) (together a there))
-          (figure-levels fs sums i few figures)
-          (sym (figures .same e (queue-low table e named (well .few))))
+    -- The levels with a flow that crosses the link at the queue alone.
+    module _ (f : Flow) (fs : List Flow) {before after : List Hop} (c : Crossed (f .path) before (hopAt e) after) where
+      -- The figures of the queue.
+      abbrev withFlow : Aggregate
+      withFlow = together (model.aggregateAt t fs (hopAt e)) (model.grown (model.source f) (growthSum t before))
 
-      pub hop-cause : causeAt t (f ∷ fs) (hopAt e .link) (model.linkAt t (hopAt e .link)) ≡ causeWith table sums e there
-      unfolding causeAt linkAt hopAt
-      hop-cause =
-          let within = queue-within table e named in
-          ap (causeAt t (f ∷ fs) (i + 1)) (link-found table i (within .0))
-          ∙ ap (linkCause (i + 1))
-          (sym (eight-levels (f ∷ fs) i (speedAt table i) (bestEffortAt table i) (within .0) (well .shallow i (within .0)) (f-on, on))
-          ∙ ap (findingAt table i) hop-levels)
+      one-level : eightOf (f ∷ fs) i ≡ set (eightOf fs i) (levelIn e) withFlow
+      unfolding counted hopAt
+      one-level = levels-more t f fs c 1 (levelIn e) (upTo levelsMost (queueAt table i)) (omega arith)
+
+      pub own-level : e < queuesMost → Figures t (f ∷ fs) sums → figureAt sums e ≡ withFlow
+      unfolding counted model.levelAggregates
+      own-level low figures =
+          figures .same e low ∙ ap (λ l. getD l 0 noFlow) (levels-more t f fs c (hopAt e .level) 0 (queueAt table 0 0 ∷ []) (omega arith))
+
+    few : WellFormed table → i < linksMost
+    few well = omega (arith, queue-within table e named .0, well .few)
+
+    module _ (well : WellFormed table) (fs : List Flow) {before after : List Hop} where
+      -- A flow more.
+      pub levels-counted : Figures t fs sums → (f : Flow) → Crossed (f .path) before (hopAt e) after
+          → eightOf (f ∷ fs) i ≡ levelsWith sums e (countedAt (model.source f) sums e (growthSum t before))
+      unfolding levelsWith
+      levels-counted figures f c =
+          one-level f fs c
+          ∙ ap₂ (λ (l : List Aggregate) (a : Aggregate). set l (levelIn e) (together a (model.grown (model.source f) (growthSum t before)))) (figure-levels fs sums i (few well) figures) (sym (figures .same e (queue-low table e named (well .few))))
+
+      -- A flow in place of another with its largest frame.
+      pub levels-changed : (f : Flow) → Figures t (f ∷ fs) sums → (g : Flow) → f .frame ≡ g .frame
+          → Crossed (f .path) before (hopAt e) after
+          → Crossed (g .path) before (hopAt e) after
+          → eightOf (g ∷ fs) i ≡ levelsWith sums e (changedAt (model.source f) (model.source g) sums e (growthSum t before))
+      unfolding levelsWith
+      levels-changed f figures g same c d =
+          let was : Aggregate = model.grown (model.source f) (growthSum t before) in
+          let share : Aggregate = model.grown (model.source g) (growthSum t before) in
+          let others : Aggregate = model.aggregateAt t fs (hopAt e) in
+          let own : replaced (figureAt sums e) was share ≡ together others share
+          = ap (λ a. replaced a was share) (own-level f fs c (queue-low table e named (well .few)) figures ∙ sym (shares-nothing (hopAt e) (together others was)))
+          ∙ replaced-own (model.sharesAt (hopAt e) []) others was share
+          ∙ shares-nothing (hopAt e) (together others (keptFrame was share))
+          ∙ ap (together others) (kept-same was share same) in
+          one-level g fs d
+          ∙ sym (set-set (eightOf fs i) (levelIn e) (withFlow f fs c) (withFlow g fs d))
+          ∙ ap₂ (λ (l : List Aggregate) (a : Aggregate). set l (levelIn e) a) (sym (one-level f fs c) ∙ figure-levels (f ∷ fs) sums i (few well) figures) (sym own)
 
   -- The finding at a link as the flows are.
   module _ (well : WellFormed table) (fs : List Flow) (sums : List ℕ) (figures : Figures t fs sums) (on : All (λ g. All (Named t) (g .path)) fs) where

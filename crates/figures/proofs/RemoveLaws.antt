@@ -14,15 +14,13 @@ use Rattle.model.specs.Orders.{Flow}
 use Rattle.model.specs.Formula.{Aggregate}
 use Rattle.model.specs.QueueTable.{Table}
 use Rattle.model.specs.Aggregates as model
-use Rattle.model.specs.Aggregates.{sharesAt}
 use Rattle.model.specs.WithFlow.{together}
 use Rattle.model.specs.Laws.All.{all-getD}
-use Rattle.model.specs.Laws.Aggregates.{hop-same}
-use Rattle.model.specs.Laws.Figures.{shares-nothing, shares-other, shares-here, shares-carried, aggregate-alone, aggregate-more}
+use Rattle.model.specs.Laws.Figures.{shares-carried}
 use Rattle.queue_table.specs.View.{tableOf, hopAt, AllQueues}
 use Rattle.figures.specs.View.{sumNumbers, figureAt, growthAt, figureStored, FlowOf, Figures, PathCounted, Carried, FrameLeft, no-flow, unknown, another, HopRemoved, Once, PathRemoved, Near}
 use Rattle.figures.proofs.FigureLaws.{stored-length, stored-here, stored-other, frame-stored, frame-kept}
-use Rattle.figures.proofs.EntryLaws.{other-entry, shares-next, shares-end}
+use Rattle.figures.proofs.EntryLaws.{leftAt, left-whole, left-none, left-here, left-other}
 
 -- The stores that take a flow out at a queue.
 module _ (sums : List ℕ) (e : ℕ) (share : Aggregate) (counted : (share .rate ≤ figureAt sums e .rate) × (share .burst ≤ figureAt sums e .burst)) where
@@ -70,7 +68,7 @@ pub record Removing (share : Aggregate) (table entries before sums : List ℕ) (
   pub left : (f : Flow) (fs : List Flow) → AllQueues table entries → FlowOf share entries f → Figures (tableOf table) (f ∷ fs) before
       → (e : ℕ) → e < queuesMost
       → Near ((1 ≤ share .rate) × Carried (tableOf table) fs × (again ≡ false)) (figureAt sums e)
-      (together (sharesAt (hopAt e) (model.shares (tableOf table) f sum (drop i (f .path)))) (model.aggregateAt (tableOf table) fs (hopAt e)))
+      (together (leftAt table f sum i e) (model.aggregateAt (tableOf table) fs (hopAt e)))
   pub others : (e : ℕ) → All (λ x. e ≡ x → ⊥) entries → figureAt sums e ≡ figureAt before e
   pub kept : (e : ℕ) → 1 ≤ figureAt sums e .rate → share .frame < figureAt before e .frame → figureAt sums e .frame ≡ figureAt before e .frame
   pub must : again ≡ true → Once entries
@@ -124,9 +122,7 @@ module _ (share : Aggregate) (table entries before : List ℕ) where
       record {
         long = long;
         sum-below = omega arith;
-        left = λ f fs named is figures e lt.
-            near-same
-            (figures .same e lt ∙ aggregate-more t f fs (hopAt e) ∙ ap (λ a. together a (model.aggregateAt t fs (hopAt e))) (aggregate-alone t f (hopAt e)));
+        left = λ f fs named is figures e lt. near-same (figures .same e lt ∙ left-whole table f fs e);
         others = λ e off. refl;
         kept = λ e some lt. refl;
         must = λ again once. absurd (true≢false (sym again));
@@ -138,9 +134,7 @@ module _ (share : Aggregate) (table entries before : List ℕ) where
         record {
           long = so-far .long;
           left = λ f fs named is figures one carried e lt.
-              let a = model.aggregateAt t fs (hopAt e) in
-              let nothing = ap (λ l. together (sharesAt (hopAt e) l) a) (shares-end is table sum i end) ∙ shares-nothing (hopAt e) a in
-              let near = subst (Near ((1 ≤ share .rate) × Carried t fs × (again ≡ false)) (figureAt sums e)) nothing (so-far .left f fs named is figures e lt) in
+              let near = subst (Near ((1 ≤ share .rate) × Carried t fs × (again ≡ false)) (figureAt sums e)) (left-none is table sum i end e (model.aggregateAt t fs (hopAt e))) (so-far .left f fs named is figures e lt) in
               record { rate = near .rate; burst = near .burst; low = near .low; frame = λ known. near .frame (one, carried, known) };
           others = so-far .others;
           kept = so-far .kept;
@@ -155,52 +149,45 @@ module _ (share : Aggregate) (table entries before : List ℕ) where
       there = model.grown share sum
 
       module _ (f : Flow) (fs : List Flow) (named : AllQueues table entries) (is : FlowOf share entries f) (figures : Figures t (f ∷ fs) before) where
-        abbrev rest : List model.Share
-        rest = model.shares t f (sum + growthAt table x) (drop (i + 1) (f .path))
+        abbrev past : ℕ
+        past = sum + growthAt table x
 
-        abbrev here : model.Share
-        here = record { hop = hopAt x; adds = there }
+        abbrev rest : ℕ → Aggregate
+        rest e = leftAt table f past (i + 1) e
 
         abbrev Sure : Bool → Type 0
         Sure again = (1 ≤ share .rate) × Carried t fs × (again ≡ false)
 
-        -- What was left is this hop's share and what is left then.
-        left-now : (e : ℕ) → e < queuesMost → Near (Sure again) (figureAt sums e) (together (sharesAt (hopAt e) (here ∷ rest)) (model.aggregateAt t fs (hopAt e)))
-        left-now e lt =
-            subst (λ l. Near (Sure again) (figureAt sums e) (together (sharesAt (hopAt e) l) (model.aggregateAt t fs (hopAt e))))
-            (shares-next is table sum i named more) (so-far .left f fs named is figures e lt)
-
-        left-here : Near (Sure again) (figureAt sums x) (together (sharesAt (hopAt x) rest) (together (model.aggregateAt t fs (hopAt x)) there))
-        left-here =
-            subst (Near (Sure again) (figureAt sums x))
-            (shares-here (hopAt x) here rest (model.aggregateAt t fs (hopAt x)) (hop-same (hopAt x) (hopAt x) refl)) (left-now x e₁)
+        left-here-now : Near (Sure again) (figureAt sums x) (together (rest x) (together (model.aggregateAt t fs (hopAt x)) there))
+        left-here-now =
+            subst (Near (Sure again) (figureAt sums x)) (left-here is table sum i named more (model.aggregateAt t fs (hopAt x))) (so-far .left f fs named is figures x e₁)
 
         here-room : (there .rate ≤ figureAt sums x .rate) × (there .burst ≤ figureAt sums x .burst)
         unfolding together
-        here-room = (omega (arith, left-here .rate), omega (arith, left-here .burst))
+        here-room = (omega (arith, left-here-now .rate), omega (arith, left-here-now .burst))
 
-        none-left : 1 ≤ share .rate → Carried t fs → sharesAt (hopAt x) rest .rate + model.aggregateAt t fs (hopAt x) .rate ≡ 0
-            → max (sharesAt (hopAt x) rest .frame) (model.aggregateAt t fs (hopAt x) .frame) ≡ 0
+        none-left : 1 ≤ share .rate → Carried t fs → rest x .rate + model.aggregateAt t fs (hopAt x) .rate ≡ 0
+            → max (rest x .frame) (model.aggregateAt t fs (hopAt x) .frame) ≡ 0
         none-left one carried z =
             omega (
               arith,
-              shares-carried t f (subst (λ (a : Aggregate). 1 ≤ a .rate) (sym (is .is)) one) (hopAt x) (sum + growthAt table x) (drop (i + 1) (f .path)) (omega arith),
+              shares-carried t f (subst (λ (a : Aggregate). 1 ≤ a .rate) (sym (is .is)) one) (hopAt x) past (drop (i + 1) (f .path)) (omega arith),
               carried (hopAt x) (omega arith),
             )
 
         module _ {sums′ : List ℕ} {own again′ : Bool} (removed : HopRemoved there sums x sums′ own) (both : again′ ≡ false → (again ≡ false) × (own ≡ false)) where
           step : (e : ℕ) → e < queuesMost → Dec (e ≡ x)
-              → Near (Sure again′) (figureAt sums′ e) (together (sharesAt (hopAt e) rest) (model.aggregateAt t fs (hopAt e)))
+              → Near (Sure again′) (figureAt sums′ e) (together (rest e) (model.aggregateAt t fs (hopAt e)))
           step e lt (yes same) =
               rw (same, removed .stored, stored-here sums x (removed .left) (omega (arith, so-far .long)))
-              (taken-out there (figureAt sums x) (removed .left) (sharesAt (hopAt x) rest) (model.aggregateAt t fs (hopAt x))
-              (removed .rate-left) (removed .burst-left) left-here
+              (taken-out there (figureAt sums x) (removed .left) (rest x) (model.aggregateAt t fs (hopAt x))
+              (removed .rate-left) (removed .burst-left) left-here-now
               (λ s. let no = both (s .2) in ((s .0, s .1, no .0), no .1, none-left (s .0) (s .1))) (removed .frame-left))
           step e lt (no other) =
               rw (removed .stored, stored-other sums x (removed .left) e other)
               (near-less (λ s. (s .0, s .1, both (s .2) .0))
               (subst (λ a. Near (Sure again) (figureAt sums e) (together a (model.aggregateAt t fs (hopAt e))))
-              (shares-other (hopAt e) here rest (other-entry e x other)) (left-now e lt)))
+              (left-other is table sum i named more e other) (so-far .left f fs named is figures e lt)))
 
       -- The flow is counted in at the hop.
       pub removing-room : PathCounted share table entries before → {own : Aggregate} → own ≡ there

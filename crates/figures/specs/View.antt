@@ -1,5 +1,5 @@
 -- What the array and the answers of this crate say in the terms of the model.
-use Prim.Native.Nat.{ℕ, _+_, _*_, _^_, _≤_, _<_, max}
+use Prim.Native.Nat.{ℕ, _+_, _-_, _*_, _^_, _≤_, _<_, max}
 use mathlib.Core.Path.{_≡_}
 use mathlib.Core.Bool.{Bool, true, false}
 use mathlib.Core.List.{List, [], _∷_, map}
@@ -11,7 +11,7 @@ use Rattle.model.specs.Total.{total, largest}
 use Rattle.model.specs.Formula.{Aggregate, hopGrowth}
 use Rattle.model.specs.QueueTable.{Table}
 use Rattle.model.specs.Orders.{Hop, Flow}
-use Rattle.model.specs.Aggregates.{source, aggregateAt}
+use Rattle.model.specs.Aggregates.{source, grown, aggregateAt}
 use Rattle.model.specs.LinkCheck as check
 use Rattle.model.specs.Schedulable.{Named, LinkMeets}
 use Rattle.model.specs.WithFlow.{together}
@@ -35,9 +35,25 @@ figureAt sums e = record { rate = getD sums (figureNumbers * e) 0; burst = getD 
 unfoldable pub levelFigures : (sums : List ℕ) (link : ℕ) → List Aggregate
 levelFigures sums link = upTo levelsMost (λ p. figureAt sums (entryAt link p))
 
--- The levels of the link of queue `e`, with a flow counted in there by its share.
-unfoldable pub levelsWith : (sums : List ℕ) (e : ℕ) (share : Aggregate) → List Aggregate
-levelsWith sums e share = set (levelFigures sums (linkIn e)) (levelIn e) (together (figureAt sums e) share)
+-- The levels of the link of queue `e`, with the figures `own` there.
+unfoldable pub levelsWith : (sums : List ℕ) (e : ℕ) (own : Aggregate) → List Aggregate
+levelsWith sums e own = set (levelFigures sums (linkIn e)) (levelIn e) own
+
+-- The figures of queue `e` with a flow counted in, where S over its hops before is `sum`.
+abbrev pub countedAt : (share : Aggregate) (sums : List ℕ) (e sum : ℕ) → Aggregate
+countedAt share sums e sum = together (figureAt sums e) (grown share sum)
+
+-- Figures with a flow counted by `share` in place of `was`. The largest frame stays.
+unfoldable pub replaced : (own was share : Aggregate) → Aggregate
+replaced own was share = record { rate = own .rate - was .rate + share .rate; burst = own .burst - was .burst + share .burst; frame = own .frame }
+
+-- Those of queue `e`, as in `countedAt`.
+abbrev pub changedAt : (was share : Aggregate) (sums : List ℕ) (e sum : ℕ) → Aggregate
+changedAt was share sums e sum = replaced (figureAt sums e) (grown was sum) (grown share sum)
+
+-- The figures of queue `e` are no less than the share of a flow there.
+abbrev pub RoomAt : (share : Aggregate) (sums : List ℕ) (e sum : ℕ) → Type 0
+RoomAt share sums e sum = (share .rate ≤ figureAt sums e .rate) × (grown share sum .burst ≤ figureAt sums e .burst)
 
 -- What the check of a link asks of its levels, with room for a best-effort frame of any 32 bits.
 abbrev pub Summable : List Aggregate → Type 0
@@ -64,6 +80,10 @@ growthAt table e = hopGrowth (thresholdAt table e) (speedAt table (linkIn e))
 abbrev pub ShareBounded : Aggregate → Type 0
 ShareBounded a = (a .rate ≤ 10000000) × (a .burst ≤ 2 ^ 31) × (a .frame ≤ 1542)
 
+-- Figures with one flow more are at most this, where they were `Bounded`.
+abbrev pub LevelBounded : Aggregate → Type 0
+LevelBounded a = (a .rate ≤ 20000000) × (a .burst ≤ 2 ^ 33) × (a .frame ≤ 1542)
+
 -- Hop entries within the table's array, each of which adds no more to S than a threshold in its range.
 pub record Hops (table entries : List ℕ) : Type 0 where
   pub table-long : length table ≡ tableNumbers
@@ -89,6 +109,13 @@ pub record PathCounted (share : Aggregate) (table entries sums : List ℕ) : Typ
   pub named : AllQueues table entries
   pub is : FlowOf share entries f
   pub figures : Figures (tableOf table) (f ∷ fs) sums
+
+-- The figures hold the flow by its new share, with the largest frame it had.
+pub record PathChanged (was share : Aggregate) (table entries sums sums′ : List ℕ) : Type 0 where
+  pub long : length sums′ ≡ sumNumbers
+  pub same : (f g : Flow) (fs : List Flow) → AllQueues table entries → FlowOf was entries f → FlowOf share entries g → was .frame ≡ share .frame
+      → Figures (tableOf table) (f ∷ fs) sums
+      → Figures (tableOf table) (g ∷ fs) sums′
 
 -- A queue whose rate sum is 0 has no largest frame.
 abbrev pub Carried : Table → List Flow → Type 0
@@ -164,9 +191,9 @@ pub record OnTable (table entries : List ℕ) : Type 0 where
 abbrev pub findingAt : (table : List ℕ) (link : ℕ) (levels : List Aggregate) → check.Finding
 findingAt table link = check.linkFinding (speedAt table link) (bestEffortAt table link) (upTo levelsMost (queueAt table link))
 
--- What the check of the link of queue `e` finds with a flow counted in there by its share.
-abbrev pub causeWith : (table sums : List ℕ) (e : ℕ) (share : Aggregate) → Option Cause
-causeWith table sums e share = linkCause (linkIn e + 1) (findingAt table (linkIn e) (levelsWith sums e share))
+-- What the check of the link of queue `e` finds with the figures `own` there.
+abbrev pub causeWith : (table sums : List ℕ) (e : ℕ) (own : Aggregate) → Option Cause
+causeWith table sums e own = linkCause (linkIn e + 1) (findingAt table (linkIn e) (levelsWith sums e own))
 
 -- The first of 21 to 23 along the path with the flow beside the others, which are on queues of the table. Free where a link is met twice or a queue
 -- that the table lacks has figures.
@@ -175,6 +202,14 @@ pub record PathChecked (share : Aggregate) (table sums entries : List ℕ) (r : 
       → Figures (tableOf table) fs sums
       → All (λ g. All (Named (tableOf table)) (g .path)) fs
       → findingOf r ≡ firstCause (linkFindings (tableOf table) (f ∷ fs) (f .path))
+
+-- The same with the flow `g` in place of the flow `f` that the figures hold. Free where the two have another path or largest frame too.
+pub record ChangeChecked (was share : Aggregate) (table sums entries : List ℕ) (r : Finding) : Type 0 where
+  pub first : (fs : List Flow) (f g : Flow) → WellFormed table → OnTable table entries → FlowOf was entries f → FlowOf share entries g
+      → was .frame ≡ share .frame
+      → Figures (tableOf table) (f ∷ fs) sums
+      → All (λ h. All (Named (tableOf table)) (h .path)) fs
+      → findingOf r ≡ firstCause (linkFindings (tableOf table) (g ∷ fs) (g .path))
 
 -- What the check of the eight levels of a link finds with these figures: the code of 21 to 23, or 0.
 abbrev pub codeAt : (table sums : List ℕ) (link : ℕ) → ℕ

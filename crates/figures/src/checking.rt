@@ -1,5 +1,5 @@
-// The check of links (document 01, codes 21 to 23): those of a path with its flow counted in, and all of a table with the
-// figures as they are.
+// The check of links (document 01, codes 21 to 23): those of a path with its flow counted in or by another share, and all of
+// a table with the figures as they are.
 ghost use mathlib.Core.Path.{_≡_};
 ghost use Prim.Native.Nat.{_+_, _≤_, _<_};
 ghost use lib.ListN.{length};
@@ -10,10 +10,10 @@ ghost use Rattle.units.specs.View.{aggregateOf, AtSource};
 ghost use Rattle.queue_table.specs.View.{upTo, tableNumbers, linkIn, speedAt, queueAt, WellFormed};
 ghost use Rattle.causes.specs.View.{findingOf};
 ghost use Rattle.link_check.specs.View.{aggregatesOf, queuesOf};
-ghost use Rattle.figures.specs.View.{Summable, ShareBounded, Hops, Bounded, Speeds, findingAt, causeWith, PathChecked, codeAt, LinkSpeeds, LinksMet};
-use crate::figure;
+ghost use Rattle.figures.specs.View.{Summable, LevelBounded, Hops, Bounded, Speeds, OnTable, PathCounted, findingAt, causeWith, PathChecked, ChangeChecked, codeAt, LinkSpeeds, LinksMet};
 use crate::link_levels;
-use crate::shares::share_at;
+use crate::shares::changed_at;
+use crate::shares::counted_at;
 use causes::Finding;
 use link_check::check_link;
 use queue_table::LEVELS;
@@ -64,17 +64,16 @@ fn find_on(link: usize, levels: [Aggregate; LEVELS], table: &[u32]) -> Finding
     checked.finding
 }
 
-// The check of the link of queue e, with a flow counted in there.
-fn check_hop(e: usize, share: Aggregate, table: &[u32], sums: &[u64]) -> Finding
+// The check of the link of queue e, with these figures there.
+fn check_hop(e: usize, own: Aggregate, table: &[u32], sums: &[u64]) -> Finding
     requires { ⌜ (e < queuesMost) × ((length (now table) ≡ tableNumbers) × Bounded (now sums)) ⌝ }
     requires { ⌜ speedAt (now table) (linkIn e) ≤ 10000 ⌝ }
-    requires { ⌜ ShareBounded (aggregateOf share) ⌝ }
-    ensures { λ r. ⌜ findingOf r ≡ causeWith (now (table .entry)) (now (sums .entry)) e (aggregateOf share) ⌝ }
+    requires { ⌜ LevelBounded (aggregateOf own) ⌝ }
+    ensures { λ r. ⌜ findingOf r ≡ causeWith (now (table .entry)) (now (sums .entry)) e (aggregateOf own) ⌝ }
 {
     let link = link_of(e);
     let mut levels = link_levels(link, sums);
-    let own = figure(e, sums);
-    levels[level_of(e)] = own.with_flow(share);
+    levels[level_of(e)] = own;
     find_on(link, levels, table)
 }
 
@@ -91,8 +90,37 @@ pub fn check_links(share: Aggregate, table: &[u32], sums: &[u64], entries: &[u32
     let mut i = 0;
     while i < entries.len() {
         let e = entries[i] as usize;
-        let there = share_at(share, sum, e, table);
-        let found = check_hop(e, there.share, table, sums);
+        let there = counted_at(share, sum, e, table, sums);
+        let found = check_hop(e, there.own, table, sums);
+        let Finding::Nothing = found else {
+            return found;
+        };
+        sum = there.past;
+        i += 1;
+    }
+    Finding::Nothing
+}
+
+// The same with a flow that the figures hold: it is counted by `share` in place of `was`, whose largest frame it keeps.
+pub fn check_change(
+    was: Aggregate,
+    share: Aggregate,
+    table: &[u32],
+    sums: &[u64],
+    entries: &[u32],
+) -> Finding
+    requires { ⌜ AtSource (aggregateOf was) × AtSource (aggregateOf share) ⌝ }
+    requires { ⌜ Hops (now table) (now entries) ⌝ }
+    requires { ⌜ Speeds (now table) (now entries) × Bounded (now sums) ⌝ }
+    requires { ⌜ OnTable (now table) (now entries) × PathCounted (aggregateOf was) (now table) (now entries) (now sums) ⌝ }
+    ensures { λ r. ⌜ ChangeChecked (aggregateOf was) (aggregateOf share) (now (table .entry)) (now (sums .entry)) (now (entries .entry)) r ⌝ }
+{
+    let mut sum = Micros(0);
+    let mut i = 0;
+    while i < entries.len() {
+        let e = entries[i] as usize;
+        let there = changed_at(was, share, sum, e, table, sums);
+        let found = check_hop(e, there.own, table, sums);
         let Finding::Nothing = found else {
             return found;
         };

@@ -1,4 +1,4 @@
-// A flow counted in at each queue of its path and taken out there, and largest frames raised again.
+// A flow counted in at each queue of its path, counted there by another share and taken out, and largest frames raised again.
 ghost use mathlib.Core.Path.{_≡_};
 ghost use mathlib.Core.Bool.{false};
 ghost use Prim.Native.Nat.{_+_, _*_, _^_, _≤_, _<_};
@@ -7,8 +7,9 @@ ghost use Rattle.model.specs.Words.{All};
 ghost use Rattle.model.specs.Sizes.{queuesMost};
 ghost use Rattle.model.specs.WithFlow.{together};
 ghost use Rattle.units.specs.View.{aggregateOf, AtSource};
-ghost use Rattle.figures.specs.View.{figureNumbers, sumNumbers, figureAt, Below, ShareBounded, figureStored, Hops, PathAdded, PathCounted, HopRemoved, PathRemoved, FrameRaised};
+ghost use Rattle.figures.specs.View.{figureNumbers, sumNumbers, figureAt, Below, ShareBounded, figureStored, Hops, PathAdded, PathCounted, PathChanged, HopRemoved, PathRemoved, FrameRaised};
 use crate::FIGURE_NUMBERS;
+use crate::shares::changed_at;
 use crate::shares::share_at;
 use units::Aggregate;
 use units::Bytes;
@@ -45,6 +46,40 @@ pub fn add_path(share: Aggregate, table: &[u32], entries: &[u32], sums: &mut [u6
         let e = entries[i] as usize;
         let there = share_at(share, sum, e, table);
         add_hop(e, there.share, sums);
+        sum = there.past;
+        i += 1;
+    }
+}
+
+// Stores the figures of queue e.
+fn store_hop(e: usize, own: Aggregate, sums: &mut [u64])
+    requires { ⌜ (e < queuesMost) × (length (now sums) ≡ sumNumbers) ⌝ }
+    ensures { λ _. ⌜ now (sums .exit) ≡ figureStored (now (sums .entry)) e (aggregateOf own) ⌝ }
+{
+    sums[FIGURE_NUMBERS * e] = own.rate.0;
+    sums[FIGURE_NUMBERS * e + 1] = own.burst.0;
+    sums[FIGURE_NUMBERS * e + 2] = own.frame.0;
+}
+
+// Counts a flow by `share` in place of `was` at each queue of its path. Largest frames stay.
+pub fn change_path(
+    was: Aggregate,
+    share: Aggregate,
+    table: &[u32],
+    entries: &[u32],
+    sums: &mut [u64],
+)
+    requires { ⌜ AtSource (aggregateOf was) × AtSource (aggregateOf share) ⌝ }
+    requires { ⌜ Hops (now table) (now entries) ⌝ }
+    requires { ⌜ Below (2 ^ 62) (now sums) × PathCounted (aggregateOf was) (now table) (now entries) (now sums) ⌝ }
+    ensures { λ _. ⌜ PathChanged (aggregateOf was) (aggregateOf share) (now (table .entry)) (now (entries .entry)) (now (sums .entry)) (now (sums .exit)) ⌝ }
+{
+    let mut sum = Micros(0);
+    let mut i = 0;
+    while i < entries.len() {
+        let e = entries[i] as usize;
+        let there = changed_at(was, share, sum, e, table, &sums[..]);
+        store_hop(e, there.own, sums);
         sum = there.past;
         i += 1;
     }

@@ -1,6 +1,6 @@
 // The figures of the queues (document 01, "The book"), in one array, and how they are read. `shares` says what a flow adds
-// at each hop, `counting` holds what a path adds to the figures and takes out, `checking` the check of each link on a path
-// with its flow counted in, and of every link.
+// at each hop, `counting` holds what a path adds to the figures, changes and takes out, `checking` the check of each link on
+// a path with its flow counted in, and of every link.
 //
 // A hop entry names a queue as in `queue_table`. Queue e has its rate sum, burst sum and largest frame one after the
 // other in `sums`; only this crate indexes that array. Why nothing overflows is said in `units`.
@@ -17,9 +17,11 @@ ghost use Rattle.model.specs.Sizes.{linksMost, queuesMost};
 ghost use Rattle.units.specs.View.{aggregateOf};
 ghost use Rattle.link_check.specs.View.{aggregatesOf};
 ghost use Rattle.figures.specs.View.{sumNumbers, figureAt, levelFigures, Below, Bounded};
+pub use checking::check_change;
 pub use checking::check_links;
 pub use checking::links_meet;
 pub use counting::add_path;
+pub use counting::change_path;
 pub use counting::raise_path;
 pub use counting::remove_path;
 use queue_table::LEVELS;

@@ -1,4 +1,4 @@
--- `figures::checking::check_hop` meets its contract: the loaded levels with the flow stored at its own are those of the definition.
+-- `figures::checking::check_hop` meets its contract: the loaded levels with the given figures stored at the queue's own are those of the definition.
 -- Assumes nothing.
 use borrow.Author.Needs.{needs}
 use Prim.Native.Nat.{ℕ, _+_, _<_}
@@ -27,55 +27,39 @@ module _ (c : tie.After-link-of) where
   inside : link < linksMost
   inside = let start = c .before .before .before in omega (arith, c .link-of .ensures, start .pre .0 .0, div-add-mod (start .args .e) levelsMost)
 
-counted : (c : tie.After-level-of) → let args = c .before .before .before .before .before .before .before .args in
-    aggregatesOf (set (c .before .before .before .link-levels .result) (c .level-of .result) (c .before .with-flow .result))
-    ≡ levelsWith (args .sums .now) (args .e) (aggregateOf (args .share))
+put : (c : tie.After-level-of) → let args = c .before .before .before .before .before .args in
+    aggregatesOf (set (c .before .link-levels .result) (c .level-of .result) (args .own)) ≡ levelsWith (args .sums .now) (args .e) (aggregateOf (args .own))
 unfolding levelsWith
-counted c =
-    let args = c .before .before .before .before .before .before .before .args in
+put c =
+    let args = c .before .before .before .before .before .args in
     let sums = args .sums .now in
-    let share = aggregateOf (args .share) in
-    map-set aggregateOf (c .before .before .before .link-levels .result) (c .level-of .result) (c .before .with-flow .result)
-    ∙ ap₂ (λ (l : List model.Aggregate) (a : model.Aggregate). set l (c .level-of .result) a)
-    (c .before .before .before .link-levels .ensures ∙ ap (levelFigures sums) (c .before .before .before .before .link-of .ensures))
-    (c .before .with-flow .ensures ∙ ap (λ (a : model.Aggregate). together a share) (c .before .before .figure .ensures))
-    ∙ ap (λ (k : ℕ). set (levelFigures sums (linkIn (args .e))) k (together (figureAt sums (args .e)) share)) (c .level-of .ensures .0)
+    map-set aggregateOf (c .before .link-levels .result) (c .level-of .result) (args .own)
+    ∙ ap₂ (λ (l : List model.Aggregate) (k : ℕ). set l k (aggregateOf (args .own)))
+    (c .before .link-levels .ensures ∙ ap (levelFigures sums) (c .before .before .link-of .ensures))
+    (c .level-of .ensures .0)
 
 link-levels-requires : tie.Need-link-levels-requires
 link-levels-requires c κs = (inside c, c .before .before .before .pre .0 .1 .1 .long)
 
-with-flow-requires : tie.Need-with-flow-requires
-with-flow-requires c κs =
-    let start = c .before .before .before .before .before in
-    let bounded = start .pre .0 .1 .1 in
-    omega (
-      arith,
-      ap (λ (a : model.Aggregate). a .rate) (c .figure .ensures),
-      ap (λ (a : model.Aggregate). a .burst) (c .figure .ensures),
-      bounded .rates (start .args .e) (start .pre .0 .0),
-      bounded .bursts (start .args .e) (start .pre .0 .0),
-      start .pre .1 .1,
-    )
-
 find-on-requires : tie.Need-find-on-requires
 find-on-requires c κs =
-    let start = c .before .before .before .before .before .before .before in (
-      (inside (c .before .before .before .before), start .pre .0 .1 .0),
+    let start = c .before .before .before .before .before in (
+      (inside (c .before .before), start .pre .0 .1 .0),
       (
-        rw (c .before .before .before .before .link-of .ensures) (start .pre .1 .0),
-        rw (counted c) (summable (start .args .sums .now) (start .pre .0 .1 .1) (start .args .e) (start .pre .0 .0) (aggregateOf (start .args .share)) (start .pre .1 .1)),
+        rw (c .before .before .link-of .ensures) (start .pre .1 .0),
+        rw (put c) (summable (start .args .sums .now) (start .pre .0 .1 .1) (start .args .e) (start .pre .0 .0) (aggregateOf (start .args .own)) (start .pre .1 .1)),
       ),
     )
 
 returns : tie.Need-returns
 returns c =
-    let args = c .before .before .before .before .before .before .before .before .args in
+    let args = c .before .before .before .before .before .before .args in
     let table = args .table .now in
-    let at = c .before .before .before .before .before in
+    let at = c .before .before .before in
     c .find-on .ensures
-    ∙ ap (λ (l : List model.Aggregate). linkCause (link at + 1) (findingAt table (link at) l)) (counted (c .before))
-    ∙ ap (λ (k : ℕ). linkCause (k + 1) (findingAt table k (levelsWith (args .sums .now) (args .e) (aggregateOf (args .share)))))
+    ∙ ap (λ (l : List model.Aggregate). linkCause (link at + 1) (findingAt table (link at) l)) (put (c .before))
+    ∙ ap (λ (k : ℕ). linkCause (k + 1) (findingAt table k (levelsWith (args .sums .now) (args .e) (aggregateOf (args .own)))))
     (at .link-of .ensures)
 
 pub check-hop-spec : {M : Type 1} → statement M
-check-hop-spec = tie.close (tie.spec (λ c κs. search needs) link-levels-requires (λ c κs. search needs) with-flow-requires (λ c κs. search needs) (λ c. search needs) (λ c. search needs) find-on-requires returns)
+check-hop-spec = tie.close (tie.spec (λ c κs. search needs) link-levels-requires (λ c κs. search needs) (λ c. search needs) (λ c. search needs) find-on-requires returns)
