@@ -6,7 +6,7 @@ use mathlib.Core.Bool.{true, false, _&&_}
 use mathlib.Core.List.{List, [], _∷_, map}
 use mathlib.Core.Option.{Option, none, some}
 use native.Mathlib.Omega.{arith}
-use lib.ListN.{length, getD, set}
+use lib.ListN.{length, getD, set, List·getD-eq-default}
 use lib.Dec.{ltb}
 use borrow.Author.Tests.{lt-ltb, le-ltb}
 use Rattle.model.specs.Words.{All}
@@ -34,6 +34,7 @@ use Rattle.orders.specs.View.{changeOf}
 use Rattle.flow_store.specs.View.{Store, slotsOf, frameAt, shareAt, flowAt, countAt, entriesIn, flowIn, ChangeNarrow}
 use Rattle.causes.specs.declared.Finding.{Finding}
 use Rattle.causes.specs.View.{findingOf}
+use Rattle.flow_store.proofs.ViewLaws.{length-slots}
 use Rattle.figures.specs.View.{Figures, FlowOf, OnTable, ChangeChecked, PathChanged}
 use Rattle.admission.specs.declared.Answer.the-variants.{Done}
 use Rattle.admission.specs.View.{stateOf, answerOf, Kept, Stepped}
@@ -48,6 +49,14 @@ narrow given e =
     let (first, burst) = and-both (numberInRange (given .number) && rateInRange (given .rate .0)) _ e in
     let (number, rate) = and-both (numberInRange (given .number)) _ first in
     record { rate = between-true 1 10000000 (given .rate .0) rate .1; burst = between-true 84 1000000 (given .burst .0) burst .1 }
+
+-- 13: no slot holds the number.
+pub not-held : (table slots pool : List ℕ) (c : line.Change) {slot : ℕ} → slot ≡ indexOf (c .number) (slotsOf slots pool) → slot ≡ slotCount
+    → firstCause (findings (stateOf table slots pool) (change c)) ≡ some (record { code = 13; link = 0; level = 0 })
+unfolding findings changeFindings firstCause whole
+not-held table slots pool c at end =
+    ap (λ x. firstCause (changeFindings (stateOf table slots pool) c x))
+    (List·getD-eq-default (slotsOf slots pool) none (omega (arith, length-slots slots pool, at, end)))
 
 -- The flow with the number is in this slot.
 module _ (table slots pool sums : List ℕ) (k : Kept table slots pool sums) (given : Change) (slot : ℕ) (at : slot ≡ indexOf (given .number) (slotsOf slots pool))
@@ -111,18 +120,18 @@ module _ (table slots pool sums : List ℕ) (k : Kept table slots pool sums) (gi
   unfolding firstCause whole
   over-burst lt = ap firstCause against ∙ rw (lt-ltb (given .burst .0) (frameAt slots slot) lt)
 
-  past-burst : (given .burst .0 < frameAt slots slot → ⊥) → firstCause (findings s (change c)) ≡ firstCause (links slot)
+  past-burst : frameAt slots slot ≤ given .burst .0 → firstCause (findings s (change c)) ≡ firstCause (links slot)
   unfolding firstCause whole
-  past-burst ge = ap firstCause against ∙ rw (le-ltb (given .burst .0) (frameAt slots slot) (omega (arith, ge)))
+  past-burst le = ap firstCause against ∙ rw (le-ltb (given .burst .0) (frameAt slots slot) le)
 
   -- What the check of the links found.
-  pub checked : (given .burst .0 < frameAt slots slot → ⊥) → {r : Finding} → ChangeChecked (shareAt slots slot) share table sums entries r
+  pub checked : frameAt slots slot ≤ given .burst .0 → {r : Finding} → ChangeChecked (shareAt slots slot) share table sums entries r
       → findingOf r ≡ firstCause (findings s (change c))
   unfolding flowAt changed
-  checked ge found-at =
+  checked le found-at =
       found-at .first others flow (changed c flow) (k .formed) on-table (held.is table slots pool sums k slot inside count) is-changed refl
       (held.with-flow table slots pool sums k slot inside count) others-named
-      ∙ sym (past-burst ge)
+      ∙ sym (past-burst le)
 
   module _ (range : changeInRange c ≡ true) where
     pub at-source : AtSource share
@@ -144,7 +153,7 @@ module _ (table slots pool sums : List ℕ) (k : Kept table slots pool sums) (gi
         done = ap (decide s (change c)) nothing
 
         answer : answerOf (Done (slot + 1)) ≡ apply s (change c) .answer
-        answer = ap (λ (i : ℕ). answerOf (Done (i + 1))) at ∙ filled s _ _ ∙ sym (ap (λ (out : Outcome). out .answer) done)
+        answer = ap (λ (i : ℕ). answerOf (Done (i + 1))) at ∙ filled s (indexOf (given .number) (slotsOf slots pool)) (changedSlot c (slotWith (given .number) (slotsOf slots pool))) ∙ sym (ap (λ (out : Outcome). out .answer) done)
 
         next : stateOf table slots′ pool ≡ apply s (change c) .next
         next =
@@ -158,7 +167,7 @@ module _ (table slots pool sums : List ℕ) (k : Kept table slots pool sums) (gi
         figures : Figures t (heldFlows (slotsOf slots′ pool)) sums′
         figures =
             let now =
-            moved .same flow (changed c flow) others on-table (held.is table slots pool sums k slot inside count) is-changed refl
+            moved .same flow (changed c flow) others (on-table .named) (held.is table slots pool sums k slot inside count) is-changed refl
             (held.with-flow table slots pool sums k slot inside count) in
             let seen : slotsOf slots′ pool ≡ set (slotsOf slots pool) slot (some (changed c flow)) =
             view ∙ ap (λ x. set (slotsOf slots pool) slot (changedSlot c x)) found in
