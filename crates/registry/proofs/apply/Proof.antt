@@ -20,5 +20,8 @@ returns c = own-kind (c .before .before .before .before) _ _ (c .before .enum-to
 returns-2 : tie.Need-returns-2
 returns-2 c = own-kind (c .before .before .before .before) _ _ (c .before .enum-told2 .given .1) (c .release .ensures)
 
+returns-3 : tie.Need-returns-3
+returns-3 c = own-kind (c .before .before .before .before) _ _ (c .before .enum-told3 .given .1) (c .change .ensures)
+
 pub apply-spec : {M : Type 1} → statement M
-apply-spec = tie.close (tie.spec (λ c. search needs) (λ c κs. search needs) (λ c. search needs) (λ c κs. search needs) returns returns-2)
+apply-spec = tie.close (tie.spec (λ c. search needs) (λ c κs. search needs) (λ c. search needs) (λ c κs. search needs) (λ c. search needs) (λ c κs. search needs) returns returns-2 returns-3)

@@ -183,46 +183,51 @@ module _ {M : Type 1} (𝓤 : URA M) (H : Heap 𝓤) (A : Atoms 𝓤) (W : Given
         both : Is Ca.the-row r (cv r ∷ [])
         both = LL.owes Ca.the-type Ca′.the-laws r (spelled, (left, tt))
 
-    module _ (fm : FmC 𝓤 H (W .laws) C) (known-register : Triple 𝓤 (C #register) (Stores registering 𝓤 H A)) (known-release : Triple 𝓤 (C #release) (Stores releasing 𝓤 H A)) where
+    module _ (fm : FmC 𝓤 H (W .laws) C) (known-register : Triple 𝓤 (C #register) (Stores registering 𝓤 H A)) (known-release : Triple 𝓤 (C #release) (Stores releasing 𝓤 H A)) (known-change : Triple 𝓤 (C #change) (Stores changing 𝓤 H A)) where
       -- the switch, by cases on the kind: the tag is then a numeral, and what is left computes to the arm that runs
       matched : (k : Kind) → Is Ki.the-row k (kv k ∷ []) → Sq W (Around k h) (runs C Λ E chooses (Then k))
       matched Register chosen =
-          switches-on ! (load ! (from ! (vrt ! refl (fld ! refl (stop !)))) (look-tag ! 16 (whole !))) $ exec ! C Λ E (lends 7 #register) (Then Register) $
-          assigns ! (addr ! (from ! (stop !))) (from ! (stop !)) (init ! 7 refl (tt, tt)) $
-          lent-call registering #register 𝓤 H A W κ q l₄ h s C Λ fm known-register was (λ i j. and-then ! (load ! (from ! (stop !)) (look ! 7 refl)) (and-then ! (load ! (from ! (stop !)) (look ! 14 refl)) (no-more !)))
-          (λ r v e answered left. forget ! 7 refl $ answers Register chosen r v e answered left)
+          switches-on ! (load ! (from ! (vrt ! refl (fld ! refl (stop !)))) (look-tag ! 18 (whole !))) $ exec ! C Λ E (lends 7 #register) (Then Register) $
+          assigns ! (addr ! (from ! (stop !))) (from ! (stop !)) (init ! 9 refl (tt, tt)) $
+          lent-call registering #register 𝓤 H A W κ q l₄ h s C Λ fm known-register was (λ i j. and-then ! (load ! (from ! (stop !)) (look ! 9 refl)) (and-then ! (load ! (from ! (stop !)) (look ! 16 refl)) (no-more !)))
+          (λ r v e answered left. forget ! 9 refl $ answers Register chosen r v e answered left)
       matched Release chosen =
-          switches-on ! (load ! (from ! (vrt ! refl (fld ! refl (stop !)))) (look-tag ! 16 (whole !))) $ exec ! C Λ E (lends 8 #release) (Then Release) $
+          switches-on ! (load ! (from ! (vrt ! refl (fld ! refl (stop !)))) (look-tag ! 18 (whole !))) $ exec ! C Λ E (lends 8 #release) (Then Release) $
+          assigns ! (addr ! (from ! (stop !))) (from ! (stop !)) (init ! 7 refl (tt, tt)) $
+          lent-call releasing #release 𝓤 H A W κ q l₄ h s C Λ fm known-release was (λ i j. and-then ! (load ! (from ! (stop !)) (look ! 7 refl)) (and-then ! (load ! (from ! (stop !)) (look ! 16 refl)) (no-more !)))
+          (λ r v e answered left. forget ! 7 refl $ answers Release chosen r v e answered left)
+      matched Change chosen =
+          switches-on ! (load ! (from ! (vrt ! refl (fld ! refl (stop !)))) (look-tag ! 18 (whole !))) $ exec ! C Λ E (lends 9 #change) (Then Change) $
           assigns ! (addr ! (from ! (stop !))) (from ! (stop !)) (init ! 5 refl (tt, tt)) $
-          lent-call releasing #release 𝓤 H A W κ q l₄ h s C Λ fm known-release was (λ i j. and-then ! (load ! (from ! (stop !)) (look ! 5 refl)) (and-then ! (load ! (from ! (stop !)) (look ! 14 refl)) (no-more !)))
-          (λ r v e answered left. forget ! 5 refl $ answers Release chosen r v e answered left)
+          lent-call changing #change 𝓤 H A W κ q l₄ h s C Λ fm known-change was (λ i j. and-then ! (load ! (from ! (stop !)) (look ! 5 refl)) (and-then ! (load ! (from ! (stop !)) (look ! 16 refl)) (no-more !)))
+          (λ r v e answered left. forget ! 5 refl $ answers Change chosen r v e answered left)
 
-  module _ (C : Calls 𝓤 H) (Λ : Loops 𝓤 H) (fm : FmC 𝓤 H (W .laws) C) (known-register : Triple 𝓤 (C #register) (Stores registering 𝓤 H A)) (known-release : Triple 𝓤 (C #release) (Stores releasing 𝓤 H A)) where
+  module _ (C : Calls 𝓤 H) (Λ : Loops 𝓤 H) (fm : FmC 𝓤 H (W .laws) C) (known-register : Triple 𝓤 (C #register) (Stores registering 𝓤 H A)) (known-release : Triple 𝓤 (C #release) (Stores releasing 𝓤 H A)) (known-change : Triple 𝓤 (C #change) (Stores changing 𝓤 H A)) where
     walk : (k : Kind) → Is Ki.the-row k (kv k ∷ []) → Is (ShrSlice (named 0) κ u8) s (sv ∷ []) → ent 𝓤 (onEntry 𝓤 H A apply.signature (κ, tt) (q, tt) (h, (k, (s, tt))) (at k)) (WpFn 𝓤 H C Λ function (rv h ∷ kv k ∷ sv ∷ []) (Post k))
     walk k chosen p =
         qed W (Token ∷ ‵ (owns (Re.the-row ∷ Ki.the-row ∷ ShrSlice (named 0) κ u8 ∷ []) (h, (k, (s, tt))) (at k)) ∷ []) ∵ enter ! C Λ function (rv h ∷ kv k ∷ sv ∷ []) _ $
-        alloc1 ! (λ l₀. alloc1 ! (λ l₁. alloc1 ! (λ l₂. alloc1 ! (λ l₃. alloc1 ! (λ l₄. alloc1 ! (λ l₅. alloc1 ! (λ l₆. alloc1 ! (λ l₇. alloc1 ! (λ l₈. alloc1 ! (λ l₉. alloc0 ! $ params1 ! $
-        pass1 ! (init ! 16 refl (LL.lawful Re.the-type Re′.the-laws 𝓤 H A W .typed h _ was .0)) $ pass1 ! (init ! 14 refl (EL.lawful Ki.the-type Ki′.the-laws 𝓤 H A W tt .typed k _ chosen .0)) $
-        pass1 ! (init ! 12 refl (shr-slice-lawful 𝓤 H A W (named 0) κ u8 .typed s (sv ∷ []) p .0)) $ pass0 ! $
+        alloc1 ! (λ l₀. alloc1 ! (λ l₁. alloc1 ! (λ l₂. alloc1 ! (λ l₃. alloc1 ! (λ l₄. alloc1 ! (λ l₅. alloc1 ! (λ l₆. alloc1 ! (λ l₇. alloc1 ! (λ l₈. alloc1 ! (λ l₉. alloc1 ! (λ l₁₀. alloc0 ! $ params1 ! $
+        pass1 ! (init ! 18 refl (LL.lawful Re.the-type Re′.the-laws 𝓤 H A W .typed h _ was .0)) $ pass1 ! (init ! 16 refl (EL.lawful Ki.the-type Ki′.the-laws 𝓤 H A W tt .typed k _ chosen .0)) $
+        pass1 ! (init ! 14 refl (shr-slice-lawful 𝓤 H A W (named 0) κ u8 .typed s (sv ∷ []) p .0)) $ pass0 ! $
         -- of what the parameters own, what the bytes own is kept
-        move ! (21 ∷ []) $ fsplit ! $ drop ! $ fsplit ! $ drop ! $ fsplit ! $ move ! (1 ∷ []) $ drop ! $
+        move ! (23 ∷ []) $ fsplit ! $ drop ! $ fsplit ! $ drop ! $ fsplit ! $ move ! (1 ∷ []) $ drop ! $
         -- [what the bytes own; the locals, the last first; the token]
-        assigns ! (of-opd ! (load ! (from ! (stop !)) (look ! 17 refl))) (from ! (stop !)) (init ! 11 refl (LL.lawful Re.the-type Re′.the-laws 𝓤 H A W .typed h _ was .0)) $
-        move ! (11 ∷ 21 ∷ 0 ∷ []) $ first ! $ matched C Λ l₀ l₁ l₂ l₃ l₄ l₅ l₆ l₇ l₈ l₉ fm known-register known-release k chosen))))))))))
+        assigns ! (of-opd ! (load ! (from ! (stop !)) (look ! 19 refl))) (from ! (stop !)) (init ! 13 refl (LL.lawful Re.the-type Re′.the-laws 𝓤 H A W .typed h _ was .0)) $
+        move ! (13 ∷ 23 ∷ 0 ∷ []) $ first ! $ matched C Λ l₀ l₁ l₂ l₃ l₄ l₅ l₆ l₇ l₈ l₉ l₁₀ fm known-register known-release known-change k chosen)))))))))))
 
 module _ {M : Type 1} (𝓤 : URA M) (H : Heap 𝓤) (A : Atoms 𝓤) (W : Given 𝓤 H A) (at-mem : Memory → SProp 𝓤) (run : Routine → Fun 𝓤) where
-  apply-walks : (C : Calls 𝓤 H) (Λ : Loops 𝓤 H) → FmC 𝓤 H (W .laws) C → Triple 𝓤 (C #register) (Stores registering 𝓤 H A) → Triple 𝓤 (C #release) (Stores releasing 𝓤 H A)
+  apply-walks : (C : Calls 𝓤 H) (Λ : Loops 𝓤 H) → FmC 𝓤 H (W .laws) C → Triple 𝓤 (C #register) (Stores registering 𝓤 H A) → Triple 𝓤 (C #release) (Stores releasing 𝓤 H A) → Triple 𝓤 (C #change) (Stores changing 𝓤 H A)
       → Walks 𝓤 H A apply.ended stayed (WpFn 𝓤 H C Λ function) (apply.clauses 𝓤 H A at-mem run)
-  apply-walks C Λ fm known-register known-release = walked 𝓤 H A apply.ended stayed (apply.clauses 𝓤 H A at-mem run) (WpFn 𝓤 H C Λ function)
+  apply-walks C Λ fm known-register known-release known-change = walked 𝓤 H A apply.ended stayed (apply.clauses 𝓤 H A at-mem run) (WpFn 𝓤 H C Λ function)
       (λ κs. (LL.vals Re.the-type Re′.the-laws, (EL.vals Ki.the-type Ki′.the-laws, (slice-vals, tt)))) (λ κs. (LL.tells Re.the-type Re′.the-laws, (EL.tells Ki.the-type Ki′.the-laws, (shr-slice-tells (named 0) (κs .0) u8, tt))))
-      (λ κs qs bounds a _ are. via 𝓤 _ (fst∗ 𝓤 _ (emp 𝓤)) (walk 𝓤 H A W at-mem run (κs .0) (qs .0) (a .0) (a .1 .1 .0) (are .0) C Λ fm known-register known-release (a .1 .0) (are .1 .0) (are .1 .1 .0)))
+      (λ κs qs bounds a _ are. via 𝓤 _ (fst∗ 𝓤 _ (emp 𝓤)) (walk 𝓤 H A W at-mem run (κs .0) (qs .0) (a .0) (a .1 .1 .0) (are .0) C Λ fm known-register known-release known-change (a .1 .0) (are .1 .0) (are .1 .1 .0)))
 
 apply-meets : {M : Type 1} (𝓤 : URA M) (H : Heap 𝓤) (A : Atoms 𝓤) → Given 𝓤 H A → (at-mem : Memory → SProp 𝓤) (run : Routine → Fun 𝓤) (𝓣 : Tables 𝓤 H)
-    → Triple 𝓤 (𝓣 .C #register) (Stores registering 𝓤 H A) → Triple 𝓤 (𝓣 .C #release) (Stores releasing 𝓤 H A)
+    → Triple 𝓤 (𝓣 .C #register) (Stores registering 𝓤 H A) → Triple 𝓤 (𝓣 .C #release) (Stores releasing 𝓤 H A) → Triple 𝓤 (𝓣 .C #change) (Stores changing 𝓤 H A)
     → Meets 𝓤 H A apply.signature (WpFn 𝓤 H (𝓣 .C) (𝓣 .Λ) function) (apply.spec 𝓤 H A at-mem run)
-apply-meets 𝓤 H A W at-mem run 𝓣 known-register known-release =
+apply-meets 𝓤 H A W at-mem run 𝓣 known-register known-release known-change =
     walk-meets 𝓤 H A apply.ended stayed W (goes-none 𝓤 H A W 1 (λ _. Re.the-row) yes (λ κs x f. refl), (goes-none 𝓤 H A W 1 (λ _. Ki.the-row) yes (λ κs x f. refl), (goes-none-slice 𝓤 H A W 1 (0 ∷ []) tt (plain (λ _. u8)) yes, tt))) (apply.clauses 𝓤 H A at-mem run)
-    (WpFn 𝓤 H (𝓣 .C) (𝓣 .Λ) function) (WpFn-mono 𝓤 H (W .laws) 𝓣 function) (apply-walks 𝓤 H A W at-mem run (𝓣 .C) (𝓣 .Λ) (fmOf 𝓤 H (W .laws) 𝓣) known-register known-release)
+    (WpFn 𝓤 H (𝓣 .C) (𝓣 .Λ) function) (WpFn-mono 𝓤 H (W .laws) 𝓣 function) (apply-walks 𝓤 H A W at-mem run (𝓣 .C) (𝓣 .Λ) (fmOf 𝓤 H (W .laws) 𝓣) known-register known-release known-change)
 
 pub apply-spec : {M : Type 1} → stated.statement M
 unfolding code.routine tablesOf
@@ -231,4 +236,5 @@ apply-spec 𝓤 H 𝓜 𝓖 𝓡 =
     (tables 𝓤 H 𝓜 𝓡 code.env .C) (tables 𝓤 H 𝓜 𝓡 code.env .Λ) #apply code.function (code.unfolded 𝓤 H 𝓜 𝓡)
     (apply-meets 𝓤 H (𝓖 .A) (givenOf 𝓤 H 𝓜 𝓖) (𝓜 .mem) (𝓡 .run) (tablesOf 𝓤 H 𝓜 (tables 𝓤 H 𝓜 𝓡 code.env))
     (cited 𝓤 H (Stores registering 𝓤 H (𝓖 .A)) 𝓜 𝓡 code.env #register register-def.routine code.calls-registry-in-place·register (register-met.met 𝓤 H 𝓜 𝓖 𝓡))
-    (cited 𝓤 H (Stores releasing 𝓤 H (𝓖 .A)) 𝓜 𝓡 code.env #release release-def.routine code.calls-registry-in-place·release (release-met.met 𝓤 H 𝓜 𝓖 𝓡)))
+    (cited 𝓤 H (Stores releasing 𝓤 H (𝓖 .A)) 𝓜 𝓡 code.env #release release-def.routine code.calls-registry-in-place·release (release-met.met 𝓤 H 𝓜 𝓖 𝓡))
+    (cited 𝓤 H (Stores changing 𝓤 H (𝓖 .A)) 𝓜 𝓡 code.env #change change-def.routine code.calls-registry-in-place·change (change-met.met 𝓤 H 𝓜 𝓖 𝓡)))
