@@ -123,8 +123,12 @@ def read(number, rate, burst, frame, deadline, hops, link, level):
     return f"  0{number:6}{rate:9}{burst:8}{frame:5}{deadline:9}{hops:3}{link:5}{level:3}\n"
 
 
-def bare(code, number=0):
-    return f"{code:3}{number:6}        0       0    0        0  0    0  0\n"
+def bare(code, number=0, rate=0, burst=0):
+    return f"{code:3}{number:6}{rate:9}{burst:8}    0        0  0    0  0\n"
+
+
+def change(number, rate, burst):
+    return f" 3{number:6}{rate:9}{burst:8}\n"
 
 
 # (line, what is printed)
@@ -161,7 +165,21 @@ orders = [
     (" 2    07\n", bare(10)),
     (" 2     7\r\n", bare(10)),                                  # CR LF
     (" 2    \0" + "7\n", bare(10)),                              # a NUL byte
-    (" 3 whatever\n", bare(11)),                                 # another kind: the rest isn't read
+    (change(7, 1000, 1542), bare(0, 7, 1000, 1542)),
+    (change(65535, 10000000, 1000000), bare(0, 65535, 10000000, 1000000)),
+    (change(1, 1, 84), bare(0, 1, 1, 84)),
+    (change(0, 1000, 1542), bare(11)),
+    (change(65536, 1000, 1542), bare(11)),
+    (change(7, 0, 1542), bare(11)),
+    (change(7, 10000001, 1542), bare(11)),
+    (change(7, 1000, 83), bare(11)),
+    (change(7, 1000, 1000001), bare(11)),
+    (change(7, 1000, 1542)[:-2] + "\n", bare(10)),               # 24 columns
+    (change(7, 1000, 1542)[:-1] + " \n", bare(10)),              # 26
+    (change(0, 1000, "x"), bare(10)),                            # 10 before 11
+    (" 3" + reg()[2:], bare(10)),                                # a change ends after its burst
+    (" 3\n", bare(10)),
+    (" 4 whatever\n", bare(11)),                                 # another kind: the rest isn't read
     (" 0\n", bare(11)),
     ("99\n", bare(11)),
     ("01     7\n", bare(10)),
@@ -234,6 +252,11 @@ def on(number, c, hops):
 def gone(number):
     """A release, handed to `release`."""
     return f"r 2{number:6}\n"
+
+
+def changed(number, rate, burst):
+    """A change, handed to `change`."""
+    return "c" + change(number, rate, burst)
 
 
 def damaged(*changes):
@@ -331,6 +354,33 @@ registries = [
         (reg(deadline=13113, hops=3, path=[(1, 1), (2, 1), (3, 1)]), said(0, 1)),
         *damaged((TABLE, link(2, 4), 8001, 8000)),               # one µs more of cable at the last hop
         put(TABLE, link(2, 4), 7999), (reg(), said(12)),         # one less: nothing wrong
+    ]),
+    (row(1, 1, 2, 448, 1, 6, 300) + row(2, 2, 3, 448, 1, 6, 172) + row(3, 3, 1, 448, 1, 6, 169), [       # changes
+        (reg(number=1, rate=1000, burst=168, frame=84, deadline=6, path=[(3, 1)]), said(0, 1)),
+        (reg(number=7, rate=1000, burst=168, frame=100, deadline=12, hops=2, path=[(1, 1), (2, 1)]), said(0, 2)),
+        (gone(1), said(0, 1)),
+        (changed(7, 4000, 168), said(0, 2)),                     # its own place, though place 1 is free
+        *damaged((SUMS, 0, 1000, 4000)),                         # the rate before
+        *damaged((SUMS, 25, 169, 170)),                          # the burst before at the later hop
+        *damaged((SLOTS, slot(1, 1), 1000, 4000)),
+        (changed(7, 5000, 168), said(23, 0, 2, 1)),              # 171 at the second link, and 2
+        (changed(7, 4000, 237), said(22, 0, 1, 1)),              # 8000 x (100 + 237) / 448000 is 7
+        (changed(7, 448000, 168), said(21, link=1)),
+        (changed(7, 4000, 99), said(17)),
+        (changed(1, 4000, 168), said(13)),
+        (changed(1, 4000, 99), said(13)),                        # 13 before 17
+        (changed(7, 0, 99), said(11)),
+        ("c 3     7     4000     168 \n", said(10)),
+        ("c" + reg(), said(11)),                                 # another call's kind
+        ("c 2     7\n", said(11)),
+        ("c\n", said(10)),
+        ("r" + change(7, 4000, 168), said(11)),
+        (change(7, 4000, 168), said(11)),
+        (changed(7, 1000, 100), said(0, 2)),
+        *damaged((SUMS, 25, 102, 101)),
+        (gone(7), said(0, 2)),
+        (changed(7, 4000, 168), said(13)),
+        ("c" + change(7, 4000, 168)[:-1], said(10)),             # the last line isn't ended
     ]),
     (one[:-1], [(reg(), said(14, 0, 1, 1))]),                    # a refused table: no queues
     (chains(5), [(on(k, k % 5, 12), said(0, k)) for k in range(1, 86)] + [       # 1,020 hop entries

@@ -26,13 +26,13 @@ fn show(code: u64, flow: orders::Flow, link: u32, level: u32) {
     io::write_all(STDOUT_FILENO, &out);
 }
 
-// A line with a code and a flow number only.
-fn bare(code: u64, number: u32) {
+// A line with a code, a flow number, a rate and a burst only.
+fn bare(code: u64, number: u32, rate: units::Rate, burst: units::Bytes) {
     let flow = orders::Flow {
         number,
         share: units::Aggregate {
-            rate: units::Rate(0),
-            burst: units::Bytes(0),
+            rate,
+            burst,
             frame: units::Bytes(0),
         },
         deadline: units::Micros(0),
@@ -43,7 +43,12 @@ fn bare(code: u64, number: u32) {
 
 fn refused(cause: Cause) {
     let numbers = causes::numbers_of(cause);
-    bare(columns::wide(numbers.code), 0);
+    bare(
+        columns::wide(numbers.code),
+        0,
+        units::Rate(0),
+        units::Bytes(0),
+    );
 }
 
 fn judge(line: &[u8]) {
@@ -63,7 +68,12 @@ fn judge(line: &[u8]) {
             let level = orders::hop_level(&hops, n - 1);
             show(0, flow, link, level);
         }
-        Order::Release(number) => bare(0, number),
+        Order::Release(number) => bare(0, number, units::Rate(0), units::Bytes(0)),
+        Order::Change(given) => {
+            let rate = given.rate;
+            let burst = given.burst;
+            bare(0, given.number, rate, burst);
+        }
         Order::Malformed => refused(Cause::Malformed),
         Order::OutOfRange => refused(Cause::OutOfRange),
     }

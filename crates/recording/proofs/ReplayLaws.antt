@@ -6,9 +6,9 @@ use mathlib.Core.Option.{Option, none, some}
 use native.Mathlib.Omega.{arith}
 use lib.ListN.{length, drop}
 use Rattle.model.specs.QueueTable.{Table, readTable, accepted}
-use Rattle.model.specs.Orders.{Order, register, release, rejected}
 use Rattle.model.specs.Reference as model
-use Rattle.model.specs.Reference.{State, Cause, Call, apply, decide, perform, refuse, fill, firstCause, findings, callOrder, step, opened, afterOrders, final}
+use Rattle.model.specs.Reference.{State, Call, callOrder, step, opened, afterOrders, final}
+use Rattle.model.specs.Laws.Reference.{same-table}
 use Rattle.queue_table.specs.declared.Verdict.{Verdict}
 use Rattle.queue_table.specs.declared.Verdict.the-variants.{Accepted, Refused}
 use Rattle.queue_table.specs.View.{tableOf, textOf}
@@ -18,19 +18,10 @@ use Rattle.recording.specs.Calls.{headerBytes, firstCall, listed, callsI
 use Rattle.recording.specs.Replay.{callAnswerBytes, madeCalls, Replays}
 use Rattle.recording.specs.declared.Replayed.{Replayed}
 
-decided-table : (s : State) (o : Order) (c : Option Cause) → decide s o c .next .table ≡ s .table
-unfolding decide perform refuse fill
-decided-table s (register f) none = refl
-decided-table s (release n) none = refl
-decided-table s (rejected code) none = refl
-decided-table s (register f) (some c) = refl
-decided-table s (release n) (some c) = refl
-decided-table s (rejected code) (some c) = refl
-
 final-table : (s : State) (calls : List Call) → final s calls .table ≡ s .table
-unfolding final afterOrders step apply
+unfolding final afterOrders step
 final-table s [] = refl
-final-table s (c ∷ calls) = final-table (step s c .next) calls ∙ decided-table s (callOrder c) (firstCause (findings s (callOrder c)))
+final-table s (c ∷ calls) = final-table (step s c .next) calls ∙ same-table s (callOrder c)
 
 -- No call changes the table, so the verdict says of the registry left behind what it said of the one opened.
 pub same-verdict : (text : List ℕ) (calls : List Call) (v : Verdict) (t : Table) (last : Registry)

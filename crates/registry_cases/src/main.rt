@@ -1,9 +1,9 @@
 // Opens a registry on each table text, the files t00, t01, .. beside it until one is missing, hands it the lines of o00,
 // o01, .. one by one and prints what each is answered: code in 3 columns, slot in 4, link in 4 and level in 2.
 //
-// What follows an r at a line's start is handed to `release`, every other line to `register`. A line that starts with x isn't
-// handed on: it sets one number of the registry. Array 2-3 (0 the table, 1 slots, 2 hop entries, 3 figures), index 4-8, the
-// number 9-17.
+// What follows an r at a line's start is handed to `release`, what follows a c to `change`, every other line to `register`. A
+// line that starts with x isn't handed on: it sets one number of the registry. Array 2-3 (0 the table, 1 slots, 2 hop entries,
+// 3 figures), index 4-8, the number 9-17.
 use admission::Answer;
 use columns::Field;
 use columns::NextLine;
@@ -73,6 +73,9 @@ fn step(registry: Registry, line: &[u8]) -> Registry {
     }
     if line[0] == b'r' {
         return call(registry, Kind::Release, &line[1..]);
+    }
+    if line[0] == b'c' {
+        return call(registry, Kind::Change, &line[1..]);
     }
     if line[0] != b'x' {
         return call(registry, Kind::Register, line);
