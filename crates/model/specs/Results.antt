@@ -1,29 +1,31 @@
--- The headline facts in a page: what one call on the reference model (document 01: the plain book) does, when a registration is admitted, when room lacks, that no frame is late or lost and every one arrives,
+-- The headline facts in a page: what one call on the reference model (document 01: the plain book) does, when a registration and a change are admitted, when room lacks, that no frame is late or lost and every one arrives,
 -- that the order of registrations that are all admitted doesn't matter, and that nothing admitted by whole thresholds is lost.
 -- Each is a fact of another file, said again in the paper's terms. Assumes nothing.
 use Prim.Native.Nat.{ℕ}
-use mathlib.Core.Path.{_≡_}
+use mathlib.Core.Path.{_≡_, ap, sym, subst, _∙_}
 use mathlib.Core.Bool.{true}
 use mathlib.Core.Logic.{_↔_}
 use mathlib.Core.List.{List, map}
+use mathlib.Core.Option.{none, some, Option·some-injective}
+use lib.ListN.{getD}
 use Rattle.model.specs.Words.{All}
 use Rattle.model.specs.Columns.{Line}
 use Rattle.model.specs.QueueTable.{Table, readTable}
-use Rattle.model.specs.Orders.{Flow, Order, register, kindNumber, orderLine}
+use Rattle.model.specs.Orders.{Flow, Change, Order, register, change, kindNumber, orderLine}
 use Rattle.model.specs.Timely.{Timely}
 use Rattle.model.specs.Laws.Run.Punctual.{punctual}
 use Rattle.model.specs.Laws.Run.Delivery.{in-time, none-lost, arrives}
-use Rattle.model.specs.Reference.{State, Call, heldFlows, callOrder, apply, step, opened, orderAnswers, final}
+use Rattle.model.specs.Reference.{State, Call, heldFlows, changed, callOrder, apply, step, opened, orderAnswers, final}
 use Rattle.model.specs.Codes.{Listed, TextListed, BatchListed}
 use Rattle.model.specs.Batch.{lineAnswers, batch}
 use Rattle.model.specs.Consistent.{flowInRange, flowsConsistent, consistent}
 use Rattle.model.specs.Part.{Part}
 use Rattle.model.specs.AnyOrder.{AdmittedWhole, AnyOrder}
-use Rattle.model.specs.Outcomes.{NoneApplies, Decided, earlyFindings, NoRoom, Full}
+use Rattle.model.specs.Outcomes.{NoneApplies, withSlot, Decided, earlyFindings, NoRoom, Full}
 use Rattle.model.specs.WholeThresholds as before
 use Rattle.model.specs.Laws.Order.{call-readable, line-readable, ranged}
 use Rattle.model.specs.Laws.Consistent.{flows-rules, rules-flows, flows-part}
-use Rattle.model.specs.Laws.Reached.{state-rules, rules-state, apply-keeps, reached}
+use Rattle.model.specs.Laws.Reached.{StateRules, state-rules, rules-state, one-slot, apply-keeps, reached}
 use Rattle.model.specs.Laws.AnyOrder.{registered-exactly, in-any-order}
 use Rattle.model.specs.Laws.WholeThresholds.{flows-less, order-same, lines-same}
 use Rattle.model.specs.Laws.Schedulable.{schedulable}
@@ -37,45 +39,61 @@ part-consistent t {part} {flows} p e = rules-flows t part (flows-part t p (flows
 
 -- A consistent state, whether calls led to it or not.
 module _ (s : State) (ok : consistent s ≡ true) where
+  rules : StateRules s
+  rules = state-rules s ok
+
   -- Every call and every order line keep it consistent.
   pub step-consistent : (c : Call) → consistent (step s c .next) ≡ true
   unfolding step
   step-consistent c =
-      rules-state (step s c .next) (apply-keeps s (callOrder c) (kindNumber (c .kind)) (call-readable c) (state-rules s ok))
+      rules-state (step s c .next) (apply-keeps s (callOrder c) (kindNumber (c .kind)) (call-readable c) rules)
 
   pub line-consistent : (l : Line) → consistent (apply s (orderLine l) .next) ≡ true
   line-consistent l =
       let (kind, r) = line-readable l in
-      rules-state (apply s (orderLine l) .next) (apply-keeps s (orderLine l) kind r (state-rules s ok))
+      rules-state (apply s (orderLine l) .next) (apply-keeps s (orderLine l) kind r rules)
 
   -- Mission, line 2: every call and every order line is decided as document 01 has it, line 1: and its answer is one that document 01 lists.
   pub call-decided : (c : Call) → Decided s (callOrder c) (step s c)
   unfolding step
-  call-decided c = decided s (state-rules s ok) (callOrder c) (kindNumber (c .kind)) (call-readable c)
+  call-decided c = decided s rules (callOrder c) (kindNumber (c .kind)) (call-readable c)
 
   pub call-listed : (c : Call) → Listed s (callOrder c) (step s c .answer)
   unfolding step
-  call-listed c = listed s (state-rules s ok) (callOrder c) (kindNumber (c .kind)) (call-readable c)
+  call-listed c = listed s rules (callOrder c) (kindNumber (c .kind)) (call-readable c)
 
   pub line-decided : (l : Line) → Decided s (orderLine l) (apply s (orderLine l))
-  line-decided l = let (kind, r) = line-readable l in decided s (state-rules s ok) (orderLine l) kind r
+  line-decided l = let (kind, r) = line-readable l in decided s rules (orderLine l) kind r
 
   pub line-listed : (l : Line) → Listed s (orderLine l) (apply s (orderLine l) .answer)
-  line-listed l = let (kind, r) = line-readable l in listed s (state-rules s ok) (orderLine l) kind r
+  line-listed l = let (kind, r) = line-readable l in listed s rules (orderLine l) kind r
 
   -- No frame is late, in a queue or end to end, none is lost, and every one arrives, in every run over the held flows.
   pub no-frame-late : Timely (s .table) (heldFlows (s .slots))
   no-frame-late =
       let t = s .table in
       let fs = heldFlows (s .slots) in
-      let meets = schedulable s (state-rules s ok) in
+      let meets = schedulable s rules in
       record { punctual = punctual t fs meets; inTime = in-time t fs meets; noneLost = none-lost t fs meets; arrives = arrives t fs meets }
 
   -- A registration with no cause before 30 lacks room exactly when every slot is held or the held hops and its own exceed the hop entries.
   pub room-exactly : (c : Call) (f : Flow) → callOrder c ≡ register f → NoneApplies (earlyFindings s f)
       → NoRoom (step s c .answer .code) ↔ Full s f
   unfolding step
-  room-exactly c f e m = rw e (room s f (state-rules s ok .size) m)
+  room-exactly c f e m = rw e (room s f (rules .size) m)
+
+  -- W-206: a change of a held flow is admitted exactly when the held flows, with this one so changed, are consistent; 17 is among what that asks.
+  pub change-exactly : (call : Call) (c : Change) → callOrder call ≡ change c → (i : ℕ) (f : Flow) → getD (s .slots) i none ≡ some f → f .number ≡ c .number
+      → (step s call .answer .code ≡ 0) ↔ (consistent (withSlot s i (some (changed c f))) ≡ true)
+  change-exactly call c e i f held own =
+      let (to, from) = call-decided call .changed c e in (
+        λ z.
+        let m = to z in
+        let same : m .index ≡ i = one-slot s rules (c .number) (m .index) (m .held) (m .number) ∙ sym (one-slot s rules (c .number) i held own) in
+        let flow : m .flow ≡ f = Option·some-injective _ _ (sym (m .held) ∙ ap (λ i. getD (s .slots) i none) same ∙ held) in
+        subst (λ (f : Flow). consistent (withSlot s i (some (changed c f))) ≡ true) flow (subst (λ i. consistent (withSlot s i (some (changed c (m .flow)))) ≡ true) same (m .meets)),
+        λ meets. from (record { index = i; flow = f; held = held; number = own; meets = meets }),
+      )
 
 -- The state after any list of calls on any table text is consistent.
 pub reached-consistent : (text : List ℕ) (calls : List Call) → consistent (final (opened text) calls) ≡ true

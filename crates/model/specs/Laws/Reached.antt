@@ -132,6 +132,12 @@ clear-keeps s i r =
       flows = flows-part (s .table) (clear-part (s .slots) i) (r .flows);
     }
 
+-- A flow number is held in one slot.
+pub one-slot : (s : State) → StateRules s → (n i : ℕ) {f : Flow} → getD (s .slots) i none ≡ some f → f .number ≡ n → i ≡ indexOf n (s .slots)
+one-slot s r n i held own =
+    sym (index-only n (s .slots) i held own
+    (subst (λ n. withNumber n (heldFlows (set (s .slots) i none)) ≡ 0) own (no-other (s .table) (s .slots) i held (r .flows))))
+
 -- There is no cause against a change that was read exactly when its flow is held and all flows are consistent with it so changed.
 module _ (s : State) (c : Change) (range : changeInRange c ≡ true) (r : StateRules s) where
   abbrev index : ℕ
@@ -154,16 +160,14 @@ module _ (s : State) (c : Change) (range : changeInRange c ≡ true) (r : StateR
   unfolding findings changeFindings
   changeable = (
     λ a.
-        let done = carried-over s c a in
-        record { index = done .index; flow = done .flow; held = done .held; number = done .number; meets = rules-state _ (subst StateRules (done .next) (change-keeps a)) },
+    let done = carried-over s c a in
+    record { index = done .index; flow = done .flow; held = done .held; number = done .number; meets = rules-state _ (subst StateRules (done .next) (change-keeps a)) },
     λ m.
-        let other : withNumber (c .number) (heldFlows (set (s .slots) (m .index) none)) ≡ 0 =
-        subst (λ n. withNumber n (heldFlows (set (s .slots) (m .index) none)) ≡ 0) (m .number) (no-other (s .table) (s .slots) (m .index) (m .held) (r .flows)) in
-        let there : m .index ≡ index = sym (index-only (c .number) (s .slots) (m .index) (m .held) (m .number) other) in
-        let held : slotWith (c .number) (s .slots) ≡ some (m .flow) = subst (λ i. getD (s .slots) i none ≡ some (m .flow)) there (m .held) in
-        let after : StateRules (withSlot s index (some (changed c (m .flow)))) =
-        subst (λ i. StateRules (withSlot s i (some (changed c (m .flow))))) there (state-rules _ (m .meets)) in
-        subst (λ x. NoneApplies (changeFindings s c x)) (sym held) (rules-changed (s .table) (s .slots) index held (r .flows) c (after .flows)),
+    let there : m .index ≡ index = one-slot s r (c .number) (m .index) (m .held) (m .number) in
+    let held : slotWith (c .number) (s .slots) ≡ some (m .flow) = subst (λ i. getD (s .slots) i none ≡ some (m .flow)) there (m .held) in
+    let after : StateRules (withSlot s index (some (changed c (m .flow)))) =
+    subst (λ i. StateRules (withSlot s i (some (changed c (m .flow))))) there (state-rules _ (m .meets)) in
+    subst (λ x. NoneApplies (changeFindings s c x)) (sym held) (rules-changed (s .table) (s .slots) index held (r .flows) c (after .flows)),
   )
 
 pub apply-keeps : (s : State) (o : Order) (kind : ℕ) → Readable kind o → StateRules s → StateRules (apply s o .next)
