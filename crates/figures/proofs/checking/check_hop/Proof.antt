@@ -9,12 +9,10 @@ use native.Mathlib.Nat.{div-add-mod}
 use lib.ListN.{set}
 use Rattle.model.specs.Sizes.{linksMost, levelsMost}
 use Rattle.model.specs.Formula as model
-use Rattle.model.specs.WithFlow.{together}
 use Rattle.model.specs.Reference.{linkCause}
 use Rattle.units.specs.View.{aggregateOf}
-use Rattle.queue_table.specs.View.{linkIn}
 use Rattle.link_check.specs.View.{aggregatesOf}
-use Rattle.figures.specs.View.{figureAt, levelFigures, levelsWith, findingAt}
+use Rattle.figures.specs.View.{levelFigures, levelsWith, findingAt}
 use Rattle.figures.proofs.BoundLaws.{map-set, summable}
 use Rattle.figures.proofs.checking.check_hop.Statement.{statement}
 use Rattle.figures.proofs.checking.check_hop.Tie as tie
