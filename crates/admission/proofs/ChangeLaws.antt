@@ -1,12 +1,12 @@
 -- A change: the flow in the slot is counted in by its share, its figures are those with the new one in its place, and the registry is consistent again.
 -- Assumes nothing.
 use Prim.Native.Nat.{ℕ, _+_, _≤_, _<_}
-use mathlib.Core.Path.{_≡_, refl, sym, ap, subst, _∙_}
-use mathlib.Core.Bool.{true, false, _&&_}
-use mathlib.Core.List.{List, [], _∷_, map}
+use mathlib.Core.Path.{_≡_, refl, sym, ap, _∙_}
+use mathlib.Core.Bool.{true, _&&_}
+use mathlib.Core.List.{List, _∷_}
 use mathlib.Core.Option.{Option, none, some}
 use native.Mathlib.Omega.{arith}
-use lib.ListN.{length, getD, set, List·getD-eq-default}
+use lib.ListN.{getD, set, List·getD-eq-default}
 use lib.Dec.{ltb}
 use borrow.Author.Tests.{lt-ltb, le-ltb}
 use Rattle.model.specs.Words.{All}
@@ -14,15 +14,14 @@ use Rattle.model.specs.Sizes.{slotCount}
 use Rattle.model.specs.Formula.{Aggregate}
 use Rattle.model.specs.QueueTable.{Table}
 use Rattle.model.specs.Orders as line
-use Rattle.model.specs.Orders.{Flow, change, numberInRange, rateInRange, burstInRange, changeInRange, changing, kindNumber}
+use Rattle.model.specs.Orders.{Flow, change, numberInRange, rateInRange, changeInRange, changing, kindNumber}
 use Rattle.model.specs.Aggregates.{aggregateAt}
 use Rattle.model.specs.Schedulable.{Named}
 use Rattle.model.specs.Laws.Columns.{between-true}
 use Rattle.model.specs.Laws.Test.{and-both}
-use Rattle.model.specs.Laws.All.{all-imp}
 use Rattle.model.specs.Laws.Part.{all-part}
 use Rattle.model.specs.Laws.Aggregates.{aggregate-perm}
-use Rattle.model.specs.Reference.{Slot, State, Cause, Outcome, heldFlows, firstCause, whole, atHop, metEarlier, lineFindings, linkFindings, indexOf, slotWith, changed, changedSlot, changeFindings, findings, fill, perform, decide, apply}
+use Rattle.model.specs.Reference.{Slot, State, Cause, Outcome, heldFlows, firstCause, whole, lineFindings, linkFindings, indexOf, slotWith, changed, changedSlot, changeFindings, findings, fill, perform, decide, apply}
 use Rattle.model.specs.Laws.Slot.{held-at, held-inside, clear-part, put-perm}
 use Rattle.model.specs.Consistent.{consistent}
 use Rattle.model.specs.Laws.Consistent.{FlowRules}

@@ -88,10 +88,10 @@ module _ (s : State) (ok : consistent s ≡ true) where
   change-exactly call c e i f held own =
       let (to, from) = call-decided call .changed c e in (
         λ z.
-        let m = to z in
-        let same : m .index ≡ i = one-slot s rules (c .number) (m .index) (m .held) (m .number) ∙ sym (one-slot s rules (c .number) i held own) in
-        let flow : m .flow ≡ f = Option·some-injective _ _ (sym (m .held) ∙ ap (λ i. getD (s .slots) i none) same ∙ held) in
-        subst (λ (f : Flow). consistent (withSlot s i (some (changed c f))) ≡ true) flow (subst (λ i. consistent (withSlot s i (some (changed c (m .flow)))) ≡ true) same (m .meets)),
+            let m = to z in
+            let same : m .index ≡ i = one-slot s rules (c .number) (m .index) (m .held) (m .number) ∙ sym (one-slot s rules (c .number) i held own) in
+            let flow : m .flow ≡ f = Option·some-injective _ _ (sym (m .held) ∙ ap (λ i. getD (s .slots) i none) same ∙ held) in
+            subst (λ (f : Flow). consistent (withSlot s i (some (changed c f))) ≡ true) flow (subst (λ i. consistent (withSlot s i (some (changed c (m .flow)))) ≡ true) same (m .meets)),
         λ meets. from (record { index = i; flow = f; held = held; number = own; meets = meets }),
       )
 

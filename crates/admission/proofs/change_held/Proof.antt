@@ -1,7 +1,7 @@
 -- `admission::change_held` meets its contract: 17, then what the check of the links finds; else the slot and the figures hold the flow so changed.
 -- Assumes nothing.
 use borrow.Author.Needs.{needs, length-unmapped}
-use Prim.Native.Nat.{ℕ, _≤_, _<_}
+use Prim.Native.Nat.{ℕ, _≤_}
 use mathlib.Core.Path.{_≡_, refl, sym, ap, subst, _∙_}
 use mathlib.Core.List.{List}
 use native.Mathlib.Omega.{arith}

@@ -160,14 +160,14 @@ module _ (s : State) (c : Change) (range : changeInRange c ≡ true) (r : StateR
   unfolding findings changeFindings
   changeable = (
     λ a.
-    let done = carried-over s c a in
-    record { index = done .index; flow = done .flow; held = done .held; number = done .number; meets = rules-state _ (subst StateRules (done .next) (change-keeps a)) },
+        let done = carried-over s c a in
+        record { index = done .index; flow = done .flow; held = done .held; number = done .number; meets = rules-state _ (subst StateRules (done .next) (change-keeps a)) },
     λ m.
-    let there : m .index ≡ index = one-slot s r (c .number) (m .index) (m .held) (m .number) in
-    let held : slotWith (c .number) (s .slots) ≡ some (m .flow) = subst (λ i. getD (s .slots) i none ≡ some (m .flow)) there (m .held) in
-    let after : StateRules (withSlot s index (some (changed c (m .flow)))) =
-    subst (λ i. StateRules (withSlot s i (some (changed c (m .flow))))) there (state-rules _ (m .meets)) in
-    subst (λ x. NoneApplies (changeFindings s c x)) (sym held) (rules-changed (s .table) (s .slots) index held (r .flows) c (after .flows)),
+        let there : m .index ≡ index = one-slot s r (c .number) (m .index) (m .held) (m .number) in
+        let held : slotWith (c .number) (s .slots) ≡ some (m .flow) = subst (λ i. getD (s .slots) i none ≡ some (m .flow)) there (m .held) in
+        let after : StateRules (withSlot s index (some (changed c (m .flow)))) =
+        subst (λ i. StateRules (withSlot s i (some (changed c (m .flow))))) there (state-rules _ (m .meets)) in
+        subst (λ x. NoneApplies (changeFindings s c x)) (sym held) (rules-changed (s .table) (s .slots) index held (r .flows) c (after .flows)),
   )
 
 pub apply-keeps : (s : State) (o : Order) (kind : ℕ) → Readable kind o → StateRules s → StateRules (apply s o .next)

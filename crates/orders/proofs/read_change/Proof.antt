@@ -1,7 +1,7 @@
 -- `orders::read_change` meets its contract: its tests are the definition's, in the same order.
 -- Assumes nothing.
 use borrow.Author.Needs.{needs}
-use mathlib.Core.Path.{_≡_, sym, _∙_, ap}
+use mathlib.Core.Path.{sym, _∙_, ap}
 use borrow.Author.Tests.{eq-eqb, ne-eqb}
 use Rattle.model.specs.Orders.{changeLine, changeOf}
 use Rattle.orders.specs.View.{sourceOf}
