@@ -202,7 +202,7 @@ fn a_refused_change_changes_nothing() {
         let lines: Vec<String> = text.lines().map(str::to_string).collect();
         (lines[..calls.len()].to_vec(), lines[calls.len()..].to_vec())
     };
-    let (answers, state) = made(&[held.clone()]);
+    let (answers, state) = made(std::slice::from_ref(&held));
     assert_eq!(answers, ["  0   1   0 0"]);
     // The last is refused at the second link, 1,664 of 1,650 bytes, the others before.
     for (rate, burst, answer) in [

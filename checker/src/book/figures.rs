@@ -127,7 +127,7 @@ pub fn check_links(
     sums: &[Aggregate; QUEUES],
 ) -> Result<(), Answer> {
     for (entry, burst) in bursts(flow, path, table) {
-        check_queue(entry, sums[entry].with_flow(flow, burst), table, sums)?;
+        check_at(entry, |own| own.with_flow(flow, burst), table, sums)?;
     }
     Ok(())
 }
@@ -142,27 +142,29 @@ pub fn check_change(
     sums: &[Aggregate; QUEUES],
 ) -> Result<(), Answer> {
     for (entry, earlier) in growths(path, table) {
-        let own = sums[entry].with_change(old, new, earlier);
-        check_queue(entry, own, table, sums)?;
+        let counted = |own: Aggregate| own.with_change(old, new, earlier);
+        check_at(entry, counted, table, sums)?;
     }
     Ok(())
 }
 
-/// 21, 22 and 23 at the link of a queue that has these figures.
+/// 21, 22 and 23 at the link of a queue whose own figures are counted so.
 #[inline(always)]
-fn check_queue(
+fn check_at(
     entry: usize,
-    own: Aggregate,
+    counted: impl FnOnce(Aggregate) -> Aggregate,
     table: &Table,
     sums: &[Aggregate; QUEUES],
 ) -> Result<(), Answer> {
     let (link, level) = (entry / LEVELS, entry % LEVELS);
     let (links, _) = sums.as_chunks::<LEVELS>();
     let mut levels = links[link];
-    levels[level] = own;
+    levels[level] = counted(levels[level]);
     let queues = &table.queues[LEVELS * link..LEVELS * (link + 1)];
-    check_link(&table.links[link], queues, &levels)
-        .map_err(|(code, level)| Answer::at(code, link as u32 + 1, level))
+    match check_link(&table.links[link], queues, &levels) {
+        Ok(()) => Ok(()),
+        Err((code, level)) => Err(Answer::at(code, link as u32 + 1, level)),
+    }
 }
 
 /// Counts a flow in at each queue of its path.
