@@ -66,7 +66,7 @@ impl Registry {
     }
 
     /// The slip of storing a path's first links before a refusal with this code at a later one.
-    pub fn keep_early(&mut self, flow: &Flow, code: u64, link: u64) {
+    fn keep_early(&mut self, flow: &Flow, code: u64, link: u64) {
         let at_a_link = [causes::RATE, causes::DELAY, causes::BACKLOG].contains(&code);
         if !self.slips.stored_early || !at_a_link {
             return;

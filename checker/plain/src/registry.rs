@@ -130,8 +130,13 @@ impl Registry {
 
     /// The changed flow in its old slot; nothing where it isn't held.
     pub fn put_changed(&mut self, change: &Change) {
-        if let Some((index, flow)) = self.changed(change) {
-            self.slots[index] = Some(flow);
+        let Some((index, flow)) = self.changed(change) else {
+            return;
+        };
+        let held = self.slots[index].replace(flow);
+        if let Some(old) = held.filter(|_| self.slips.share_left) {
+            let left = self.hops_work(&old).into_iter();
+            self.residue.extend(left.map(|hop| (hop.hop, hop.share)));
         }
     }
 

@@ -185,6 +185,7 @@ impl Registry {
     pub fn judge_change(&self, change: &Change) -> Work {
         let [not_held, later @ ..] = &causes::CHANGE;
         match self.changed(change) {
+            Some((_, flow)) if self.slips.share_left => self.judge_by(later, &flow),
             Some((index, flow)) => self.without(index).judge_by(later, &flow),
             None => Work {
                 refused: Some(Answer::plain(not_held[0])),
