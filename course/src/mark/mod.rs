@@ -27,9 +27,10 @@ ANSWERS is a text with a row of numbers, separated by blanks, for each order lin
 
 code, place, link and level are those of the answer line. delay (µs) and backlog (bytes) are the bounds, rounded up, at
 the queue that decides, with the new flow, or the changed one in place of the old, counted in: for 22 and 23 the failing
-queue, for an admission or a change that is done the flow's own queue at its last hop. stay is the longest stay predicted there for exercise three: the delay bound of that queue with
-the flows that are held after the last order, 0 where it then has none. `-` stands for a number that isn't given, and so
-do a worksheet's blanks, `____`. The answers to releases and the other refusals have no bounds. 1,980 may be written 1980.
+queue, for an admission or a change that is done the flow's own queue at its last hop. stay is the longest stay predicted
+there for exercise three: the delay bound of that queue with the flows that are held after the last order, 0 where it
+then has none. `-` stands for a number that isn't given, and so do a worksheet's blanks, `____`. The answers to releases
+and the other refusals have no bounds. 1,980 may be written 1980.
 
 Each row is right or wrong; a line of orders.txt without a row is wrong too, but with --lines A-B only lines A to B are
 asked for. A wrong row that is right after the trainee's own earlier rows is named as such. Otherwise, where the
