@@ -254,11 +254,11 @@ fn the_hall_of_the_sheets() {
     let (done, above) = ("(done)", "(delay above the threshold)");
     // Rate alone.
     assert_eq!(
-        answers(" 3   203    65000    6168\n"),
+        answers(" 3   203    60511    6168\n"),
         [format!("22 at link 5 level 2 {above}")]
     );
     assert_eq!(
-        answers(" 3   203    60000    6168\n"),
+        answers(" 3   203    60510    6168\n"),
         [format!("0 place 6 {done}")]
     );
     // While 203 is held, 202 can't have more; once it is released it can, and 203 isn't admitted again, even as it was.
