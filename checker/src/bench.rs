@@ -204,8 +204,10 @@ const CHUNK: usize = 50;
 fn call_round<R: Version>(load: &Load, checked: bool) -> Round {
     let mut registry = Box::new(R::EMPTY);
     registry.open(&load.table);
-    let call = |line: &'_ Vec<u8>| (kind_of(line) as u32, line.clone());
-    let calls: Vec<(u32, Vec<u8>)> = load.lines[load.steady.clone()].iter().map(call).collect();
+    let steady = load.lines[load.steady.clone()].iter();
+    let calls: Vec<(u32, &[u8])> = steady
+        .map(|line| (kind_of(line) as u32, line.as_slice()))
+        .collect();
     let mut chunks = Vec::new();
     for _ in 0..PASSES {
         for flow in registry.view().slots.iter().flatten() {
@@ -216,11 +218,11 @@ fn call_round<R: Version>(load: &Load, checked: bool) -> Round {
         }
         for chunk in calls.chunks_exact(CHUNK) {
             let time = micros(|| {
-                for (kind, line) in chunk {
+                for &(kind, line) in chunk {
                     black_box(if checked {
-                        registry.call(*kind, black_box(line))
+                        registry.call(kind, black_box(line))
                     } else {
-                        registry.call_unchecked(*kind, black_box(line))
+                        registry.call_unchecked(kind, black_box(line))
                     });
                 }
             });

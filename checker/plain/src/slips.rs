@@ -1,6 +1,6 @@
 //! Document 01, "Where trainees and programs slip", slips with W-202's best-effort frames, the count of S from before W-208,
-//! and a slip with W-206's changes: each is a switch that turns one rule wrong, so that an answer can be recognised by the slip that gives it. All
-//! else goes by the rules; with no switch on, everything does.
+//! and a slip with W-206's changes: each is a switch that turns one rule wrong, so that an answer can be recognised by the
+//! slip that gives it. All else goes by the rules; with no switch on, everything does.
 
 use crate::formula::{burst_at_hop, growth, hop_growth, Sums};
 

@@ -1,10 +1,12 @@
-//! W-206: what a run met of changes, and that each is answered as a release and a registration after it would be.
+//! W-206: what a run met of changes; that each is done exactly when the held flows, with the one so changed, meet the rules,
+//! and answered as a release and a registration after it would be.
 
 use super::direct::Counts;
 use plain::causes::{BACKLOG, COLUMNS, DELAY, DONE, FRAME, HELD, NOT_HELD, RANGE, RATE};
 use plain::columns::Line;
 use plain::orders::{Change, Order, CHANGE, KIND};
 use plain::registry::{Answer, Registry};
+use plain::slips::Slips;
 use std::collections::{BTreeMap, BTreeSet};
 
 /// The codes that changes can get.
@@ -103,6 +105,9 @@ impl<'a> Watch<'a> {
                 "plain: a change gets {answer:?}, released and registered again {again:?}"
             ));
         }
+        if (answer.code == DONE) != meets_rules(change, before) {
+            return Err(format!("plain: a change gets {answer:?} against the rules"));
+        }
         match answer.code {
             DONE => self.changes.count(done_to(change, before, index)),
             RATE | DELAY | BACKLOG => {
@@ -125,6 +130,19 @@ impl<'a> Watch<'a> {
             self.changes.count(KEPT);
         }
     }
+}
+
+/// Whether the held flows, with this one so changed, meet the rules that a change can break: 17, and 21 to 23 at every link.
+fn meets_rules(change: &Change, before: &Registry) -> bool {
+    let mut after = before.clone();
+    after.put_changed(change);
+    let links = after
+        .queues
+        .chunk_by(|queue, next| queue.link == next.link)
+        .map(|levels| after.link_work(levels[0].link, None));
+    let mut causes = links.map(|link| link.first_cause(1, &Slips::NONE));
+    let frames = after.held().iter().all(|flow| flow.frame <= flow.burst);
+    frames && causes.all(|cause| cause.is_none())
 }
 
 fn done_to(change: &Change, before: &Registry, index: usize) -> &'static str {
