@@ -6,8 +6,8 @@ error too, where that is known.
 
 A host has the cases of admit, and its standard error isn't compared.
 The arguments are passed on to the program, which must print the same with them.
-Each case runs in a folder of its own that holds just the case's input files. After the stored cases come some whose files
-are missing, a folder, unended or far too long. The first difference ends the run; no case at all is a failure."""
+Each case runs in a folder of its own that holds just the case's input files. After the stored cases come some by hand: files
+that are missing, a folder, unended or far too long, and changes. The first difference ends the run; no case at all is a failure."""
 import shutil
 import subprocess
 import sys
@@ -25,13 +25,34 @@ TABLE = b"   1   1   2   100 1    370     2000\n"
 REGISTER = b" 1     7     1000    1542 1542     370  1   1 1\n"
 RELEASE = b" 2     7\n"
 FIGURES = b"   1 1           0              0    0\n"
+CHANGE = b" 3     7     1000    1980\n"  # 8000 * (1542 + 1980) / 100000 is 282 (281.76) of 370, 1980 + 16 (15.42) is 1996 of 2000
+REFUSED_CHANGES = [
+    (b" 3     7     1000    3084\n", b" 22   0   1 1\n"),  # 371 (370.08) of 370
+    (b" 3     7     1000    3083\n", b" 23   0   1 1\n"),  # 370, but 3083 + 16 of 2000
+    (b" 3     7   100000    1980\n", b" 21   0   1 0\n"),
+    (b" 3     7     1000    1541\n", b" 17   0   0 0\n"),
+    (b" 3     8     1000    1980\n", b" 13   0   0 0\n"),
+    (b" 3     7        0    1980\n", b" 11   0   0 0\n"),
+    (b" 3     7     1000   1980\n", b" 10   0   0 0\n"),
+]
+DONE = b"  0   1   0 0\n"
+
+
+def answered(lines):
+    """Answer lines, of lines given as what stands after their numbers."""
+    return b"".join(b"%6d%b" % (number, line) for number, line in enumerate(lines, 1))
+
+
+def call(kind, given):
+    return b"%2d%6d\n%b" % (kind, len(given), given)
+
 
 NO_TABLE = b"admit: table.txt: can't be opened, counts as empty\n"
 NO_ORDERS = b"admit: orders.txt: can't be opened, counts as empty\n"
 LONG_TABLE = b"admit: refused: the table is too long\n"
 
 # name: (files, printed, said); the expected lines are given by hand. What isn't given is nothing.
-ODD = {
+BY_HAND = {
     "admit": {
         "no files": ({}, b"", NO_TABLE + NO_ORDERS),
         "no orders": ({"table.txt": TABLE}, b"", NO_ORDERS),
@@ -41,6 +62,8 @@ ODD = {
         "a last line unended": ({"table.txt": TABLE, "orders.txt": REGISTER + RELEASE[:-1]}, b"     1  0   1   0 0\n     2 10   0   0 0\n"),
         "a table unended": ({"table.txt": TABLE + TABLE[:-1], "orders.txt": RELEASE}, b"  1     2\n",
             b"admit: refused: table.txt, line 2: its columns are wrong, or the last line has no LF\n"),
+        "changes": ({"table.txt": TABLE, "orders.txt": REGISTER + CHANGE + b"".join(line for line, _ in REFUSED_CHANGES) + RELEASE},
+            answered([DONE, DONE, *(answer for _, answer in REFUSED_CHANGES), DONE])),
         "a table of 25,089 bytes": ({"table.txt": b"x" * 25_089, "orders.txt": RELEASE}, b"  5     0\n", LONG_TABLE),
         "a table of 30 MB": ({"table.txt": TABLE * 810_811, "orders.txt": RELEASE}, b"  5     0\n", LONG_TABLE),
         "orders of 30 MB": ({"table.txt": TABLE, "orders.txt": RELEASE * 3_333_334}, b" 41     0\n",
@@ -52,6 +75,13 @@ ODD = {
         "no calls": ({"table.txt": TABLE}, FIGURES),
         "no table": ({"calls.txt": b" 1    48\n" + REGISTER}, b" 14   0   1 1\n"),
         "folders": ({"table.txt": FOLDER, "calls.txt": FOLDER}, b""),
+        "changes": ({"table.txt": TABLE, "calls.txt": call(1, REGISTER) + call(3, CHANGE) + b"".join(call(3, line) for line, _ in REFUSED_CHANGES)},
+            DONE + DONE + b"".join(answer for _, answer in REFUSED_CHANGES)
+            + b"   1 1        1000           1980 1542\n   1     7     1000    1980 1542     370  1   1 1\n"),
+        "calls with lines of another kind": ({"table.txt": TABLE, "calls.txt":
+            call(1, CHANGE) + call(2, CHANGE) + call(3, REGISTER) + call(3, RELEASE) + call(3, b" 2 rest\n") + call(3, b" x\n")},
+            b" 11   0   0 0\n" * 5 + b" 10   0   0 0\n" + FIGURES),
+        "a call of kind 4": ({"table.txt": TABLE, "calls.txt": call(4, RELEASE)}, b"end         0\n" + FIGURES),
         "a cut call": ({"table.txt": TABLE, "calls.txt": b" 2     9\n" + RELEASE[:-1]}, b"end         0\n" + FIGURES),
         "a table of 30 MB": ({"table.txt": TABLE * 810_811, "calls.txt": b" 2     9\n" + RELEASE}, b"  5     0\n 13   0   0 0\n"),
     },
@@ -119,7 +149,7 @@ def judge_full(command):
 
 
 def main(arguments):
-    if len(arguments) < 2 or arguments[1] not in [*ODD, "host"]:
+    if len(arguments) < 2 or arguments[1] not in [*BY_HAND, "host"]:
         sys.exit("usage: tests/vectors.py PROGRAM admit|host|replay [ARGUMENT ..]")
     program, named, *passed = arguments
     kind, heard = ("admit", False) if named == "host" else (named, True)
@@ -130,12 +160,12 @@ def main(arguments):
     for name, files, expected in cases:
         said = b"" if heard and len(expected) != REFUSED_BYTES else None
         judge(command, name, files, expected, said)
-    odd = ODD[kind]
-    for name, (files, expected, *said) in odd.items():
+    by_hand = BY_HAND[kind]
+    for name, (files, expected, *said) in by_hand.items():
         judge(command, name, files, expected, b"".join(said) if heard else None)
     if named == "admit":
         judge_full(command)
-    print(f"vectors: {' '.join([named, *passed])}: {len(cases)} stored cases and {len(odd)} odd files passed")
+    print(f"vectors: {' '.join([named, *passed])}: {len(cases)} stored cases and {len(by_hand)} by hand passed")
 
 
 main(sys.argv[1:])

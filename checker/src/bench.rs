@@ -5,7 +5,7 @@ use crate::book;
 use crate::clock::thread_time;
 use crate::fast;
 use crate::lists;
-use crate::loads::{loads, Load};
+use crate::loads::{kind_of, loads, Load};
 use crate::rounds::{report, Bars, Measured, Round};
 use crate::stack;
 use crate::versions::{versions, Batch, PROVED};
@@ -162,11 +162,14 @@ pub fn run(seconds: u64, replay: Option<&Path>, with_bars: bool) -> bool {
     bars.print() && same
 }
 
-/// A long list of direct calls on one kept registry: the steady pairs of a load, over and over. The
+/// Loads whose steady part is also made as direct calls.
+const CALLED: [&str; 2] = ["pairs", "changes"];
+
+/// A long list of direct calls on one kept registry: the steady part of a load, over and over. The
 /// library has no direct calls, so a proved program's are timed as a process.
 fn direct_calls(bars: &mut Bars) {
     for load in loads(1) {
-        if !load.name.ends_with("pairs") {
+        if !CALLED.iter().any(|part| load.name.ends_with(part)) {
             continue;
         }
         for checked in [true, false] {
@@ -201,6 +204,10 @@ const CHUNK: usize = 50;
 fn call_round<R: Version>(load: &Load, checked: bool) -> Round {
     let mut registry = Box::new(R::EMPTY);
     registry.open(&load.table);
+    let steady = load.lines[load.steady.clone()].iter();
+    let calls: Vec<(u32, &[u8])> = steady
+        .map(|line| (kind_of(line) as u32, line.as_slice()))
+        .collect();
     let mut chunks = Vec::new();
     for _ in 0..PASSES {
         for flow in registry.view().slots.iter().flatten() {
@@ -209,10 +216,9 @@ fn call_round<R: Version>(load: &Load, checked: bool) -> Round {
         for line in &load.lines[..load.steady.start] {
             registry.call_unchecked(1, line);
         }
-        for chunk in load.lines[load.steady.clone()].chunks_exact(CHUNK) {
+        for chunk in calls.chunks_exact(CHUNK) {
             let time = micros(|| {
-                for line in chunk {
-                    let kind = if line.len() == 9 { 2 } else { 1 };
+                for &(kind, line) in chunk {
                     black_box(if checked {
                         registry.call(kind, black_box(line))
                     } else {

@@ -1,4 +1,4 @@
-//! A separately written checker of document 01.
+//! A separately written checker of document 01 and of document 02's requests that have landed.
 
 pub mod answer;
 pub mod bench;

@@ -3,7 +3,7 @@
 
 use crate::book;
 use crate::clock::children_time;
-use crate::compare::direct::call_bytes;
+use crate::compare::direct::{call_bytes, call_kind};
 use crate::fast;
 use crate::loads;
 use crate::rounds::{report, Bars, Measured, Round};
@@ -12,7 +12,6 @@ use crate::views::Version;
 use halls::input;
 use halls::rng::Rng;
 use plain::columns::lines;
-use plain::orders::{REGISTER, RELEASE};
 use plain::programs::{put_calls, put_refusal, put_state, replay, write_call};
 use plain::registry::Answer;
 use std::fs;
@@ -127,7 +126,7 @@ pub fn compare(program: &Path, seed: u64, count: u64) -> Result<u64, String> {
     Ok(made)
 }
 
-/// A table and a batch's orders as calls, some of them to the other call, cut or doubled; now and
+/// A table and a batch's orders as calls, some of them to another call, cut or doubled; now and
 /// then the list itself is cut.
 fn random_list(rng: &mut Rng) -> (Vec<u8>, Vec<u8>, u64) {
     let given = input(rng, false);
@@ -135,8 +134,7 @@ fn random_list(rng: &mut Rng) -> (Vec<u8>, Vec<u8>, u64) {
     let mut list = Vec::new();
     let mut calls = 0;
     for line in lines(&given.orders).iter().take(400) {
-        let release = line.bytes.starts_with(b" 2") != (faulty && rng.once_in(20));
-        let kind = if release { RELEASE } else { REGISTER };
+        let kind = call_kind(rng, line.bytes, faulty);
         list.extend(write_call(kind, &call_bytes(rng, line.bytes, faulty)));
         calls += 1;
     }

@@ -2,10 +2,10 @@
 
 use halls::rng::Rng;
 use halls::tables::{full_ring, table_text, MOST_BUFFER};
-use plain::orders::{write_registration, write_release, Flow, Hop, REGISTER, RELEASE};
+use plain::orders::{write_change, write_registration, write_release, Change, Flow, Hop, KIND};
 use plain::programs::{write_call, MOST_CALL_BYTES, MOST_ORDER_BYTES, MOST_ORDER_LINES};
 
-/// A batch and the part of its lines in which registrations and releases alternate.
+/// A batch and the part of its lines that is measured by itself: registrations and releases in turn, or changes.
 pub struct Load {
     pub name: &'static str,
     pub table: Vec<u8>,
@@ -20,14 +20,20 @@ impl Load {
     }
 }
 
-/// The four loads with this seed's numbers; their lines have the same lengths for every seed.
+/// The five loads with this seed's numbers; their lines have the same lengths for every seed.
 pub fn loads(seed: u64) -> Vec<Load> {
     vec![
         one_hop(seed),
         refused(seed),
         malformed(seed),
         twelve_hops(seed),
+        changes(seed),
     ]
+}
+
+/// The kind of a line of a load, which names it.
+pub fn kind_of(line: &[u8]) -> u64 {
+    KIND.read(line).expect("a kind")
 }
 
 fn ring() -> Vec<u8> {
@@ -90,34 +96,41 @@ fn alternating(
     (lines, numbers)
 }
 
-/// Lists of direct calls, as long as `replay` reads them: one-hop and twelve-hop pairs. Each line is
-/// a call with its header.
+/// A call's header.
+const HEADER: usize = 9;
+
+/// Lists of direct calls, as long as `replay` reads them: one-hop and twelve-hop pairs, changes. Each
+/// line is a call with its header.
 pub fn call_lists(seed: u64) -> Vec<Load> {
-    [
+    let pairs = [
         ("one-hop pairs", 1, 250, 5),
         ("twelve-hop pairs", 12, 84, 6),
     ]
-    .into_iter()
     .map(|(name, hops, held, index)| {
-        const HEADER: usize = 9;
         let registration = HEADER + 42 + 6 * hops as usize;
         let release = HEADER + 9;
         let pairs = (MOST_CALL_BYTES - held * registration) / (registration + release);
         let mut flows = Flows::new(seed, index);
         let (lines, _) = alternating(&mut flows, hops, held, pairs);
-        let call = |line: Vec<u8>| {
-            let kind = if line.len() == 9 { RELEASE } else { REGISTER };
-            write_call(kind, &line)
-        };
-        let steady = held..lines.len();
-        Load {
-            name,
-            table: ring(),
-            lines: lines.into_iter().map(call).collect(),
-            steady,
-        }
-    })
-    .collect()
+        calls_of(name, lines, held)
+    });
+    let registrations = CHANGED_HELD * (HEADER + CHANGED_LINE);
+    let count = (MOST_CALL_BYTES - registrations) / (HEADER + CHANGE_LINE);
+    let lines = changing(&mut Flows::new(seed, 8), count);
+    let changes = calls_of("four-hop changes", lines, CHANGED_HELD);
+    pairs.into_iter().chain([changes]).collect()
+}
+
+/// Lines as calls, of which those after the first so many are measured.
+fn calls_of(name: &'static str, lines: Vec<Vec<u8>>, held: usize) -> Load {
+    let steady = held..lines.len();
+    let call = |line: Vec<u8>| write_call(kind_of(&line), &line);
+    Load {
+        name,
+        table: ring(),
+        lines: lines.into_iter().map(call).collect(),
+        steady,
+    }
 }
 
 /// (a) 2,000 lines, as many registrations as 60,000 bytes allow, 250 held in the steady state.
@@ -194,6 +207,50 @@ fn twelve_hops(seed: u64) -> Load {
     let steady = HELD..lines.len();
     Load {
         name: "d twelve-hop pairs",
+        table: ring(),
+        lines,
+        steady,
+    }
+}
+
+/// Flows of four hops that are held while they are changed, the bytes of their lines and of a change.
+const CHANGED_HELD: usize = 250;
+const CHANGED_HOPS: u64 = 4;
+const CHANGED_LINE: usize = 42 + 6 * CHANGED_HOPS as usize;
+const CHANGE_LINE: usize = 26;
+/// Bursts of such a rate, grown along three hops, are above every buffer.
+const TOO_FAST: u64 = 1_000_000;
+/// One change in so many is refused, at the last link.
+pub const REFUSED_ONE_IN: usize = 4;
+
+/// Fills the hall, then changes one held flow after the other.
+fn changing(flows: &mut Flows, count: usize) -> Vec<Vec<u8>> {
+    let held: Vec<Flow> = (0..CHANGED_HELD)
+        .map(|_| flows.next(CHANGED_HOPS))
+        .collect();
+    let mut lines: Vec<Vec<u8>> = held.iter().map(write_registration).collect();
+    for index in 1..=count {
+        let rng = &mut flows.rng;
+        let change = Change {
+            number: held[rng.index(CHANGED_HELD)].number,
+            rate: match index % REFUSED_ONE_IN {
+                0 => TOO_FAST,
+                _ => rng.between(1, 5_000),
+            },
+            burst: rng.between(1_542, 9_999),
+        };
+        lines.push(write_change(&change));
+    }
+    lines
+}
+
+/// (e) Changes of four-hop flows, 250 held.
+fn changes(seed: u64) -> Load {
+    let count = (MOST_ORDER_BYTES - CHANGED_HELD * CHANGED_LINE) / CHANGE_LINE;
+    let lines = changing(&mut Flows::new(seed, 7), count);
+    let steady = CHANGED_HELD..lines.len();
+    Load {
+        name: "e four-hop changes",
         table: ring(),
         lines,
         steady,

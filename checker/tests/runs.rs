@@ -19,8 +19,8 @@ fn every_version_prints_the_stored_cases() {
 fn versions_agree_and_every_code_occurs() {
     let report = compare::run(1, 600, false).unwrap();
     assert_eq!(report.missing(), Vec::<u64>::new());
-    assert_eq!(report.missing_kinds(), Vec::<&str>::new());
-    assert!(report.calls.contains_key(&42));
+    assert_eq!(report.missing_kinds(), Vec::<String>::new());
+    assert!(report.calls.answers.contains_key(&42));
     compare::run(2, 20, true).unwrap();
 }
 
@@ -44,6 +44,7 @@ fn bars_are_judged() {
 fn no_frame_is_late() {
     let report = simulate::run(8, 40).unwrap();
     assert!(report.halls > 10);
+    assert!(report.changed > 10, "{} flows changed", report.changed);
     assert!(report.journey.limit > 0, "no way with a fixed delay");
     assert!(
         report.best_effort[1] > 0,
@@ -242,6 +243,11 @@ fn sources_conform_and_use_their_bucket() {
     assert_eq!(list.iter().map(|send| send.bytes).sum::<u64>(), 10_000);
 }
 
+/// Whether a load's line is a change that is meant to be refused; the first one comes after so many registrations.
+fn refused_change(first: usize, index: usize) -> bool {
+    index >= first && (index - first + 1).is_multiple_of(checker::loads::REFUSED_ONE_IN)
+}
+
 /// The benchmark's loads are legal batches that do what they are meant to.
 #[test]
 fn loads_answer_as_meant() {
@@ -255,6 +261,7 @@ fn loads_answer_as_meant() {
             let code: &[u8] = match &load.name[..1] {
                 "b" if index >= 256 => b" 30",
                 "c" => b" 10",
+                "e" if refused_change(load.steady.start, index) => b" 23",
                 _ => b"  0",
             };
             assert_eq!(&answer[6..9], code, "{} line {}", load.name, index + 1);

@@ -20,10 +20,7 @@ fn version_code<R: Calls>(kind: u32, bytes: &[u8]) -> u64 {
 /// A direct call's code, the same from all versions.
 fn code(kind: u32, bytes: &[u8]) -> u64 {
     let (mut plain, _) = plain::registry::Registry::open(TABLE);
-    let known = match kind {
-        1 => plain.register(bytes),
-        _ => plain.release(bytes),
-    };
+    let known = plain.call(u64::from(kind), bytes);
     assert_eq!(known.code, version_code::<book::Registry>(kind, bytes));
     assert_eq!(known.code, version_code::<fast::Registry>(kind, bytes));
     known.code

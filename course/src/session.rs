@@ -23,7 +23,7 @@ pub struct Step {
     pub ended: bool,
     pub order: Result<Order, Vec<Fault>>,
     pub answer: Answer,
-    /// For a registration that was read.
+    /// For a registration or a change that was read.
     pub work: Option<Work>,
 }
 

@@ -86,8 +86,8 @@ fn order_lines() {
 fn order_line_ends() {
     in_orders(
         " 2   101",
-        " 3   101",
-        "orders.txt:2:1: kind: 3 is out of range, 1 to 2",
+        " 4   101",
+        "orders.txt:2:1: kind: 4 is out of range, 1 to 3",
     );
     in_orders(
         " 2   101",

@@ -43,13 +43,13 @@ fn usage() {
         &["check", &hall, "--line", "1"],
         &["explain", &hall, "--line"],
         &["explain", &hall, "--line", "x"],
-        &["explain", &hall, "--line", "34"],
-        &["bounds", &hall, "--after", "34"],
+        &["explain", &hall, "--line", "37"],
+        &["bounds", &hall, "--after", "37"],
         &["mark", &hall],
         &["mark", &hall, "x", "--lines", "1"],
         &["mark", &hall, &sheet, "--lines", "5-3"],
         &["mark", &hall, &sheet, "--lines", "0-3"],
-        &["mark", &hall, &sheet, "--lines", "30-34"],
+        &["mark", &hall, &sheet, "--lines", "30-37"],
         &["hall", "--seed", "1"],
         &["hall", "--out", "--seed", "1"],
     ];
@@ -179,7 +179,7 @@ fn a_changed_answer_fails() {
                 "line {} column {column}",
                 index + 1
             );
-            assert!(outcome.printed.contains("32 of 33 rows right"));
+            assert!(outcome.printed.contains("35 of 36 rows right"));
         }
     }
     let short = folder.write("short.txt", lines[..20].join("\n").as_bytes());

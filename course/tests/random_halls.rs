@@ -260,17 +260,18 @@ fn made_halls_reach_the_usual_answers() {
         let usual = [0, 10, 11, 12, 13, 14, 15, 16, 17, 20, 21, 22, 23];
         assert_eq!(codes, BTreeSet::from(usual), "{seed}");
         let second = &session.steps[made.first_part..];
+        let registers = |step: &&Step| matches!(step.order, Ok(Order::Register(_)));
         let room = [causes::RATE, causes::DELAY, causes::BACKLOG];
-        assert!(
-            second.iter().any(|step| room.contains(&step.answer.code)),
-            "{seed}"
-        );
-        assert!(
-            second
-                .iter()
-                .any(|step| step.work.is_some() && step.answer.code == 0),
-            "{seed}"
-        );
+        for wanted in [&room[..], &[causes::DONE]] {
+            let mut registrations = second.iter().filter(registers);
+            let met = registrations.any(|step| wanted.contains(&step.answer.code));
+            assert!(met, "{seed}: {wanted:?}");
+        }
+        let changes = second
+            .iter()
+            .filter(|step| matches!(step.order, Ok(Order::Change(_))));
+        let changes: Vec<u64> = changes.map(|step| step.answer.code).collect();
+        assert!(matches!(changes[..], [22 | 23, 0]), "{seed}: {changes:?}");
         let queues = &session.registry.queues;
         with_fibre += usize::from(queues.iter().any(|queue| queue.fixed_delay > 0));
         by_cable += session

@@ -81,6 +81,31 @@ fn nothing_with_a_release() {
     assert_eq!(said(&hall_lines(&[5, 18, 23])), None);
 }
 
+/// Nor is a change, which goes by what is held when it comes: before its registration it gets 13.
+#[test]
+fn nothing_with_a_change() {
+    let (whole, change) = (
+        hall_lines(&[1, 2, 3, 5, 6]),
+        hall_lines(&[36]).replace("203", "201"),
+    );
+    for (orders, codes) in [
+        (whole.clone() + &change, [0, 0, 0, 0, 0, 0]),
+        (change + &whole, [13, 0, 0, 0, 0, 0]),
+    ] {
+        let (answers, _) = answered(&orders);
+        assert_eq!(
+            answers
+                .iter()
+                .map(|answer| answer.code)
+                .collect::<Vec<u64>>(),
+            codes
+        );
+        assert_eq!(said(&orders), None);
+    }
+    // A malformed one is no change, but a line that isn't admitted.
+    assert_eq!(said(&(whole + " 3   201    20000    616\n")), some_of(5, 6));
+}
+
 #[test]
 fn nothing_of_a_single_line() {
     for numbers in [&[][..], &[1], &[17], &[1, 13], &[13, 14]] {

@@ -8,20 +8,9 @@ use course::mark::marks;
 use course::mark::sheet::Row;
 use course::mark::slips::Expected;
 use course::session::Session;
-use plain::causes;
-use plain::orders::{code_of, Order};
+use plain::orders::code_of;
 use plain::registry::{Answer, Registry};
 use plain::slips::{Blocking, Slips};
-
-/// What becomes of an order that was answered so.
-fn carry_out(registry: &mut Registry, order: &Order, answer: &Answer) {
-    match (order, answer.code) {
-        (Order::Register(flow), causes::DONE) => registry.put_in(flow),
-        (Order::Register(flow), code) => registry.keep_early(flow, code, answer.link),
-        (Order::Release(number), causes::DONE) => registry.take_out(*number),
-        (Order::Release(_), _) => {}
-    }
-}
 
 /// The rows of a trainee who makes one slip all along, without the longest stays.
 fn sheet(session: &Session, slips: Slips) -> Vec<Row> {
@@ -29,11 +18,7 @@ fn sheet(session: &Session, slips: Slips) -> Vec<Row> {
     let mut rows = Vec::new();
     for step in &session.steps {
         let (answer, work) = match &step.order {
-            Ok(order) => {
-                let answered = registry.answer_to(order);
-                carry_out(&mut registry, order, &answered.0);
-                answered
-            }
+            Ok(order) => registry.perform(order),
             Err(faults) => (Answer::plain(code_of(faults)), None),
         };
         let own = Expected::of(&answer, work.as_ref(), &registry);

@@ -38,7 +38,8 @@ pub fn full_slots(rng: &mut Rng) -> (Vec<Queue>, Vec<Vec<u8>>) {
         ..rng.pick(&[SMALL, WIDE])
     };
     let mix = Mix {
-        releases: 4,
+        releases: 3,
+        changes: 2,
         odd: 2,
     };
     lines.extend(order_lines(rng, &queues, reused, mix, 60));
@@ -68,6 +69,7 @@ pub fn full_hops(rng: &mut Rng) -> (Vec<Queue>, Vec<Vec<u8>>) {
     };
     let mix = Mix {
         releases: 3,
+        changes: 2,
         odd: 1,
     };
     lines.extend(order_lines(rng, &queues, reused, mix, 40));

@@ -8,8 +8,8 @@ pub mod sources;
 pub mod tables;
 
 use full::{full_hops, full_slots};
-use orders::{flow, one_byte, order_lines, Demand, Mix, LIKE_THE_SUMS, SMALL, WIDE};
-use plain::orders::{write_registration, Flow, LARGEST_FRAME, SMALLEST_FRAME};
+use orders::{change, flow, one_byte, order_lines, Demand, Mix, LIKE_THE_SUMS, SMALL, WIDE};
+use plain::orders::{write_change, write_registration, Flow, LARGEST_FRAME, SMALLEST_FRAME};
 use plain::programs::ANSWER_BYTES;
 use plain::registry::Registry;
 use plain::table::{write_queue, Queue, LENGTHS, MOST_TABLE_BYTES};
@@ -145,14 +145,15 @@ fn sums_network(rng: &mut Rng) -> Vec<Queue> {
 
 fn mixed_lines(rng: &mut Rng, queues: &[Queue], demand: Demand, most: u64) -> Vec<Vec<u8>> {
     let mix = Mix {
-        releases: rng.between(0, 4),
+        releases: rng.between(0, 3),
+        changes: rng.between(0, 3),
         odd: rng.between(0, 3),
     };
     let count = rng.between(0, most) as usize;
     order_lines(rng, queues, demand, mix, count)
 }
 
-/// Limits that are the bounds of a set of flows or one below, and the same flows again.
+/// Limits that are the bounds of a set of flows or one below, and the same flows again; then changes of them.
 fn tight(rng: &mut Rng) -> (Vec<Queue>, Vec<Vec<u8>>) {
     let links = rng.between(1, 6);
     let mut queues = loose(rng, Shape::Mesh, links, 4, &[10, 100, 1_000]);
@@ -182,7 +183,12 @@ fn tight(rng: &mut Rng) -> (Vec<Queue>, Vec<Vec<u8>>) {
         last.burst += rng.between(0, 1);
     }
     rng.shuffle(&mut flows);
-    let lines = flows.iter().map(write_registration).collect();
+    let mut lines: Vec<Vec<u8>> = flows.iter().map(write_registration).collect();
+    let changes = if flows.is_empty() { 0 } else { rng.index(20) };
+    for _ in 0..changes {
+        let held = rng.pick(&flows);
+        lines.push(write_change(&change(rng, &held, WIDE)));
+    }
     (queues, lines)
 }
 

@@ -1,9 +1,9 @@
-//! Order lines over a table: flows along real paths, single faults of every kind, releases.
+//! Order lines over a table: flows along real paths, single faults of every kind, releases, changes.
 
 use crate::rng::Rng;
 use crate::tables::least_deadline;
 use plain::columns::put;
-use plain::orders::{write_registration, write_release, Flow, Hop};
+use plain::orders::{write_change, write_registration, write_release, Change, Flow, Hop};
 use plain::table::Queue;
 
 /// A random walk over the links of a table, no link twice, at random levels.
@@ -152,6 +152,55 @@ fn odd_line(rng: &mut Rng, flow: &Flow) -> Vec<u8> {
     }
 }
 
+/// A change of a flow: of its rate, its burst, both or neither, to one less or more or to any that flows have, among these
+/// bursts below the frame and such as no queue has room for.
+pub fn change(rng: &mut Rng, flow: &Flow, demand: Demand) -> Change {
+    let (of_rate, of_burst) =
+        rng.pick(&[(true, true), (true, false), (false, true), (false, false)]);
+    let mut other = |known: u64, any: &[u64]| match rng.between(0, 4) {
+        0 => known + 1,
+        1 => known.saturating_sub(1),
+        _ => rng.pick(any),
+    };
+    let (rate, burst) = (
+        other(flow.rate, demand.rates),
+        other(flow.burst, demand.bursts),
+    );
+    Change {
+        number: flow.number,
+        rate: if of_rate {
+            rate.clamp(1, 10_000_000)
+        } else {
+            flow.rate
+        },
+        burst: match (of_burst, rng.once_in(8)) {
+            (true, true) => flow.frame.saturating_sub(rng.between(0, 1)).max(84),
+            (true, false) => burst.clamp(84, 1_000_000),
+            (false, _) => flow.burst,
+        },
+    }
+}
+
+/// A change with a fault in its columns or a number past its range.
+fn odd_change(rng: &mut Rng, mut change: Change) -> Vec<u8> {
+    match rng.between(0, 5) {
+        0 => change.number = rng.pick(&[0, 65_536]),
+        1 => change.rate = rng.pick(&[0, 10_000_001]),
+        2 => change.burst = rng.pick(&[83, 1_000_001]),
+        _ => {}
+    }
+    let mut line = write_change(&change);
+    match rng.between(0, 5) {
+        0 => {
+            line.remove(rng.index(line.len() - 1));
+        }
+        1 => line.insert(line.len() - 1, rng.pick(b" 0x")),
+        2 => one_byte(rng, &mut line),
+        _ => {}
+    }
+    line
+}
+
 /// One byte changed, put in or taken out.
 pub fn one_byte(rng: &mut Rng, text: &mut Vec<u8>) {
     if text.is_empty() {
@@ -177,6 +226,7 @@ pub fn one_byte(rng: &mut Rng, text: &mut Vec<u8>) {
 #[derive(Clone, Copy)]
 pub struct Mix {
     pub releases: u64,
+    pub changes: u64,
     pub odd: u64,
 }
 
@@ -188,7 +238,7 @@ pub fn order_lines(
     mix: Mix,
     count: usize,
 ) -> Vec<Vec<u8>> {
-    let mut given: Vec<u64> = Vec::new();
+    let mut given: Vec<Flow> = Vec::new();
     let mut lines = Vec::new();
     for _ in 0..count {
         let dice = rng.between(1, 10);
@@ -197,13 +247,26 @@ pub fn order_lines(
                 rng.pick(&[0, 1, 65_535, 65_536, 70])
             } else {
                 let index = rng.index(given.len());
-                given.swap_remove(index)
+                given.swap_remove(index).number
             };
             lines.push(write_release(number));
             continue;
         }
         let mut new = flow(rng, queues, demand);
-        if dice <= mix.releases + mix.odd {
+        if dice <= mix.releases + mix.changes {
+            let known = if given.is_empty() || rng.once_in(12) {
+                &new
+            } else {
+                &given[rng.index(given.len())]
+            };
+            let wanted = change(rng, known, demand);
+            lines.push(match rng.once_in(4) {
+                true => odd_change(rng, wanted),
+                false => write_change(&wanted),
+            });
+            continue;
+        }
+        if dice <= mix.releases + mix.changes + mix.odd {
             if rng.once_in(2) {
                 lines.push(odd_line(rng, &new));
                 continue;
@@ -212,8 +275,8 @@ pub fn order_lines(
                 one_odd_value(rng, &mut new);
             }
         }
-        given.push(new.number);
         lines.push(write_registration(&new));
+        given.push(new);
     }
     lines
 }

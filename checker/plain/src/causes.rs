@@ -53,6 +53,9 @@ pub const REGISTRATION: [&[u64]; 9] = [
 /// The causes against a release that was read.
 pub const RELEASE: [&[u64]; 1] = [&[NOT_HELD]];
 
+/// The causes against a change that was read; 17 is against the held flow's frame.
+pub const CHANGE: [&[u64]; 3] = [&[NOT_HELD], &[FRAME], &[RATE, DELAY, BACKLOG]];
+
 /// What a code means, in a few words.
 pub fn meaning(code: u64) -> &'static str {
     let found = MEANINGS.iter().find(|(known, _)| *known == code);

@@ -1,6 +1,6 @@
-//! The reference model: document 01, with W-201, W-202 and W-208 of document 02, in the plainest way, worked out anew for each
-//! order. Every number and rule of the papers stands here once: fields and ranges in `table` and `orders`, sizes beside
-//! what they limit, the order of causes in `causes`, the formulas in `formula`.
+//! The reference model: document 01, with W-201, W-202, W-206 and W-208 of document 02, in the plainest way, worked out
+//! anew for each order. Every number and rule of the papers stands here once: fields and ranges in `table` and `orders`,
+//! sizes beside what they limit, the order of causes in `causes`, the formulas in `formula`.
 
 mod calls;
 pub mod causes;

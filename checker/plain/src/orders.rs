@@ -1,4 +1,5 @@
-//! Document 01's order line: a registration with a whole flow, a release with a flow number, or the code 10 or 11.
+//! Document 01's order line: a registration with a whole flow, a release with a flow number, W-206's change with a flow
+//! number, rate and burst, or the code 10 or 11.
 
 use crate::causes;
 use crate::columns::{lines, put, Field, Line};
@@ -25,31 +26,46 @@ pub struct Flow {
     pub hops: Vec<Hop>,
 }
 
+/// What the held flow with this number is to have from now on.
+#[derive(Clone, Copy, Debug, PartialEq)]
+pub struct Change {
+    pub number: u64,
+    /// kbit/s.
+    pub rate: u64,
+    /// Bytes.
+    pub burst: u64,
+}
+
 #[derive(Clone, Debug, PartialEq)]
 pub enum Order {
     Register(Flow),
     Release(u64),
+    Change(Change),
 }
 
 pub const REGISTER: u64 = 1;
 pub const RELEASE: u64 = 2;
+pub const CHANGE: u64 = 3;
 pub const MOST_HOPS: u64 = 12;
 pub const SMALLEST_FRAME: u64 = 84;
 pub const LARGEST_FRAME: u64 = 1_542;
 
-const KIND_RANGE: &[(u64, u64)] = &[(REGISTER, RELEASE)];
+const KIND_RANGE: &[(u64, u64)] = &[(REGISTER, CHANGE)];
 
 pub const KIND: Field = Field::new("kind", "", (1, 2), KIND_RANGE);
 pub const NUMBER: Field = Field::new("flow number", "", (3, 8), &[(1, 65_535)]);
+const RATE: Field = Field::new("rate", "kbit/s", (9, 17), &[(1, 10_000_000)]);
+const BURST: Field = Field::new("burst", "bytes", (18, 25), &[(SMALLEST_FRAME, 1_000_000)]);
 #[rustfmt::skip]
 const REGISTRATION: [Field; 6] = [
     NUMBER,
-    Field::new("rate", "kbit/s", (9, 17), &[(1, 10_000_000)]),
-    Field::new("burst", "bytes", (18, 25), &[(SMALLEST_FRAME, 1_000_000)]),
+    RATE,
+    BURST,
     Field::new("largest frame", "bytes", (26, 30), &[(SMALLEST_FRAME, LARGEST_FRAME)]),
     Field::new("deadline", "µs", (31, 38), &[(1, 10_000_000)]),
     Field::new("hop count", "", (39, 41), &[(1, MOST_HOPS)]),
 ];
+const CHANGED: [Field; 3] = [NUMBER, RATE, BURST];
 /// A hop's fields, as columns after those before it.
 const HOP: [Field; 2] = [
     Field::new("hop's link", "", (1, 4), &[]),
@@ -66,7 +82,7 @@ pub struct Kind {
     pub path: bool,
 }
 
-pub const KINDS: [Kind; 2] = [
+pub const KINDS: [Kind; 3] = [
     Kind {
         number: REGISTER,
         word: "register",
@@ -77,6 +93,12 @@ pub const KINDS: [Kind; 2] = [
         number: RELEASE,
         word: "release",
         fields: &[NUMBER],
+        path: false,
+    },
+    Kind {
+        number: CHANGE,
+        word: "change",
+        fields: &CHANGED,
         path: false,
     },
 ];
@@ -140,6 +162,11 @@ fn examine_kind(kind: &Kind, line: &[u8]) -> Result<Order, Vec<Fault>> {
             frame: values[3],
             deadline: values[4],
             hops,
+        }),
+        CHANGE => Order::Change(Change {
+            number: values[0],
+            rate: values[1],
+            burst: values[2],
         }),
         _ => Order::Release(values[0]),
     })
@@ -261,9 +288,25 @@ pub fn write_registration(flow: &Flow) -> Vec<u8> {
 
 /// A release's whole line with its LF.
 pub fn write_release(number: u64) -> Vec<u8> {
+    write_line(RELEASE, &[(NUMBER, number)])
+}
+
+/// A change's whole line with its LF.
+pub fn write_change(change: &Change) -> Vec<u8> {
+    let Change {
+        number,
+        rate,
+        burst,
+    } = *change;
+    write_line(CHANGE, &[(NUMBER, number), (RATE, rate), (BURST, burst)])
+}
+
+fn write_line(kind: u64, numbers: &[(Field, u64)]) -> Vec<u8> {
     let mut line = Vec::new();
-    put(&mut line, RELEASE, KIND.last);
-    NUMBER.put(&mut line, number);
+    KIND.put(&mut line, kind);
+    for (field, value) in numbers {
+        field.put(&mut line, *value);
+    }
     line.push(b'\n');
     line
 }

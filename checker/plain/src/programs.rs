@@ -3,7 +3,7 @@
 use crate::causes;
 use crate::columns::{field, lines, put, Line};
 use crate::formula::Aggregate;
-use crate::orders::{read_order, write_flow, Flow, REGISTER, RELEASE};
+use crate::orders::{read_order, write_flow, Flow, KINDS};
 use crate::registry::{Answer, Registry};
 use crate::table::{Queue, Refusal};
 
@@ -94,9 +94,8 @@ pub fn replay(table: &[u8], calls: &[u8]) -> Vec<u8> {
     if let Some(refusal) = refused {
         put_refusal(&mut printed, refusal.code, refusal.line);
     }
-    put_calls(&mut printed, calls, |kind, given| match kind {
-        REGISTER => registry.register(given),
-        _ => registry.release(given),
+    put_calls(&mut printed, calls, |kind, given| {
+        registry.call(kind, given)
     });
     let sums: Vec<Aggregate> = registry
         .queues
@@ -140,7 +139,8 @@ fn next_call(calls: &[u8]) -> Option<(u64, &[u8])> {
     let header = calls.get(..CALL_HEADER)?;
     let kind = field(header, 1, 2)?;
     let count = field(header, 3, 8)? as usize;
-    if header[8] != b'\n' || !(kind == REGISTER || kind == RELEASE) {
+    let known = KINDS.iter().any(|order| order.number == kind);
+    if header[8] != b'\n' || !known {
         return None;
     }
     let given = calls.get(CALL_HEADER..CALL_HEADER + count)?;

@@ -3,7 +3,7 @@
 
 use crate::causes;
 use crate::formula::Aggregate;
-use crate::orders::{Flow, Hop};
+use crate::orders::{Change, Flow, Hop};
 use crate::slips::Slips;
 use crate::table::{read_table, Queue, Refusal};
 
@@ -114,6 +114,37 @@ impl Registry {
             self.residue
                 .extend(flow.hops.iter().map(|&hop| (hop, left)));
         }
+    }
+
+    /// The held flow with a change's number, so changed, and the slot where it stands; none where it isn't held.
+    pub fn changed(&self, change: &Change) -> Option<(usize, Flow)> {
+        let index = self.holder(change.number)?;
+        let held = self.slots[index].clone()?;
+        let changed = Flow {
+            rate: change.rate,
+            burst: change.burst,
+            ..held
+        };
+        Some((index, changed))
+    }
+
+    /// The changed flow in its old slot; nothing where it isn't held.
+    pub fn put_changed(&mut self, change: &Change) {
+        let Some((index, flow)) = self.changed(change) else {
+            return;
+        };
+        let held = self.slots[index].replace(flow);
+        if let Some(old) = held.filter(|_| self.slips.share_left) {
+            let left = self.hops_work(&old).into_iter();
+            self.residue.extend(left.map(|hop| (hop.hop, hop.share)));
+        }
+    }
+
+    /// The same without the flow of this slot.
+    pub fn without(&self, index: usize) -> Registry {
+        let mut others = self.clone();
+        others.slots[index] = None;
+        others
     }
 
     pub fn holder(&self, number: u64) -> Option<usize> {

@@ -1,6 +1,6 @@
-//! Document 01, "Where trainees and programs slip", slips with W-202's best-effort frames, and the count of S from before
-//! W-208: each is a switch that turns one rule wrong, so that an answer can be recognised by the slip that gives it. All
-//! else goes by the rules; with no switch on, everything does.
+//! Document 01, "Where trainees and programs slip", slips with W-202's best-effort frames, the count of S from before W-208,
+//! and a slip with W-206's changes: each is a switch that turns one rule wrong, so that an answer can be recognised by the
+//! slip that gives it. All else goes by the rules; with no switch on, everything does.
 
 use crate::formula::{burst_at_hop, growth, hop_growth, Sums};
 
@@ -43,6 +43,8 @@ pub struct Slips {
     pub stored_early: bool,
     /// A delay's fraction is dropped before it is compared.
     pub fraction_dropped: bool,
+    /// A changed flow is counted in beside what it had before.
+    pub share_left: bool,
     pub growth: Growth,
     pub blocking: Blocking,
 }
@@ -52,6 +54,7 @@ const NO_SLIP: Slips = Slips {
     frame_left: false,
     stored_early: false,
     fraction_dropped: false,
+    share_left: false,
     growth: Growth::Once,
     blocking: Blocking::Larger,
 };
@@ -59,9 +62,9 @@ const NO_SLIP: Slips = Slips {
 impl Slips {
     pub const NONE: Slips = NO_SLIP;
 
-    /// Each slip by itself, in document 01's order, then W-202's, then W-208's, with its name.
+    /// Each slip by itself, in document 01's order, then W-202's, then W-208's, then W-206's, with its name.
     #[rustfmt::skip]
-    pub const EACH: [(&'static str, Slips); 10] = [
+    pub const EACH: [(&'static str, Slips); 11] = [
         ("only the levels below checked", Slips { only_below: true, ..Slips::NONE }),
         ("largest frame left on release", Slips { frame_left: true, ..Slips::NONE }),
         ("first links stored before a refusal at the last", Slips { stored_early: true, ..Slips::NONE }),
@@ -72,6 +75,7 @@ impl Slips {
         ("best-effort frame left out at the last level", Slips { blocking: Blocking::LeftOutAtTheLast, ..Slips::NONE }),
         ("best-effort frame added to the frame below", Slips { blocking: Blocking::Added, ..Slips::NONE }),
         ("whole thresholds", Slips { growth: Growth::WholeThresholds, ..Slips::NONE }),
+        ("old share left on a change", Slips { share_left: true, ..Slips::NONE }),
     ];
 
     /// A hop's part of S for the hops after it, by the threshold of its queue and the speed of its link.

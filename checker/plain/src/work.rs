@@ -1,8 +1,8 @@
-//! A registration judged, with all that is worked out on the way: the sums on paper, up to the first cause.
+//! A registration or a change judged, with all that is worked out on the way: the sums on paper, up to the first cause.
 
 use crate::causes;
 use crate::formula::{rate_limit, rate_sum, Aggregate, Sums};
-use crate::orders::{Flow, Hop};
+use crate::orders::{Change, Flow, Hop};
 use crate::registry::{growth_at, queue_at, share_at};
 use crate::registry::{Answer, Registry, HOP_POOL, SLOTS};
 use crate::slips::Slips;
@@ -48,12 +48,12 @@ pub struct HopWork {
     pub share: Aggregate,
 }
 
-/// What was worked out for a registration that was read.
+/// What was worked out for a registration or a change that was read.
 #[derive(Clone, Debug, Default)]
 pub struct Work {
     /// The first cause against it.
     pub refused: Option<Answer>,
-    /// Along the path; empty where 14 is met at the latest.
+    /// Along the path; empty where an earlier cause than 20 is met, and for a change than 21.
     pub hops: Vec<HopWork>,
     /// Held slots and held hop entries before it.
     pub held: (usize, usize),
@@ -159,19 +159,6 @@ impl LinkWork {
     }
 }
 
-/// What a flow adds at each hop of its path.
-pub fn hops_work(queues: &[Queue], flow: &Flow, slips: &Slips) -> Vec<HopWork> {
-    let growth = |&hop: &Hop| growth_at(queues, hop, slips);
-    let hop = |(index, hop): (usize, &Hop)| HopWork {
-        hop: *hop,
-        queue: queue_at(queues, *hop).cloned().unwrap_or_default(),
-        earlier: flow.hops[..index].iter().map(growth).sum(),
-        growth: growth(hop),
-        share: share_at(queues, flow, index, slips),
-    };
-    flow.hops.iter().enumerate().map(hop).collect()
-}
-
 /// The first of 14, 16 and 15 of this code, first hop first.
 fn path_cause(queues: &[Queue], hops: &[Hop], code: u64) -> Option<Answer> {
     let meets = |i: usize| match code {
@@ -190,12 +177,31 @@ fn path_cause(queues: &[Queue], hops: &[Hop], code: u64) -> Option<Answer> {
 impl Registry {
     /// Judges a registration whose line is well-formed and in range: cause after cause, in document 01's order.
     pub fn judge(&self, flow: &Flow) -> Work {
+        self.judge_by(&causes::REGISTRATION, flow)
+    }
+
+    /// Judges a change whose line is well-formed and in range: the flow with its new rate and burst beside the others, so that
+    /// its new share stands in place of the old. 20, 30 and 31 can't turn: path, deadline and places stay.
+    pub fn judge_change(&self, change: &Change) -> Work {
+        let [not_held, later @ ..] = &causes::CHANGE;
+        match self.changed(change) {
+            Some((_, flow)) if self.slips.share_left => self.judge_by(later, &flow),
+            Some((index, flow)) => self.without(index).judge_by(later, &flow),
+            None => Work {
+                refused: Some(Answer::plain(not_held[0])),
+                ..Work::default()
+            },
+        }
+    }
+
+    /// The first of these causes that a flow meets beside those held.
+    fn judge_by(&self, groups: &[&[u64]], flow: &Flow) -> Work {
         let held = self.held();
         let mut work = Work {
             held: (held.len(), held.iter().map(|flow| flow.hops.len()).sum()),
             ..Work::default()
         };
-        for group in causes::REGISTRATION {
+        for group in groups {
             work.refused = self.cause(group[0], flow, &mut work);
             if work.refused.is_some() {
                 break;
@@ -212,7 +218,7 @@ impl Registry {
                 return path_cause(&self.queues, &flow.hops, code);
             }
             causes::DEADLINE => {
-                work.hops = hops_work(&self.queues, flow, &self.slips);
+                work.hops = self.hops_work(flow);
                 work.end_to_end() > u128::from(flow.deadline)
             }
             causes::NO_SLOT => work.held.0 == SLOTS,
@@ -222,7 +228,24 @@ impl Registry {
         met.then(|| Answer::plain(code))
     }
 
+    /// What a flow adds at each hop of its path.
+    pub fn hops_work(&self, flow: &Flow) -> Vec<HopWork> {
+        let (queues, slips) = (&self.queues, &self.slips);
+        let growth = |&hop: &Hop| growth_at(queues, hop, slips);
+        let hop = |(index, hop): (usize, &Hop)| HopWork {
+            hop: *hop,
+            queue: queue_at(queues, *hop).cloned().unwrap_or_default(),
+            earlier: flow.hops[..index].iter().map(growth).sum(),
+            growth: growth(hop),
+            share: share_at(queues, flow, index, slips),
+        };
+        flow.hops.iter().enumerate().map(hop).collect()
+    }
+
     fn links_cause(&self, flow: &Flow, work: &mut Work) -> Option<Answer> {
+        if work.hops.is_empty() {
+            work.hops = self.hops_work(flow);
+        }
         for hop in &flow.hops {
             let link = self.link_work(hop.link, Some(flow));
             let refused = link.first_cause(hop.level, &self.slips);

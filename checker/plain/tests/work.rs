@@ -1,9 +1,10 @@
-//! What a judged registration shows of its sums, by document 01's hand sums; what each slip makes of them; all faults of a line.
+//! What a judged registration or change shows of its sums, by document 01's hand sums; what each slip makes of them; all
+//! faults of a line.
 
 use plain::columns::lines;
 use plain::faults::{first_class, Class, What};
 use plain::formula::Aggregate;
-use plain::orders::{examine, Flow, Hop};
+use plain::orders::{examine, write_change, Change, Flow, Hop, CHANGE};
 use plain::registry::Registry;
 use plain::slips::{Growth, Slips};
 use plain::table::Queue;
@@ -255,6 +256,59 @@ fn what_a_refusal_leaves() {
             .into();
         assert_eq!(sums, [burst, 0]);
         assert!(registry.held().is_empty());
+    }
+}
+
+/// A change to twice the rate over two links: the share at the second is 1,542 + ceil(2,000 × 364 / 8000) = 1,633 in
+/// place of 1,588, and stands there alone; with the slip it stands beside the old one, checked and stored.
+#[test]
+fn what_a_change_leaves() {
+    let left = Slips {
+        share_left: true,
+        ..Slips::NONE
+    };
+    let change = Change {
+        number: 7,
+        rate: 2_000,
+        burst: 1_542,
+    };
+    for (slips, rate, burst) in [(Slips::NONE, 2_000, 1_633), (left, 3_000, 3_221)] {
+        let mut registry = Registry::slipping(row(2, &[(371, 5_000)]), slips);
+        registry.queues[1].threshold = 400;
+        for number in [6, 7] {
+            registry.put_in(&flow(number, 2, 1));
+        }
+        registry.take_out(6);
+        let work = registry.judge_change(&change);
+        assert_eq!(work.refused, None);
+        let bursts: Vec<u128> = work.hops.iter().map(|hop| hop.share.burst).collect();
+        assert_eq!(bursts, [1_542, 1_633]);
+        let judged = &work.links[1].levels[0].figures;
+        assert_eq!((judged.rate, judged.burst), (rate, burst));
+        let answer = registry.call(CHANGE, &write_change(&change));
+        assert_eq!((answer.code, answer.slot), (0, 2));
+        assert_eq!(registry.figures(2, None)[0].1, *judged);
+        let held = Flow {
+            rate: 2_000,
+            ..flow(7, 2, 1)
+        };
+        assert_eq!(registry.held(), [&held]);
+    }
+}
+
+/// Nothing is worked out of a flow that isn't held; where 17 is met, nothing of its path.
+#[test]
+fn changes_refused_before_their_links() {
+    let mut registry = Registry::over(row(1, &[(371, 5_000)]));
+    registry.put_in(&flow(7, 1, 1));
+    for (number, burst, code) in [(8, 1_541, 13), (7, 1_541, 17)] {
+        let work = registry.judge_change(&Change {
+            number,
+            rate: 1,
+            burst,
+        });
+        assert_eq!(work.refused.map(|answer| answer.code), Some(code));
+        assert!(work.hops.is_empty() && work.links.is_empty());
     }
 }
 

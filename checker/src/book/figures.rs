@@ -31,6 +31,16 @@ impl Aggregate {
             frame: self.frame.max(u64::from(flow.frame)),
         }
     }
+
+    /// With a flow's share by its new rate and burst in place of the old; its frame is the same.
+    #[inline]
+    fn with_change(self, old: &Slot, new: &Slot, earlier: u64) -> Aggregate {
+        Aggregate {
+            rate: self.rate - u64::from(old.rate) + u64::from(new.rate),
+            burst: self.burst - burst_at_hop(old, earlier) + burst_at_hop(new, earlier),
+            frame: self.frame,
+        }
+    }
 }
 
 /// The shortest time in which a link sends a frame, µs: the smallest has 672 bits.
@@ -45,6 +55,23 @@ fn hop_growth(threshold: u32, speed: u32) -> u32 {
     threshold.saturating_sub(shortest_sending(speed))
 }
 
+/// The hops of a path as queue numbers, each with S, the parts of the hops before it summed.
+#[inline(always)]
+fn growths<'a>(path: &'a [u32], table: &'a Table) -> impl Iterator<Item = (usize, u64)> + 'a {
+    let mut sum = 0;
+    path.iter().map(move |&entry| {
+        let (entry, earlier) = (entry as usize, sum);
+        let (queue, link) = (&table.queues[entry], &table.links[entry / LEVELS]);
+        sum += u64::from(hop_growth(queue.threshold, link.speed));
+        (entry, earlier)
+    })
+}
+
+#[inline(always)]
+fn burst_at_hop(flow: &Slot, earlier: u64) -> u64 {
+    u64::from(flow.burst) + (u64::from(flow.rate) * earlier).div_ceil(8000)
+}
+
 /// The hops of a path as queue numbers, each with the flow's burst there.
 #[inline(always)]
 fn bursts<'a>(
@@ -52,14 +79,7 @@ fn bursts<'a>(
     path: &'a [u32],
     table: &'a Table,
 ) -> impl Iterator<Item = (usize, u64)> + 'a {
-    let mut earlier = 0;
-    path.iter().map(move |&entry| {
-        let entry = entry as usize;
-        let burst = u64::from(flow.burst) + (u64::from(flow.rate) * earlier).div_ceil(8000);
-        let (queue, link) = (&table.queues[entry], &table.links[entry / LEVELS]);
-        earlier += u64::from(hop_growth(queue.threshold, link.speed));
-        (entry, burst)
-    })
+    growths(path, table).map(|(entry, earlier)| (entry, burst_at_hop(flow, earlier)))
 }
 
 /// 21, 22 or 23 at a link with these figures, and the level named.
@@ -106,18 +126,45 @@ pub fn check_links(
     table: &Table,
     sums: &[Aggregate; QUEUES],
 ) -> Result<(), Answer> {
-    let (links, _) = sums.as_chunks::<LEVELS>();
     for (entry, burst) in bursts(flow, path, table) {
-        let (link, level) = (entry / LEVELS, entry % LEVELS);
-        let mut levels = links[link];
-        levels[level] = levels[level].with_flow(flow, burst);
-        let queues = &table.queues[LEVELS * link..LEVELS * (link + 1)];
-        match check_link(&table.links[link], queues, &levels) {
-            Ok(()) => {}
-            Err((code, level)) => return Err(Answer::at(code, link as u32 + 1, level)),
-        }
+        check_at(entry, |own| own.with_flow(flow, burst), table, sums)?;
     }
     Ok(())
+}
+
+/// The same with a held flow counted by its new rate and burst in place of the old.
+#[inline]
+pub fn check_change(
+    old: &Slot,
+    new: &Slot,
+    path: &[u32],
+    table: &Table,
+    sums: &[Aggregate; QUEUES],
+) -> Result<(), Answer> {
+    for (entry, earlier) in growths(path, table) {
+        let counted = |own: Aggregate| own.with_change(old, new, earlier);
+        check_at(entry, counted, table, sums)?;
+    }
+    Ok(())
+}
+
+/// 21, 22 and 23 at the link of a queue whose own figures are counted so.
+#[inline(always)]
+fn check_at(
+    entry: usize,
+    counted: impl FnOnce(Aggregate) -> Aggregate,
+    table: &Table,
+    sums: &[Aggregate; QUEUES],
+) -> Result<(), Answer> {
+    let (link, level) = (entry / LEVELS, entry % LEVELS);
+    let (links, _) = sums.as_chunks::<LEVELS>();
+    let mut levels = links[link];
+    levels[level] = counted(levels[level]);
+    let queues = &table.queues[LEVELS * link..LEVELS * (link + 1)];
+    match check_link(&table.links[link], queues, &levels) {
+        Ok(()) => Ok(()),
+        Err((code, level)) => Err(Answer::at(code, link as u32 + 1, level)),
+    }
 }
 
 /// Counts a flow in at each queue of its path.
@@ -125,6 +172,20 @@ pub fn check_links(
 pub fn add_path(flow: &Slot, path: &[u32], table: &Table, sums: &mut [Aggregate; QUEUES]) {
     for (entry, burst) in bursts(flow, path, table) {
         sums[entry] = sums[entry].with_flow(flow, burst);
+    }
+}
+
+/// Counts a held flow by its new rate and burst in place of the old at each queue of its path.
+#[inline]
+pub fn change_path(
+    old: &Slot,
+    new: &Slot,
+    path: &[u32],
+    table: &Table,
+    sums: &mut [Aggregate; QUEUES],
+) {
+    for (entry, earlier) in growths(path, table) {
+        sums[entry] = sums[entry].with_change(old, new, earlier);
     }
 }
 

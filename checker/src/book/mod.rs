@@ -13,7 +13,7 @@ mod table;
 use crate::answer::{put_answer, Answer, ANSWER_LINE};
 use crate::calls::Calls;
 pub use figures::Aggregate;
-use orders::{read_call, read_order, Hop, Order};
+use orders::{read_call, read_order, Change, Hop, Order};
 pub use store::{Slot, Store};
 pub use table::{Link, Queue, Table};
 
@@ -68,6 +68,7 @@ impl Registry {
         let done = match order {
             Order::Register(flow) => self.put_in(flow, &hops[..flow.hops as usize]),
             Order::Release(number) => self.take_out(number),
+            Order::Change(change) => self.change(change),
             Order::Refused(code) => Err(Answer::plain(code)),
         };
         match done {
@@ -106,7 +107,7 @@ impl Registry {
         let slot = self.store.find(number).ok_or(Answer::plain(13))?;
         let flow = self.store.slots[slot];
         let start = self.store.hop_sum(slot) as usize;
-        let path = &self.store.pool[start..start + flow.hops as usize];
+        let path = self.store.path(slot, start);
         let again = figures::remove_path(&flow, path, &self.table, &mut self.sums);
         self.store.remove(slot, start);
         if again {
@@ -114,6 +115,26 @@ impl Registry {
                 figures::raise_path(flow.frame, path, &mut self.sums);
             }
         }
+        Ok(slot)
+    }
+
+    /// Gives a held flow another rate and burst; its slot, or the first cause against it.
+    #[inline]
+    fn change(&mut self, change: Change) -> Result<usize, Answer> {
+        let slot = self.store.find(change.number).ok_or(Answer::plain(13))?;
+        let old = self.store.slots[slot];
+        if change.burst < old.frame {
+            return Err(Answer::plain(17));
+        }
+        let new = Slot {
+            rate: change.rate,
+            burst: change.burst,
+            ..old
+        };
+        let path = self.store.path(slot, self.store.hop_sum(slot) as usize);
+        figures::check_change(&old, &new, path, &self.table, &self.sums)?;
+        figures::change_path(&old, &new, path, &self.table, &mut self.sums);
+        self.store.slots[slot] = new;
         Ok(slot)
     }
 }

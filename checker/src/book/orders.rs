@@ -1,6 +1,7 @@
 //! What an order line says: codes 10 and 11. A registration's hops stand beside it.
 
 use super::columns::field;
+use super::store::{burst_in_range, number_in_range, rate_in_range};
 use super::{Slot, HOPS};
 
 #[derive(Clone, Copy)]
@@ -13,11 +14,20 @@ impl Hop {
     pub const NONE: Hop = Hop { link: 0, level: 0 };
 }
 
+/// A flow number, and the rate and burst that the flow is to have.
+#[derive(Clone, Copy)]
+pub struct Change {
+    pub number: u32,
+    pub rate: u32,
+    pub burst: u32,
+}
+
 pub enum Order {
     /// A flow as its line gives it; its first `hops` hops are in the array beside it.
     Register(Slot),
     /// A flow number.
     Release(u32),
+    Change(Change),
     /// 10 or 11.
     Refused(u32),
 }
@@ -25,6 +35,7 @@ pub enum Order {
 const MALFORMED: u32 = 10;
 const OUT_OF_RANGE: u32 = 11;
 const RELEASE_LINE: usize = 8;
+const CHANGE_LINE: usize = 25;
 const HEAD: usize = 41;
 const HOP_COLUMNS: usize = 6;
 
@@ -34,6 +45,7 @@ pub fn read_order(line: &[u8], hops: &mut [Hop; HOPS]) -> Order {
     let order = match field::<1, 2>(line) {
         Some(1) => read_registration(line, hops),
         Some(2) => read_release(line),
+        Some(3) => read_change(line),
         Some(_) => Err(OUT_OF_RANGE),
         None => Err(MALFORMED),
     };
@@ -60,10 +72,28 @@ fn read_release(line: &[u8]) -> Result<Order, u32> {
         return Err(MALFORMED);
     }
     let number = field::<3, 8>(line).ok_or(MALFORMED)?;
-    if !(1..=65_535).contains(&number) {
+    if !number_in_range(number) {
         return Err(OUT_OF_RANGE);
     }
     Ok(Order::Release(number))
+}
+
+#[inline]
+fn read_change(line: &[u8]) -> Result<Order, u32> {
+    if line.len() != CHANGE_LINE {
+        return Err(MALFORMED);
+    }
+    let number = field::<3, 8>(line).ok_or(MALFORMED)?;
+    let rate = field::<9, 17>(line).ok_or(MALFORMED)?;
+    let burst = field::<18, 25>(line).ok_or(MALFORMED)?;
+    if !(number_in_range(number) && rate_in_range(rate) && burst_in_range(burst)) {
+        return Err(OUT_OF_RANGE);
+    }
+    Ok(Order::Change(Change {
+        number,
+        rate,
+        burst,
+    }))
 }
 
 #[inline]

@@ -29,13 +29,28 @@ pub struct Store {
     pub pool: [u32; POOL],
 }
 
+#[inline(always)]
+pub fn number_in_range(number: u32) -> bool {
+    (1..=65_535).contains(&number)
+}
+
+#[inline(always)]
+pub fn rate_in_range(rate: u32) -> bool {
+    (1..=10_000_000).contains(&rate)
+}
+
+#[inline(always)]
+pub fn burst_in_range(burst: u32) -> bool {
+    (84..=1_000_000).contains(&burst)
+}
+
 impl Slot {
     /// Code 11's ranges, the hop count apart.
     #[inline]
     pub fn in_range(&self) -> bool {
-        (1..=65_535).contains(&self.number)
-            && (1..=10_000_000).contains(&self.rate)
-            && (84..=1_000_000).contains(&self.burst)
+        number_in_range(self.number)
+            && rate_in_range(self.rate)
+            && burst_in_range(self.burst)
             && (84..=1_542).contains(&self.frame)
             && (1..=10_000_000).contains(&self.deadline)
     }
@@ -81,6 +96,12 @@ impl Store {
         let sum = |slots: &[Slot]| slots.iter().map(|slot| u64::from(slot.hops)).sum::<u64>();
         let (blocks, rest) = self.slots[..count].as_chunks::<8>();
         blocks.iter().map(|block| sum(block)).sum::<u64>() + sum(rest)
+    }
+
+    /// The path of a held slot whose entries begin at `start`.
+    #[inline(always)]
+    pub fn path(&self, slot: usize, start: usize) -> &[u32] {
+        &self.pool[start..start + self.slots[slot].hops as usize]
     }
 
     /// Puts a flow with its path in a free slot; `held` hop entries are held before.

@@ -1,22 +1,80 @@
 //! Direct calls: each version's registry against the plain one after every call, and 42 on damaged
 //! registries against document 01's "in order".
 
+use super::changes;
 use crate::answer;
 use crate::views::Version;
 use halls::rng::Rng;
 use halls::Input;
-use plain::columns::lines;
+use plain::columns::{lines, Line};
 use plain::consistency::consistent;
-use plain::orders::{REGISTER, RELEASE};
+use plain::orders::{CHANGE, KIND, KINDS, REGISTER, RELEASE};
 use plain::registry::{Answer, Registry};
 use std::collections::BTreeMap;
 
 /// How often each code occurred.
 pub type Counts = BTreeMap<u64, u64>;
 
+/// What the direct calls of a run met.
+#[derive(Default)]
+pub struct Made {
+    /// All answers, and those of calls to change.
+    pub answers: Counts,
+    pub changes: Counts,
+    /// Calls that were given a line of another kind, by both kinds.
+    pub crossed: BTreeMap<(u64, u64), u64>,
+    /// Calls answered 42, by their kind.
+    pub stopped: Counts,
+}
+
+impl Made {
+    fn add(&mut self, kind: u64, line: &Line, code: u64) {
+        *self.answers.entry(code).or_default() += 1;
+        if kind == CHANGE {
+            *self.changes.entry(code).or_default() += 1;
+        }
+        let known = KIND.read(line.bytes).ok();
+        if let Some(other) = known.filter(|&other| other != kind) {
+            *self.crossed.entry((kind, other)).or_default() += 1;
+        }
+    }
+
+    /// Whatever a run must have met and didn't.
+    pub fn missing(&self) -> Vec<String> {
+        let mut missing = Vec::new();
+        for code in changes::CODES {
+            if !self.changes.contains_key(&code) {
+                missing.push(format!("{code} to a call to change"));
+            }
+        }
+        for one in KINDS {
+            if !self.stopped.contains_key(&one.number) {
+                missing.push(format!("42 to a call to {}", one.word));
+            }
+            for other in KINDS {
+                let pair = (one.number, other.number);
+                if pair.0 != pair.1 && !self.crossed.contains_key(&pair) {
+                    missing.push(format!("a call to {} with a {}", one.word, other.word));
+                }
+            }
+        }
+        missing
+    }
+}
+
 fn same_answer(one: &Answer, other: &answer::Answer) -> bool {
     let fields = [other.code, other.slot, other.link, other.level].map(u64::from);
     [one.code, one.slot, one.link, one.level] == fields
+}
+
+/// The call that a line is for, to register where it is for none; in a faulty list now and then another.
+pub fn call_kind(rng: &mut Rng, line: &[u8], faulty: bool) -> u64 {
+    if faulty && rng.once_in(12) {
+        return rng.pick(&KINDS.map(|kind| kind.number));
+    }
+    let own = KIND.read(line).ok();
+    let known = KINDS.iter().find(|kind| Some(kind.number) == own);
+    known.map_or(REGISTER, |kind| kind.number)
 }
 
 /// What a call is given: the line; in a faulty list now and then a line too many, one unended, or
@@ -40,17 +98,13 @@ pub fn call_bytes(rng: &mut Rng, line: &[u8], faulty: bool) -> Vec<u8> {
 }
 
 /// A batch's orders as direct calls on each version's registry; the same ones for each.
-pub fn one_list(rng: &mut Rng, given: &Input, counts: &mut Counts) -> Result<(), String> {
+pub fn one_list(rng: &mut Rng, given: &Input, made: &mut Made) -> Result<(), String> {
     let mut again = rng.clone();
-    version_list::<crate::book::Registry>(rng, given, counts)?;
-    version_list::<crate::fast::Registry>(&mut again, given, &mut Counts::new())
+    version_list::<crate::book::Registry>(rng, given, made)?;
+    version_list::<crate::fast::Registry>(&mut again, given, &mut Made::default())
 }
 
-fn version_list<R: Version>(
-    rng: &mut Rng,
-    given: &Input,
-    counts: &mut Counts,
-) -> Result<(), String> {
+fn version_list<R: Version>(rng: &mut Rng, given: &Input, made: &mut Made) -> Result<(), String> {
     let (mut plain, refused) = Registry::open(&given.table);
     let mut quick = Box::new(R::EMPTY);
     let outcome = quick.open(&given.table);
@@ -61,15 +115,11 @@ fn version_list<R: Version>(
     let order_lines = lines(&given.orders);
     let faulty = rng.once_in(2);
     for (index, line) in order_lines.iter().take(400).enumerate() {
-        let release = line.bytes.starts_with(b" 2") != (faulty && rng.once_in(20));
+        let kind = call_kind(rng, line.bytes, faulty);
         let bytes = call_bytes(rng, line.bytes, faulty);
-        let kind = if release { RELEASE } else { REGISTER };
-        let known = match kind {
-            REGISTER => plain.register(&bytes),
-            _ => plain.release(&bytes),
-        };
+        let known = plain.call(kind, &bytes);
         let found = quick.call(kind as u32, &bytes);
-        *counts.entry(known.code).or_default() += 1;
+        made.add(kind, line, known.code);
         if !same_answer(&known, &found) {
             return Err(format!(
                 "call {}: {} {found:?}, plain {known:?}",
@@ -80,7 +130,7 @@ fn version_list<R: Version>(
     }
     same_state(&plain, quick.as_ref())?;
     for _ in 0..3 {
-        one_damage(rng, quick.as_ref(), counts)?;
+        one_damage(rng, quick.as_ref(), made)?;
     }
     Ok(())
 }
@@ -106,8 +156,18 @@ fn same_state<R: Version>(plain: &Registry, quick: &R) -> Result<(), String> {
     Ok(())
 }
 
+/// What a damaged registry is called with.
+const TRIED: [(u64, &[u8]); 3] = [
+    (
+        REGISTER,
+        b" 1     1     1000    1542 1542   10000  1   1 1\n",
+    ),
+    (RELEASE, b" 2     1\n"),
+    (CHANGE, b" 3     1     1000    1542\n"),
+];
+
 /// Changes one number of a registry; a call then answers 42 exactly when it isn't in order.
-fn one_damage<R: Version>(rng: &mut Rng, sound: &R, counts: &mut Counts) -> Result<(), String> {
+fn one_damage<R: Version>(rng: &mut Rng, sound: &R, made: &mut Made) -> Result<(), String> {
     let mut damaged = Box::new(sound.clone());
     damaged.damage(rng);
     let seen = damaged.view();
@@ -119,8 +179,12 @@ fn one_damage<R: Version>(rng: &mut Rng, sound: &R, counts: &mut Counts) -> Resu
         ));
     }
     let before = damaged.clone();
-    let answer = damaged.call(RELEASE as u32, b" 2     1\n");
-    *counts.entry(u64::from(answer.code)).or_default() += 1;
+    let (kind, line) = rng.pick(&TRIED);
+    let answer = damaged.call(kind as u32, line);
+    *made.answers.entry(u64::from(answer.code)).or_default() += 1;
+    if answer.code == 42 {
+        *made.stopped.entry(kind).or_default() += 1;
+    }
     if (answer.code == 42) == expected {
         return Err(format!(
             "{}: a damaged registry: answer {answer:?}",

@@ -1,16 +1,18 @@
 //! The comparison run: each version of the batch against the plain one, on the same areas, and
 //! direct calls against the plain calls.
 
+mod changes;
 pub mod direct;
 
 use crate::versions::versions;
-use direct::Counts;
+use changes::{Changes, Watch};
+use direct::{Counts, Made};
 use halls::rng::Rng;
 use halls::{input, Input, KINDS};
 use plain::causes::{BACKLOG, DEADLINE, DELAY, DONE};
-use plain::columns::lines;
+use plain::columns::{field, lines};
 use plain::orders::{read_order, Flow, Order};
-use plain::registry::{path_thresholds, Registry};
+use plain::registry::{path_thresholds, Answer, Registry};
 use plain::slips::{Growth, Slips};
 use std::collections::BTreeMap;
 use std::fmt::Display;
@@ -24,13 +26,13 @@ pub struct Report {
     pub refused: Counts,
     /// Answer lines of batches that were done.
     pub answers: Counts,
-    /// Answers of direct calls.
-    pub calls: Counts,
+    pub calls: Made,
     pub batches: u64,
     /// How often each kind of input occurred.
     pub kinds: BTreeMap<&'static str, u64>,
     /// Releases that were done.
     pub released: u64,
+    pub changes: Changes,
     /// Registrations answered 20 whose thresholds alone meet the deadline.
     pub by_fixed_delay: u64,
     /// Registrations answered 22 or 23 that would be admitted on links without best-effort frames.
@@ -52,22 +54,28 @@ impl Report {
     }
 
     /// The kinds of input that never occurred.
-    pub fn missing_kinds(&self) -> Vec<&'static str> {
-        let mut missing: Vec<&str> = KINDS.to_vec();
-        missing.retain(|kind| !self.kinds.contains_key(kind));
-        if self.released == 0 {
-            missing.push("releases");
-        }
-        if self.by_fixed_delay == 0 {
-            missing.push("20 by a fixed delay");
-        }
-        if self.by_best_effort == 0 {
-            missing.push("22 or 23 by a best-effort frame");
-        }
-        if self.by_shorter_growth == 0 {
-            missing.push("0 that whole thresholds refuse");
-        }
+    pub fn missing_kinds(&self) -> Vec<String> {
+        let kinds = KINDS.into_iter();
+        let kinds = kinds.filter(|kind| !self.kinds.contains_key(kind));
+        let counted = self.counted().into_iter();
+        let never = counted.filter(|(_, times)| *times == 0);
+        let mut missing: Vec<String> = kinds
+            .chain(never.map(|(kind, _)| kind))
+            .map(str::to_string)
+            .collect();
+        missing.extend(self.changes.missing());
+        missing.extend(self.calls.missing());
         missing
+    }
+
+    /// What is counted beside kinds of input and codes.
+    fn counted(&self) -> [(&'static str, u64); 4] {
+        [
+            ("releases done", self.released),
+            ("20 by a fixed delay", self.by_fixed_delay),
+            ("22 or 23 by a best-effort frame", self.by_best_effort),
+            ("0 that whole thresholds refuse", self.by_shorter_growth),
+        ]
     }
 
     pub fn print(&self) {
@@ -78,13 +86,15 @@ impl Report {
             names.join(", ")
         );
         print_counts("inputs", &self.kinds);
-        println!("releases done: {}", self.released);
-        println!("20 by a fixed delay: {}", self.by_fixed_delay);
-        println!("22 or 23 by a best-effort frame: {}", self.by_best_effort);
-        println!("0 that whole thresholds refuse: {}", self.by_shorter_growth);
+        for (kind, times) in self.counted() {
+            println!("{kind}: {times}");
+        }
         print_counts("refused batches", &self.refused);
         print_counts("answer lines", &self.answers);
-        print_counts("direct calls", &self.calls);
+        print_counts("answers to changes", &self.changes.answers);
+        print_counts("changes", &self.changes.kinds);
+        print_counts("direct calls", &self.calls.answers);
+        print_counts("direct calls to change", &self.calls.changes);
     }
 }
 
@@ -101,10 +111,11 @@ pub fn run(seed: u64, count: u64, long: bool) -> Result<Report, String> {
     let mut report = Report {
         refused: Counts::new(),
         answers: Counts::new(),
-        calls: Counts::new(),
+        calls: Made::default(),
         batches: 0,
         kinds: BTreeMap::new(),
         released: 0,
+        changes: Changes::default(),
         by_fixed_delay: 0,
         by_best_effort: 0,
         by_shorter_growth: 0,
@@ -157,31 +168,42 @@ fn one_batch(given: &Input, report: &mut Report) -> Result<(), String> {
 /// Counts the answers of a batch that was done. The registry follows them without judging again.
 fn count_answers(given: &Input, answers: &[u8], report: &mut Report) -> Result<(), String> {
     let (mut registry, _) = Registry::open(&given.table);
-    for (answer, line) in answers.chunks_exact(20).zip(lines(&given.orders)) {
-        let Some(found) = plain::columns::field(answer, 7, 9) else {
-            return Err("plain: an answer without a code".to_string());
+    let mut watch = Watch::new(&mut report.changes);
+    for (text, line) in answers.chunks_exact(20).zip(lines(&given.orders)) {
+        let Some(answer) = answer_of(text) else {
+            return Err("plain: an answer with a number missing".to_string());
         };
-        *report.answers.entry(found).or_default() += 1;
-        match (read_order(&line), found) {
-            (Ok(Order::Release(number)), DONE) => {
-                report.released += 1;
-                registry.take_out(number);
+        *report.answers.entry(answer.code).or_default() += 1;
+        let order = read_order(&line);
+        watch.add(&line, &order, &answer, &registry)?;
+        let Ok(order) = order else { continue };
+        match (&order, answer.code) {
+            (Order::Release(_), DONE) => report.released += 1,
+            (Order::Register(flow), DONE) => {
+                report.by_shorter_growth += u64::from(refused_by_thresholds(&mut registry, flow));
             }
-            (Ok(Order::Register(flow)), DONE) => {
-                report.by_shorter_growth += u64::from(refused_by_thresholds(&mut registry, &flow));
-                registry.put_in(&flow);
-            }
-            (Ok(Order::Register(flow)), DEADLINE) => {
+            (Order::Register(flow), DEADLINE) => {
                 let thresholds = path_thresholds(&registry.queues, &flow.hops);
                 report.by_fixed_delay += u64::from(thresholds <= u128::from(flow.deadline));
             }
-            (Ok(Order::Register(flow)), DELAY | BACKLOG) => {
-                report.by_best_effort += u64::from(admitted_alone(&registry, &flow));
+            (Order::Register(flow), DELAY | BACKLOG) => {
+                report.by_best_effort += u64::from(admitted_alone(&registry, flow));
             }
             _ => {}
         }
+        registry.carry_out(&order, &answer);
     }
     Ok(())
+}
+
+/// What an answer line holds after the line number.
+fn answer_of(line: &[u8]) -> Option<Answer> {
+    Some(Answer {
+        code: field(line, 7, 9)?,
+        slot: field(line, 10, 13)?,
+        link: field(line, 14, 17)?,
+        level: field(line, 18, 19)?,
+    })
 }
 
 /// Whether a flow would be refused if whole thresholds counted in S.

@@ -2,6 +2,7 @@
 //! all flow numbers, a free slot and the flows of a queue by bitmaps; figures are kept up to date,
 //! bounds compared as products instead of divisions. Arrays of fixed size, nothing on the heap.
 
+mod change;
 mod check;
 mod link;
 mod path;
@@ -133,6 +134,7 @@ impl Registry {
             Order::Refused(code) => Answer::plain(code),
             Order::Release(number) => self.take_out(number),
             Order::Register => self.put_in(flow),
+            Order::Change => self.change(flow),
         }
     }
 

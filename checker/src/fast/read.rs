@@ -210,19 +210,22 @@ impl Flow {
     };
 }
 
+/// The flow of a registration, and the number, rate and burst of a change, stand beside it.
 pub enum Order {
     Register,
     Release(u32),
+    Change,
     Refused(u32),
 }
 
-/// Reads the first line of a text that ends in LF; the registration's flow goes into `flow`. Gives
-/// the order and the offset of the next line.
+/// Reads the first line of a text that ends in LF; what a registration or a change says of its flow
+/// goes into `flow`. Gives the order and the offset of the next line.
 #[inline(always)]
 pub fn order(text: &[u8], flow: &mut Flow) -> (Order, usize) {
     match field::<2>(text, 0) {
         1 => registration(text, flow),
         2 => release(text),
+        3 => change(text, flow),
         MALFORMED => (Order::Refused(10), next_line(text, 0)),
         _ => (Order::Refused(11), next_line(text, 2)),
     }
@@ -253,11 +256,31 @@ fn release(text: &[u8]) -> (Order, usize) {
     }
 }
 
+/// The fields that a change shares with a registration.
 #[inline(always)]
-fn registration(text: &[u8], flow: &mut Flow) -> (Order, usize) {
+fn demand(text: &[u8], flow: &mut Flow) {
     flow.number = field::<6>(text, 2);
     flow.rate = field::<9>(text, 8);
     flow.burst = field::<8>(text, 17);
+}
+
+#[inline(always)]
+fn change(text: &[u8], flow: &mut Flow) -> (Order, usize) {
+    const END: usize = 25;
+    demand(text, flow);
+    if (flow.number | flow.rate | flow.burst) >> 31 != 0 || text.get(END) != Some(&b'\n') {
+        return (Order::Refused(10), next_line(text, 2));
+    }
+    if demand_in_range(flow.number, flow.rate, flow.burst) {
+        (Order::Change, END + 1)
+    } else {
+        (Order::Refused(11), END + 1)
+    }
+}
+
+#[inline(always)]
+fn registration(text: &[u8], flow: &mut Flow) -> (Order, usize) {
+    demand(text, flow);
     flow.frame = field::<5>(text, 25);
     flow.deadline = field::<8>(text, 30);
     let count = field::<3>(text, 38);
@@ -291,12 +314,18 @@ fn registration(text: &[u8], flow: &mut Flow) -> (Order, usize) {
     }
 }
 
-/// Code 11's ranges, the hop count apart.
+/// Code 11's ranges of what a change gives.
 #[inline(always)]
-pub fn flow_in_range(number: u32, rate: u32, burst: u32, frame: u32, deadline: u32) -> bool {
+fn demand_in_range(number: u32, rate: u32, burst: u32) -> bool {
     (number.wrapping_sub(1) < 65_535)
         & (rate.wrapping_sub(1) < 10_000_000)
         & (burst.wrapping_sub(84) <= 1_000_000 - 84)
+}
+
+/// Code 11's ranges, the hop count apart.
+#[inline(always)]
+pub fn flow_in_range(number: u32, rate: u32, burst: u32, frame: u32, deadline: u32) -> bool {
+    demand_in_range(number, rate, burst)
         & (frame.wrapping_sub(84) <= 1_542 - 84)
         & (deadline.wrapping_sub(1) < 10_000_000)
 }

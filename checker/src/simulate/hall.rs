@@ -9,8 +9,9 @@ use halls::sources::{conforms, sends, Send};
 use halls::tables::{least_deadline, link_fields, loose, table_text};
 use halls::tables::{tighten_by, tighten_deadlines, Bounds, Count, Shape};
 use plain::formula::{delay, shortest_sending};
-use plain::orders::{write_registration, Flow, Hop, LARGEST_FRAME, SMALLEST_FRAME};
-use plain::registry::Registry;
+use plain::orders::{write_change, write_registration, Change, Flow, Hop};
+use plain::orders::{CHANGE, LARGEST_FRAME, SMALLEST_FRAME};
+use plain::registry::{Answer, Registry};
 use plain::table::Queue;
 use std::fmt;
 
@@ -18,6 +19,8 @@ use std::fmt;
 pub struct Hall {
     pub queues: Vec<Queue>,
     pub flows: Vec<Flow>,
+    /// How many of the flows were registered with less and changed before the traffic.
+    pub changed: u64,
 }
 
 /// Why a search ended.
@@ -57,8 +60,9 @@ impl Hall {
     /// Flows admitted on a loose table, which is then tightened; none if no flow was admitted or a
     /// queue is too slow to be run in short.
     pub fn random(rng: &mut Rng) -> Result<Option<Hall>, String> {
-        let hall = Hall::by(rng, Bounds::RIGHT);
-        hall.admitted()?;
+        let mut hall = Hall::by(rng, Bounds::RIGHT);
+        // Drawn apart, so that the traffic stays as it is.
+        hall.changed = hall.admitted(rng.clone())?;
         Ok(Some(hall).filter(Hall::is_short))
     }
 
@@ -95,23 +99,48 @@ impl Hall {
         tighten_by(&mut queues, &flows.iter().collect::<Vec<_>>(), bounds);
         tighten_deadlines(&queues, &mut flows);
         rng.shuffle(&mut flows);
-        Hall { queues, flows }
+        Hall {
+            queues,
+            flows,
+            changed: 0,
+        }
     }
 
-    /// The reference model reads the table and admits the flows, in their order.
-    fn admitted(&self) -> Result<(), String> {
+    /// The reference model reads the table and admits the flows, in their order, some of them with less than they have; then
+    /// it changes these, and holds just the flows. Gives the number of changes.
+    fn admitted(&self, mut rng: Rng) -> Result<u64, String> {
         let (mut tight, refused) = Registry::open(&table_text(&self.queues));
         if refused.is_some() {
             return Err("a tightened table is refused".to_string());
         }
-        for new in &self.flows {
-            let answer = tight.register(&write_registration(new));
-            if answer.code != 0 {
-                let number = new.number;
-                return Err(format!("flow {number} on the tight table: {answer:?}"));
+        let done = |flow: &Flow, answer: Answer| match answer.code {
+            0 => Ok(()),
+            _ => {
+                let number = flow.number;
+                Err(format!("flow {number} on the tight table: {answer:?}"))
             }
+        };
+        let mut later = Vec::new();
+        for flow in &self.flows {
+            let first = match rng.once_in(2) {
+                true => less(&mut rng, flow),
+                false => flow.clone(),
+            };
+            done(flow, tight.register(&write_registration(&first)))?;
+            later.extend(Some(flow).filter(|&flow| first != *flow));
         }
-        Ok(())
+        for flow in &later {
+            let change = Change {
+                number: flow.number,
+                rate: flow.rate,
+                burst: flow.burst,
+            };
+            done(flow, tight.call(CHANGE, &write_change(&change)))?;
+        }
+        match tight.held().into_iter().eq(&self.flows) {
+            true => Ok(later.len() as u64),
+            false => Err("after changes other flows are held".to_string()),
+        }
     }
 
     /// Whether it has flows and can be run in short.
@@ -232,6 +261,15 @@ impl Hall {
     fn place(&self, queue: usize) -> String {
         let Queue { link, level, .. } = self.queues[queue];
         format!("link {link} level {level}")
+    }
+}
+
+/// The same flow with less of a rate and burst, or as much.
+fn less(rng: &mut Rng, flow: &Flow) -> Flow {
+    Flow {
+        rate: rng.between(1, flow.rate),
+        burst: rng.between(flow.frame, flow.burst),
+        ..flow.clone()
     }
 }
 

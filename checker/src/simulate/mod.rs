@@ -27,6 +27,7 @@ pub fn run(seed: u64, count: u64) -> Result<Report, String> {
         let told = |what: String| format!("seed {seed} hall {index}: {what}");
         if let Some(hall) = Hall::random(&mut rng).map_err(told)? {
             report.halls += 1;
+            report.changed += hall.changed;
             let add = |seen: &Traffic| report.add(&hall, index, seen);
             let ran = climb(&mut rng, &hall, |trial| trial, add);
             ran.map_err(|failure| told(failure.to_string()))?;

@@ -62,6 +62,8 @@ const TELLING_THRESHOLD: u64 = 100;
 #[derive(Default)]
 pub struct Report {
     pub halls: u64,
+    /// Flows that were changed before the traffic.
+    pub changed: u64,
     pub runs: u64,
     pub frames: u64,
     /// Best-effort frames, and those that started a slot before frames reached their link.
@@ -78,8 +80,8 @@ pub struct Report {
 impl Report {
     pub fn print(&self) {
         println!(
-            "halls: {}, runs: {}, frames: {}",
-            self.halls, self.runs, self.frames
+            "halls: {}, flows changed before: {}, runs: {}, frames: {}",
+            self.halls, self.changed, self.runs, self.frames
         );
         let [started, just_before] = self.best_effort;
         println!("best-effort frames: {started}, a slot before an arrival: {just_before}");

@@ -6,8 +6,9 @@ use plain::formula::{growth, shortest_sending};
 use plain::orders::{Flow, SMALLEST_FRAME};
 use plain::work::HopWork;
 
-/// The bursts along a path; where it has several hops, first what S is made of.
-pub fn bursts(flow: &Flow, hops: &[HopWork]) -> Vec<String> {
+/// The bursts along a path; where it has several hops, first what S is made of. Where a flow is to be changed, its old
+/// bursts stand beside.
+pub fn bursts(flow: &Flow, hops: &[HopWork], old: &[HopWork]) -> Vec<String> {
     // The last hop adds nothing to S: no hop comes after it.
     let before = &hops[..hops.len().saturating_sub(1)];
     let mut lines = Vec::new();
@@ -24,7 +25,11 @@ pub fn bursts(flow: &Flow, hops: &[HopWork]) -> Vec<String> {
         lines.extend(numbered.map(|(index, hop)| part(index, hop)));
     }
     lines.push("bursts along the path".to_string());
-    lines.extend(hops.iter().map(|hop| burst(flow, hop)));
+    let olds = old.iter().map(Some).chain(std::iter::repeat(None));
+    lines.extend(hops.iter().zip(olds).map(|(hop, old)| {
+        let before = old.map(|old| format!(", in place of {}", commas(old.share.burst)));
+        burst(flow, hop) + &before.unwrap_or_default()
+    }));
     lines
 }
 

@@ -37,17 +37,17 @@ impl Filled<'_> {
     }
 }
 
-/// For a refusal by 21, 22 or 23; the registry is the one before the order.
-pub fn filling(flow: &Flow, answer: Answer, before: &Registry) -> Vec<String> {
+/// For a refusal by 21, 22 or 23; the registry is that of the other flows.
+pub fn filling(flow: &Flow, answer: Answer, others: &Registry) -> Vec<String> {
     let at = Hop {
         link: answer.link,
         level: answer.level,
     };
-    let mut shares: Vec<(u64, Share)> = before.shares(at.link, Some(flow)).collect();
+    let mut shares: Vec<(u64, Share)> = others.shares(at.link, Some(flow)).collect();
     shares.sort_by_key(|(level, _)| *level);
     let filled = Filled { new: flow, shares };
     let burst = |share: &Share| share.share.burst;
-    let of_link = before.queues.iter().find(|queue| queue.link == at.link);
+    let of_link = others.queues.iter().find(|queue| queue.link == at.link);
     let laptop = of_link.map_or(0, |queue| queue.best_effort_frame);
     let laptop = (laptop > 0).then(|| format!("best-effort frame of the link: {}", commas(laptop)));
     let lines = match answer.code {

@@ -13,9 +13,10 @@ use crate::session::{remark, walk, Step};
 use crate::status::{Outcome, Status};
 use crate::titles::order_title;
 use plain::causes;
-use plain::orders::Order;
+use plain::orders::{Flow, Order};
 use plain::registry::{Answer, Registry};
 use sequence::Sequence;
+use std::borrow::Cow;
 
 pub const COMMAND: Command = Command {
     name: "explain",
@@ -30,8 +31,10 @@ rate × S; each hop before adds its threshold to S less the shortest sending tim
 for each speed. Y's parts are the bursts above, what blocks and the level's own largest frame; on a link that laptops
 share, which of the two blocks: the larger of the largest frame below and the link's best-effort frame, the last level's
 too. 21, 22 and 23 are met link by link: a `.` behind a `!` among them means that the link, or the level, before it
-decides. For a refusal by 21, 22 or 23 also the flows that fill the queue. Where all lines are registrations, two or more,
-and no --line is given, last whether their order matters: it doesn't where all were admitted.
+decides. For a refusal by 21, 22 or 23 also the flows that fill the queue. In the sums of a change the flow counts with its
+new rate and burst in place of the old, and beside each burst along its path stands the old one; the deadline isn't asked
+again. Where all lines are registrations, two or more, and no --line is given, last whether their order matters: it
+doesn't where all were admitted.
 
 Exit status: 0, whatever the orders are answered; 1 a refused batch or an unreadable file; 2 usage.",
     words: 1..=1,
@@ -79,21 +82,51 @@ pub fn explained(step: &Step, before: &Registry) -> String {
             text += &format!("    {line}\n");
         }
     };
-    let flow = match &step.order {
-        Ok(Order::Register(flow)) => Some(flow),
-        _ => None,
-    };
+    let judged = Judged::of(step, before);
     if step.order.is_ok() {
+        let flow = judged.as_ref().map(|judged| judged.flow.as_ref());
         say(&order_title(&step.text, flow));
     }
     say(&sentences::sentence(step, before));
     say(&format!("causes {}", turn(step)));
-    if let (Some(flow), Some(work)) = (flow, &step.work) {
-        for line in sums::sums(flow, work, before) {
+    if let (Some(judged), Some(work)) = (&judged, &step.work) {
+        for line in sums::sums(judged, work) {
             say(&line);
         }
     }
     text
+}
+
+/// The flow that a registration or a change is about.
+struct Judged<'a> {
+    /// As it would be held.
+    flow: Cow<'a, Flow>,
+    /// As it is held, where it is to be changed.
+    held: Option<&'a Flow>,
+    /// The registry of the others.
+    others: Cow<'a, Registry>,
+}
+
+impl Judged<'_> {
+    /// None where no flow is asked for, or the one that is to be changed isn't held.
+    fn of<'a>(step: &'a Step, before: &'a Registry) -> Option<Judged<'a>> {
+        match step.order.as_ref().ok()? {
+            Order::Register(flow) => Some(Judged {
+                flow: Cow::Borrowed(flow),
+                held: None,
+                others: Cow::Borrowed(before),
+            }),
+            Order::Change(change) => {
+                let (index, flow) = before.changed(change)?;
+                Some(Judged {
+                    flow: Cow::Owned(flow),
+                    held: before.slots[index].as_ref(),
+                    others: Cow::Owned(before.without(index)),
+                })
+            }
+            Order::Release(_) => None,
+        }
+    }
 }
 
 /// `22 at link 3 level 2 (delay above the threshold)`.
@@ -112,6 +145,7 @@ fn turn(step: &Step) -> String {
     let groups: &[&[u64]] = match &step.order {
         Ok(Order::Release(_)) => &causes::RELEASE,
         Ok(Order::Register(_)) => &causes::REGISTRATION,
+        Ok(Order::Change(_)) => &causes::CHANGE,
         Err(_) => &[],
     };
     let reading = causes::READING.iter();

@@ -5,7 +5,7 @@ use crate::numbers::{commas, counted};
 use crate::session::Step;
 use crate::titles::queue_name;
 use plain::causes;
-use plain::orders::{Flow, Hop, Order};
+use plain::orders::{Change, Flow, Hop, Order};
 use plain::registry::{queue_at, Registry, HOP_POOL, SLOTS};
 use plain::work::{LevelWork, Work};
 
@@ -15,7 +15,8 @@ pub fn sentence(step: &Step, before: &Registry) -> String {
         (Err(_), _) => unread(step),
         (Ok(Order::Release(number)), _) => released(step, *number),
         (Ok(Order::Register(flow)), Some(work)) => registered(step, flow, work, before),
-        (Ok(Order::Register(_)), None) => String::new(),
+        (Ok(Order::Change(change)), Some(work)) => changed(step, change, work, before),
+        (Ok(Order::Register(_) | Order::Change(_)), None) => String::new(),
     }
 }
 
@@ -36,18 +37,49 @@ fn released(step: &Step, number: u64) -> String {
             "Released: flow {number} gives back place {} and its hop entries.",
             step.answer.slot
         ),
-        _ => format!(
-            "No held flow has the number {number}: it was never admitted, or is released already."
+        _ => not_held(number),
+    }
+}
+
+fn not_held(number: u64) -> String {
+    format!("No held flow has the number {number}: it was never admitted, or is released already.")
+}
+
+/// A change, and what becomes of the flow as it was held.
+fn changed(step: &Step, change: &Change, work: &Work, before: &Registry) -> String {
+    let held = before.holder(change.number);
+    let Some((index, flow)) = held.and_then(|index| Some((index, before.slots[index].as_ref()?)))
+    else {
+        return not_held(change.number);
+    };
+    let (number, place) = (flow.number, index + 1);
+    let (rate, burst) = (commas(flow.rate), commas(flow.burst));
+    let why = match step.answer.code {
+        causes::DONE => {
+            return format!(
+                "Changed: flow {number} keeps place {place}, path, largest frame and deadline; it had rate {rate} kbit/s and burst {burst} bytes."
+            );
+        }
+        causes::FRAME => format!(
+            "The new burst, {} bytes, is below the held flow's largest frame, {} bytes.",
+            commas(change.burst),
+            commas(flow.frame)
         ),
+        code => link_refusal("change", code, answer_hop(step), work),
+    };
+    format!("{why} Flow {number} stays at place {place} as it was, with rate {rate} kbit/s and burst {burst} bytes.")
+}
+
+/// The link and level that an answer names.
+fn answer_hop(step: &Step) -> Hop {
+    Hop {
+        link: step.answer.link,
+        level: step.answer.level,
     }
 }
 
 fn registered(step: &Step, flow: &Flow, work: &Work, before: &Registry) -> String {
-    let answer = step.answer;
-    let at = Hop {
-        link: answer.link,
-        level: answer.level,
-    };
+    let (answer, at) = (step.answer, answer_hop(step));
     match answer.code {
         causes::DONE => format!(
             "Admitted: no cause is met, and {} is the lowest free place.",
@@ -70,7 +102,7 @@ fn registered(step: &Step, flow: &Flow, work: &Work, before: &Registry) -> Strin
             flow.hops.len(),
             commas(HOP_POOL)
         ),
-        _ => link_refusal(answer.code, at, work),
+        code => link_refusal("flow", code, at, work),
     }
 }
 
@@ -122,13 +154,14 @@ fn apart(flow: &Flow, at: Hop, before: &Registry) -> String {
     )
 }
 
-fn link_refusal(code: u64, at: Hop, work: &Work) -> String {
+/// 21, 22 or 23 against a new flow or a change.
+fn link_refusal(asked: &str, code: u64, at: Hop, work: &Work) -> String {
     let Some(link) = work.links.last() else {
         return String::new();
     };
     if code == causes::RATE {
         return format!(
-            "With this flow the rates on link {} sum to {} kbit/s, which isn't below {} kbit/s.",
+            "With this {asked} the rates on link {} sum to {} kbit/s, which isn't below {} kbit/s.",
             at.link,
             commas(link.rate_sum),
             commas(link.rate_limit)
@@ -139,14 +172,14 @@ fn link_refusal(code: u64, at: Hop, work: &Work) -> String {
         |number: fn(&LevelWork) -> u128| level.map_or(String::new(), |level| commas(number(level)));
     if code == causes::DELAY {
         return format!(
-            "With this flow a frame could stay {} µs in the queue of {}, above its threshold of {} µs.",
+            "With this {asked} a frame could stay {} µs in the queue of {}, above its threshold of {} µs.",
             shown(|level| level.bounds.map_or(0, |bounds| bounds.delay)),
             queue_name(at),
             shown(|level| u128::from(level.queue.threshold))
         );
     }
     format!(
-        "With this flow the queue of {} could hold {} bytes, above its buffer of {} bytes.",
+        "With this {asked} the queue of {} could hold {} bytes, above its buffer of {} bytes.",
         queue_name(at),
         shown(|level| level.bounds.map_or(0, |bounds| bounds.backlog)),
         shown(|level| u128::from(level.queue.buffer))

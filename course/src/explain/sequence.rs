@@ -10,7 +10,8 @@ use plain::orders::Order;
 pub struct Sequence {
     pub lines: usize,
     registrations: usize,
-    releases: usize,
+    /// Releases and changes.
+    of_held: usize,
     admitted: usize,
 }
 
@@ -20,15 +21,16 @@ impl Sequence {
         self.lines += 1;
         match step.order {
             Ok(Order::Register(_)) => self.registrations += 1,
-            Ok(Order::Release(_)) => self.releases += 1,
+            Ok(Order::Release(_) | Order::Change(_)) => self.of_held += 1,
             Err(_) => {}
         }
         self.admitted += usize::from(step.answer.code == causes::DONE);
     }
 
-    /// Nothing where there is no other order, or where a release is among the lines: it goes by what is held when it comes.
+    /// Nothing where there is no other order, or where a release or a change is among the lines: it goes by what is held when
+    /// it comes.
     pub fn words(&self) -> Option<String> {
-        if self.releases > 0 || self.registrations < 2 {
+        if self.of_held > 0 || self.registrations < 2 {
             return None;
         }
         let (lines, admitted) = (commas(self.lines), commas(self.admitted));

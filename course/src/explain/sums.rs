@@ -1,13 +1,14 @@
-//! A registration's sums, written as on paper.
+//! The sums of a registration or a change, written as on paper.
 
 use super::bursts::bursts;
 use super::filling::filling;
+use super::Judged;
 use crate::numbers::commas;
 use crate::titles::{blocking_by, link_title};
 use plain::causes;
 use plain::formula::Sums;
 use plain::orders::Flow;
-use plain::registry::{Answer, Registry};
+use plain::registry::Answer;
 use plain::work::{HopWork, LevelWork, LinkWork, Work};
 
 fn plus(numbers: impl Iterator<Item = u128>) -> String {
@@ -34,23 +35,27 @@ fn against(value: u128, limit: u64, unit: &str) -> String {
     format!("{} of {} {unit}{above}", commas(value), commas(limit))
 }
 
-/// All sums of a registration, up to the first cause; the registry is the one before it.
-pub fn sums(flow: &Flow, work: &Work, before: &Registry) -> Vec<String> {
+/// All sums up to the first cause. A change keeps path and deadline, so that the latter isn't asked again.
+pub fn sums(judged: &Judged, work: &Work) -> Vec<String> {
+    let (flow, others) = (&judged.flow, &judged.others);
     let mut lines = Vec::new();
     if work.hops.is_empty() {
         return lines;
     }
-    lines.extend(deadline_sums(flow, work));
+    if judged.held.is_none() {
+        lines.extend(deadline_sums(flow, work));
+    }
     if work.links.is_empty() {
         return lines;
     }
-    lines.extend(bursts(flow, &work.hops));
+    let old = judged.held.map(|held| others.hops_work(held));
+    lines.extend(bursts(flow, &work.hops, &old.unwrap_or_default()));
     for link in &work.links {
         let refused = work.refused.filter(|answer| answer.link == link.link);
         lines.extend(link_sums(link, refused));
     }
     if let Some(answer) = work.refused {
-        lines.extend(filling(flow, answer, before));
+        lines.extend(filling(flow, answer, others));
     }
     lines
 }

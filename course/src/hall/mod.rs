@@ -28,9 +28,10 @@ pub const COMMAND: Command = Command {
 Makes a bottling hall: the same seed gives the same hall. Into FOLDER, which is made, go table.txt, orders.txt and
 worksheet.txt, the queues in words and a row to fill in for each order; into FOLDER/solution go answers.txt, the right
 rows as `course mark` reads them, and explained.txt. The orders reach 0, 10 to 17 and 20 to 23; then about half of the
-flows are released, and what was turned away and what was released is registered again. Two halls of three have a long
-fibre run: a link with a fixed delay; one in three has a maintenance port: a link with a best-effort frame, without
-which a row would be another. Files that exist aren't overwritten.
+flows are released, and what was turned away and what was released is registered again. Last come two changes of held
+flows, one that there is no room for and one that is done. Two halls of three have a long fibre run: a link with a fixed
+delay; one in three has a maintenance port: a link with a best-effort frame, without which a row would be another. Files
+that exist aren't overwritten.
 
 Exit status: 0; 1 a file that can't be written; 2 usage.",
     words: 0..=0,

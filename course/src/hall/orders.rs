@@ -4,8 +4,8 @@ use super::network::Network;
 use halls::rng::Rng;
 use plain::causes;
 use plain::columns::lines;
-use plain::orders::{read_order, write_registration, write_release};
-use plain::orders::{Flow, Hop, MOST_HOPS, SMALLEST_FRAME};
+use plain::orders::{read_order, write_change, write_registration, write_release};
+use plain::orders::{Change, Flow, Hop, Order, MOST_HOPS, SMALLEST_FRAME};
 use plain::registry::{Answer, Registry};
 
 /// What an order is wanted to be answered.
@@ -73,6 +73,8 @@ impl<'a> Orders<'a> {
         }
         orders.first_part = orders.text.len();
         orders.second_part(rng)?;
+        orders.change(rng, &[causes::DELAY, causes::BACKLOG])?;
+        orders.change(rng, &[causes::DONE])?;
         Some(orders)
     }
 
@@ -93,6 +95,26 @@ impl<'a> Orders<'a> {
         let room = |code: &&u64| [causes::RATE, causes::DELAY, causes::BACKLOG].contains(code);
         let admitted = codes.contains(&causes::DONE);
         (admitted && codes.iter().filter(room).count() > 0).then_some(())
+    }
+
+    /// Draws changes of held flows until one is answered with such a code, and adds it.
+    fn change(&mut self, rng: &mut Rng, codes: &[u64]) -> Option<()> {
+        for _ in 0..TRIES {
+            let held = self.registry.held();
+            let flow = held[rng.index(held.len())];
+            let (times, of) = rng.pick(&[(3, 4), (3, 2), (2, 1), (3, 1)]);
+            let change = Change {
+                number: flow.number,
+                rate: times * flow.rate / of,
+                burst: (times * flow.burst / of).max(flow.frame),
+            };
+            let (answer, _) = self.registry.answer_to(&Order::Change(change));
+            if codes.contains(&answer.code) {
+                self.add(write_change(&change));
+                return Some(());
+            }
+        }
+        None
     }
 
     fn add(&mut self, line: Vec<u8>) -> Answer {

@@ -26,10 +26,11 @@ ANSWERS is a text with a row of numbers, separated by blanks, for each order lin
     line code place link level [delay [backlog [stay]]]
 
 code, place, link and level are those of the answer line. delay (µs) and backlog (bytes) are the bounds, rounded up, at
-the queue that decides, with the new flow counted in: for 22 and 23 the failing queue, for an admission the flow's own
-queue at its last hop. stay is the longest stay predicted there for exercise three: the delay bound of that queue with
-the flows that are held after the last order, 0 where it then has none. `-` stands for a number that isn't given, and so
-do a worksheet's blanks, `____`. The answers to releases and the other refusals have no bounds. 1,980 may be written 1980.
+the queue that decides, with the new flow, or the changed one in place of the old, counted in: for 22 and 23 the failing
+queue, for an admission or a change that is done the flow's own queue at its last hop. stay is the longest stay predicted
+there for exercise three: the delay bound of that queue with the flows that are held after the last order, 0 where it
+then has none. `-` stands for a number that isn't given, and so do a worksheet's blanks, `____`. The answers to releases
+and the other refusals have no bounds. 1,980 may be written 1980.
 
 Each row is right or wrong; a line of orders.txt without a row is wrong too, but with --lines A-B only lines A to B are
 asked for. A wrong row that is right after the trainee's own earlier rows is named as such. Otherwise, where the
@@ -37,7 +38,8 @@ rules with one of the usual slips give the row, the slip is named:
     only the levels below checked; largest frame left on release; first links stored before a refusal at the last;
     source's burst at every hop; fraction dropped; rounding at each hop;
     best-effort frame left out, left out at the last level, or added to the frame below;
-    whole thresholds: counted into S without taking the shortest sending time off.
+    whole thresholds: counted into S without taking the shortest sending time off;
+    old share left on a change: the new rate and burst counted beside the old.
 
 Exit status: 0 all rows right; 1 a wrong row, a refused batch or an unreadable file or row; 2 usage.",
     words: 2..=2,

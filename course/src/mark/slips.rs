@@ -2,7 +2,7 @@
 
 use super::sheet::Row;
 use plain::causes;
-use plain::orders::Order;
+use plain::orders::{Flow, Order};
 use plain::registry::{Answer, Registry};
 use plain::slips::{Blocking, Growth, Slips};
 use plain::work::Work;
@@ -83,18 +83,19 @@ impl Follower {
     }
 
     /// Takes the trainee's word for what became of an order.
-    fn follow(&mut self, order: &Order, [code, _, link, _]: [u64; 4]) {
-        let done = code == causes::DONE;
-        match order {
-            Order::Register(flow) if done => {
-                if self.registry.holder(flow.number).is_none() {
-                    self.registry.put_in(flow);
-                }
-            }
-            Order::Register(flow) => self.registry.keep_early(flow, code, link),
-            Order::Release(number) if done => self.registry.take_out(*number),
-            Order::Release(_) => {}
+    fn follow(&mut self, order: &Order, [code, slot, link, level]: [u64; 4]) {
+        let held = |flow: &Flow| self.registry.holder(flow.number).is_some();
+        let twice = matches!(order, Order::Register(flow) if held(flow));
+        if code == causes::DONE && twice {
+            return;
         }
+        let answer = Answer {
+            code,
+            slot,
+            link,
+            level,
+        };
+        self.registry.carry_out(order, &answer);
     }
 }
 
