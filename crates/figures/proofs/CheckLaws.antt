@@ -25,7 +25,7 @@ use Rattle.model.specs.Laws.Aggregates.{growthSum}
 use Rattle.model.specs.Laws.All.{all-imp, map-all, all-getD}
 use Rattle.model.specs.Laws.Figures.{Crossed, crossed}
 use Rattle.units.specs.View.{aggregateOf}
-use Rattle.queue_table.specs.View.{linkIn, levelIn, queueAt, tableOf, hopAt, isQueue}
+use Rattle.queue_table.specs.View.{linkIn, levelIn, queueAt, tableOf, hopAt, isQueue, WellFormed}
 use Rattle.queue_table.proofs.EntryLaws.{queue-named}
 use Rattle.link_check.proofs.Laws.{mapped-next, mapped-end}
 use Rattle.causes.specs.declared.Finding.{Finding}
@@ -33,7 +33,7 @@ use Rattle.causes.specs.declared.Finding.the-variants.{Nothing}
 use Rattle.causes.specs.View.{findingOf}
 use Rattle.figures.specs.declared.shares.Held.{Held}
 use Rattle.figures.specs.declared.shares.Held.the-variants.{NotYet, By}
-use Rattle.figures.specs.View.{growthAt, figureAt, countedAt, changedAt, RoomAt, figuresAt, HeldAt, HeldOn, Bounded, Figures, FlowOf, OnTable, causeWith, Met, Answered, PathChecked, ChangeChecked}
+use Rattle.figures.specs.View.{growthAt, figureAt, levelsWith, eightOf, countedAt, changedAt, RoomAt, figuresAt, HeldAt, HeldOn, Bounded, Figures, FlowOf, OnTable, causeWith, Met, Answered, PathChecked, ChangeChecked}
 use Rattle.figures.proofs.EntryLaws.{growth-named}
 use Rattle.figures.proofs.FigureLaws.{at-most, replaced-most}
 use Rattle.figures.proofs.BoundLaws.{bounded-below}
@@ -113,8 +113,9 @@ module _ (own : (e sum : ℕ) → Aggregate) (table sums entries : List ℕ) whe
             left = λ fs met. ap (λ o. firstCause (o ∷ linkFindings t fs (drop (i + 1) (map hopAt entries)))) (sym fits) ∙ step fs met;
           })
 
--- A flow on the path crosses the link of the hop at `i` there alone.
+-- A flow on the path.
 module _ {table entries : List ℕ} (path : OnTable table entries) {share : Aggregate} {f : Flow} (is : FlowOf share entries f) where
+  -- It crosses the link of the hop at `i` there alone.
   hop-crossed : (i : ℕ) → i < length entries
       → Crossed (f .path) (map hopAt (take i entries)) (hopAt (getD entries i 0)) (map hopAt (drop (suc i) entries))
   hop-crossed i more =
@@ -130,7 +131,7 @@ module _ {table entries : List ℕ} (path : OnTable table entries) {share : Aggr
       (map-all (Named (tableOf table)) hopAt entries
       (all-imp entries (λ e q. record { queue = queueAt table (linkIn e) (levelIn e); found = queue-named table e q }) (path .named)))
 
-  -- The figures that hold the flow.
+  -- Its share there is counted in where the figures hold it.
   counted-room : {sums : List ℕ} {sum i : ℕ} (fs : List Flow) → Figures (tableOf table) (f ∷ fs) sums → (more : i < length entries) → getD entries i 0 < queuesMost
       → sum ≡ growthSum (tableOf table) (map hopAt (take i entries))
       → RoomAt share sums (getD entries i 0) sum
@@ -157,39 +158,39 @@ pub held-most : (held : Held) (share : Aggregate) (sums : List ℕ) (e sum : ℕ
 held-most NotYet share sums e sum = at-most (countedAt share sums e sum)
 held-most (By was) share sums e sum = replaced-most (figureAt sums e) (model.grown (aggregateOf was) sum) (model.grown share sum)
 
+-- The answer for a flow on the path beside others, where its figures at each hop are those that were checked.
+module _ (r : Finding) {table sums entries : List ℕ} (well : WellFormed table) (path : OnTable table entries) (fs : List Flow)
+    (on : All (λ g. All (Named (tableOf table)) (g .path)) fs) {share : Aggregate} {f : Flow} (is : FlowOf share entries f) where
+  flow-checked : (own : (e sum : ℕ) → Aggregate)
+      → ((i : ℕ) → i < length entries → let e : ℕ = getD entries i 0 in
+      eightOf table (f ∷ fs) (linkIn e) ≡ levelsWith sums e (own e (growthSum (tableOf table) (map hopAt (take i entries)))))
+      → Answered own table sums entries r
+      → findingOf r ≡ firstCause (linkFindings (tableOf table) (f ∷ fs) (f .path))
+  flow-checked own levels answered =
+      answered (f ∷ fs) (record { well = well; path = path; on = (path-named path is, on); levels = levels })
+      ∙ ap (λ l. firstCause (linkFindings (tableOf table) (f ∷ fs) l)) (sym (is .path-is))
+
 module _ {share : Aggregate} {table sums entries : List ℕ} {r : Finding} where
-  -- With the flow beside those of the figures.
+  -- It is counted in beside those of the figures.
   pub path-checked : Answered (countedAt share sums) table sums entries r → PathChecked share table sums entries r
   path-checked answered =
       record {
         first = λ fs f well path is figures on.
-            answered (f ∷ fs)
-            (record {
-              well = well;
-              path = path;
-              on = (path-named path is, on);
-              levels = λ i more.
-                  rw (sym (is .is))
-                  (levels-counted table (getD entries i 0) (hop-named path more) sums well fs figures f (hop-crossed path is i more));
-            })
-            ∙ ap (λ l. firstCause (linkFindings (tableOf table) (f ∷ fs) l)) (sym (is .path-is));
+            flow-checked r well path fs on is (countedAt share sums)
+            (λ i more. rw (sym (is .is)) (levels-counted table (getD entries i 0) (hop-named path more) sums well fs figures f (hop-crossed path is i more)))
+            answered;
       }
 
-  -- With a flow in place of one that the figures hold.
+  -- It stands in place of one that the figures hold.
   pub change-checked : {was : Aggregate} → Answered (changedAt was share sums) table sums entries r → ChangeChecked was share table sums entries r
-  change-checked answered =
+  change-checked {was} answered =
       record {
         first = λ fs f g well path is is′ same figures on.
-            answered (g ∷ fs)
-            (record {
-              well = well;
-              path = path;
-              on = (path-named path is′, on);
-              levels = λ i more.
-                  rw (sym (is .is), sym (is′ .is))
-                  (levels-changed table (getD entries i 0) (hop-named path more) sums well fs f figures g
-                  (ap (λ (a : Aggregate). a .frame) (is .is) ∙ same ∙ sym (ap (λ (a : Aggregate). a .frame) (is′ .is)))
-                  (hop-crossed path is i more) (hop-crossed path is′ i more));
-            })
-            ∙ ap (λ l. firstCause (linkFindings (tableOf table) (g ∷ fs) l)) (sym (is′ .path-is));
+            flow-checked r well path fs on is′ (changedAt was share sums)
+            (λ i more.
+            rw (sym (is .is), sym (is′ .is))
+            (levels-changed table (getD entries i 0) (hop-named path more) sums well fs f figures g
+            (ap (λ (a : Aggregate). a .frame) (is .is) ∙ same ∙ sym (ap (λ (a : Aggregate). a .frame) (is′ .is)))
+            (hop-crossed path is i more) (hop-crossed path is′ i more)))
+            answered;
       }

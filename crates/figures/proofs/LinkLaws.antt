@@ -97,9 +97,8 @@ module _ (table : List ℕ) where
         (sym (eight-levels fs i (speedAt table i) (bestEffortAt table i) (within .0) (well .shallow i (within .0)) on)
         ∙ ap (findingAt table i) levels)
 
-    -- The levels with a flow that crosses the link at the queue alone.
+    -- A flow that crosses the link at the queue alone is counted in there.
     module _ (f : Flow) (fs : List Flow) {before after : List Hop} (c : Crossed (f .path) before (hopAt e) after) where
-      -- The figures of the queue.
       abbrev withFlow : Aggregate
       withFlow = together (model.aggregateAt t fs (hopAt e)) (model.grown (model.source f) (growthSum t before))
 

@@ -77,7 +77,7 @@ figuresAt (By was) share sums e sum = changedAt (aggregateOf was) share sums e s
 abbrev pub RoomAt : (share : Aggregate) (sums : List ℕ) (e sum : ℕ) → Type 0
 RoomAt share sums e sum = (share .rate ≤ figureAt sums e .rate) × (grown share sum .burst ≤ figureAt sums e .burst)
 
--- A flow that they don't hold yet fits in, the share that they hold another by can be taken out.
+-- They have room for a flow that they don't hold yet, or the share that they hold it by can be taken out.
 abbrev pub HeldAt : Held → (sums : List ℕ) (e sum : ℕ) → Type 0
 HeldAt NotYet sums e sum = (figureAt sums e .rate ≤ 10000000) × (figureAt sums e .burst ≤ 2 ^ 32)
 HeldAt (By was) sums e sum = AtSource (aggregateOf was) × RoomAt (aggregateOf was) sums e sum × Below (2 ^ 63) sums
@@ -209,7 +209,7 @@ findingAt table link = check.linkFinding (speedAt table link) (bestEffortAt tabl
 abbrev pub causeWith : (table sums : List ℕ) (e : ℕ) (own : Aggregate) → Option Cause
 causeWith table sums e own = linkCause (linkIn e + 1) (findingAt table (linkIn e) (levelsWith sums e own))
 
--- The share that the figures hold the path's flow by is counted in along it.
+-- A flow that the figures hold by a share is counted in along its path, which meets no link twice.
 abbrev pub HeldOn : Held → (table entries sums : List ℕ) → Type 0
 HeldOn NotYet table entries sums = Unit {0}
 HeldOn (By was) table entries sums = AtSource (aggregateOf was) × OnTable table entries × PathCounted (aggregateOf was) table entries sums
@@ -239,7 +239,7 @@ pub record PathChecked (share : Aggregate) (table sums entries : List ℕ) (r : 
       → All (λ g. All (Named (tableOf table)) (g .path)) fs
       → findingOf r ≡ firstCause (linkFindings (tableOf table) (f ∷ fs) (f .path))
 
--- The same with the flow `g` in place of the flow `f` that the figures hold. Free where the two have another path or largest frame too.
+-- The same with the flow `g` in place of the flow `f` that the figures hold. Free too where their paths or largest frames differ.
 pub record ChangeChecked (was share : Aggregate) (table sums entries : List ℕ) (r : Finding) : Type 0 where
   pub first : (fs : List Flow) (f g : Flow) → WellFormed table → OnTable table entries → FlowOf was entries f → FlowOf share entries g
       → was .frame ≡ share .frame

@@ -85,9 +85,9 @@ pub(crate) fn figures_at(
     ensures { λ r. ⌜ aggregateOf r ≡ figuresAt held (aggregateOf share) (now (sums .entry)) e (sum .0) ⌝ }
 {
     let own = figure(e, sums);
-    let there = share.grown(sum);
+    let more = share.grown(sum);
     match held {
-        Held::NotYet => own.with_flow(there),
-        Held::By(was) => replaced(own, was.grown(sum), there),
+        Held::NotYet => own.with_flow(more),
+        Held::By(was) => replaced(own, was.grown(sum), more),
     }
 }
