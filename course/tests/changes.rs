@@ -49,13 +49,17 @@ fn typing_mistakes() {
         ),
         (
             " 3     7     2000    3084 ",
-            Some("2:26: 1 column too many: the line has 26, 25 are right"),
+            Some("2:26: 1 column too many: the line has 26, 25 are right: a change ends with its burst"),
         ),
         (
             " 3     7     2000    3084 1542    2000  1   1 1",
-            Some("2:26: 22 columns too many: the line has 47, 25 are right"),
+            Some("2:26: 22 columns too many: the line has 47, 25 are right: a change ends with its burst"),
         ),
         (" 3     7", Some("2:9: rate: the line ends after 8 columns")),
+        (
+            " 2     7     2000    3084",
+            Some("2:9: 17 columns too many: the line has 25, 8 are right: a release ends with its flow number"),
+        ),
         (" 3     7     2,00    3084", Some("2:15: rate: a comma")),
         (
             " 3     7     2000      83",
