@@ -49,13 +49,17 @@ fn typing_mistakes() {
         ),
         (
             " 3     7     2000    3084 ",
-            Some("2:26: 1 column too many: the line has 26, 25 are right"),
+            Some("2:26: 1 column too many: the line has 26, 25 are right: a change ends with its burst"),
         ),
         (
             " 3     7     2000    3084 1542    2000  1   1 1",
-            Some("2:26: 22 columns too many: the line has 47, 25 are right"),
+            Some("2:26: 22 columns too many: the line has 47, 25 are right: a change ends with its burst"),
         ),
         (" 3     7", Some("2:9: rate: the line ends after 8 columns")),
+        (
+            " 2     7     2000    3084",
+            Some("2:9: 17 columns too many: the line has 25, 8 are right: a release ends with its flow number"),
+        ),
         (" 3     7     2,00    3084", Some("2:15: rate: a comma")),
         (
             " 3     7     2000      83",
@@ -191,11 +195,16 @@ fn changes_are_marked() {
     );
     let refused = folder(" 3     7     3000    1542");
     assert!(marked(&refused, "1 0 1 0 0\n2 23 0 2 1 258 1726\n").ends_with("2 of 2 rows right\n"));
-    let slip = marked(&done, "1 0 1 0 0\n2 23 0 2 1 382 3268\n");
-    assert!(
-        slip.contains("; fits the slip: old share left on a change\n"),
-        "{slip}"
-    );
+    let slip = "; fits the slip: old share left on a change\n";
+    for bounds in ["382 3268", "- 3268", "382", ""] {
+        let told = marked(&done, &format!("1 0 1 0 0\n2 23 0 2 1 {bounds}\n"));
+        assert!(told.contains(slip), "{bounds}: {told}");
+    }
+    // The old share is in both bounds: a right one contradicts the slip.
+    for bounds in ["254 1664", "254", "382 1664"] {
+        let told = marked(&done, &format!("1 0 1 0 0\n2 23 0 2 1 {bounds}\n"));
+        assert!(!told.contains("slip"), "{bounds}: {told}");
+    }
 }
 
 /// Who takes a refused change for done goes on by it: 500 + 99,500 aren't below 100,000, 500 + 1,000 are.

@@ -3,7 +3,7 @@
 use crate::numbers::{commas, counted};
 use crate::titles::queue_name;
 use plain::faults::What;
-use plain::orders::Hop;
+use plain::orders::{Hop, KINDS};
 use plain::table::{LENGTHS, MOST_LEVELS, MOST_LINKS};
 
 /// `1 to 65,535`; several ranges joined by `or`.
@@ -50,6 +50,17 @@ fn turn((link, level): (u64, u64), before: Option<(u64, u64)>) -> String {
     format!("{} is out of turn: {expected}", queue((link, level)))
 }
 
+/// What an order without a path ends with, by its columns; nothing for other lines.
+fn ending(columns: usize) -> String {
+    let kind = KINDS
+        .iter()
+        .find(|kind| !kind.path && kind.head() == columns);
+    let last = kind.and_then(|kind| Some((kind.word, kind.fields.last()?.name)));
+    last.map_or(String::new(), |(word, field)| {
+        format!(": a {word} ends with its {field}")
+    })
+}
+
 /// `36, 43 or 48`.
 fn lengths() -> String {
     let shown = LENGTHS.map(|length| length.to_string());
@@ -80,9 +91,10 @@ pub fn words(what: &What) -> String {
             )
         }
         What::Long { columns, most } => format!(
-            "{} too many: the line has {}, {most} are right",
+            "{} too many: the line has {}, {most} are right{}",
             counted(columns - most, "column", "columns"),
-            commas(columns)
+            commas(columns),
+            ending(*most)
         ),
         What::Length { columns } => {
             format!("the line has {columns} columns, {} are right", lengths())

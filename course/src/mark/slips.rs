@@ -68,9 +68,10 @@ impl Follower {
     /// Whether these rules give the row where the true ones don't.
     fn fits(&self, order: &Order, row: &Row, truth: &Expected) -> bool {
         let own = self.expected(order);
-        // What blocks, and a burst's growth, are in both bounds: one that the slip wouldn't give contradicts it.
+        // What blocks, a burst's growth and a share are in both bounds: one that the slip wouldn't give contradicts it.
         let slips = &self.registry.slips;
-        let in_both = slips.blocking != Blocking::Larger || slips.growth == Growth::WholeThresholds;
+        let grown = slips.growth == Growth::WholeThresholds || slips.share_left;
+        let in_both = slips.blocking != Blocking::Larger || grown;
         if in_both && own.wrong_bounds(row) != [false; 3] {
             return false;
         }
