@@ -2,7 +2,7 @@
 -- that the order of registrations that are all admitted doesn't matter, and that nothing admitted by whole thresholds is lost.
 -- Each is a fact of another file, said again in the paper's terms. Assumes nothing.
 use Prim.Native.Nat.{ℕ}
-use mathlib.Core.Path.{_≡_, ap, sym, subst, _∙_}
+use mathlib.Core.Path.{_≡_, refl, ap, sym, subst, _∙_}
 use mathlib.Core.Bool.{true}
 use mathlib.Core.Logic.{_↔_}
 use mathlib.Core.List.{List, map}
@@ -11,7 +11,7 @@ use lib.ListN.{getD}
 use Rattle.model.specs.Words.{All}
 use Rattle.model.specs.Columns.{Line}
 use Rattle.model.specs.QueueTable.{Table, readTable}
-use Rattle.model.specs.Orders.{Flow, Change, Order, register, change, kindNumber, orderLine}
+use Rattle.model.specs.Orders.{Flow, Change, Order, register, release, change, changeInRange, changing, kindNumber, orderLine}
 use Rattle.model.specs.Timely.{Timely}
 use Rattle.model.specs.Laws.Run.Punctual.{punctual}
 use Rattle.model.specs.Laws.Run.Delivery.{in-time, none-lost, arrives}
@@ -23,9 +23,10 @@ use Rattle.model.specs.Part.{Part}
 use Rattle.model.specs.AnyOrder.{AdmittedWhole, AnyOrder}
 use Rattle.model.specs.Outcomes.{NoneApplies, withSlot, Decided, earlyFindings, NoRoom, Full}
 use Rattle.model.specs.WholeThresholds as before
+use Rattle.model.specs.Laws.Reference.{registered-zero}
 use Rattle.model.specs.Laws.Order.{call-readable, line-readable, ranged}
 use Rattle.model.specs.Laws.Consistent.{flows-rules, rules-flows, flows-part}
-use Rattle.model.specs.Laws.Reached.{StateRules, state-rules, rules-state, one-slot, apply-keeps, reached}
+use Rattle.model.specs.Laws.Reached.{StateRules, state-rules, rules-state, one-slot, registered-again, changed-ranged, released-from, apply-keeps, reached}
 use Rattle.model.specs.Laws.AnyOrder.{registered-exactly, in-any-order}
 use Rattle.model.specs.Laws.WholeThresholds.{flows-less, order-same, lines-same}
 use Rattle.model.specs.Laws.Schedulable.{schedulable}
@@ -82,18 +83,28 @@ module _ (s : State) (ok : consistent s ≡ true) where
   unfolding step
   room-exactly c f e m = rw e (room s f (rules .size) m)
 
-  -- W-206: a change of a held flow is admitted exactly when the held flows, with this one so changed, are consistent; 17 is among what that asks.
-  pub change-exactly : (call : Call) (c : Change) → callOrder call ≡ change c → (i : ℕ) (f : Flow) → getD (s .slots) i none ≡ some f → f .number ≡ c .number
-      → (step s call .answer .code ≡ 0) ↔ (consistent (withSlot s i (some (changed c f))) ≡ true)
-  change-exactly call c e i f held own =
-      let (to, from) = call-decided call .changed c e in (
-        λ z.
-            let m = to z in
-            let same : m .index ≡ i = one-slot s rules (c .number) (m .index) (m .held) (m .number) ∙ sym (one-slot s rules (c .number) i held own) in
-            let flow : m .flow ≡ f = Option·some-injective _ _ (sym (m .held) ∙ ap (λ i. getD (s .slots) i none) same ∙ held) in
-            subst (λ (f : Flow). consistent (withSlot s i (some (changed c f))) ≡ true) flow (subst (λ i. consistent (withSlot s i (some (changed c (m .flow)))) ≡ true) same (m .meets)),
-        λ meets. from (record { index = i; flow = f; held = held; number = own; meets = meets }),
-      )
+  -- W-206, of a change that was read and whose flow is held.
+  module _ (c : Change) (range : changeInRange c ≡ true) (i : ℕ) (f : Flow) (held : getD (s .slots) i none ≡ some f) (own : f .number ≡ c .number) where
+    -- It is admitted exactly when the held flows, with this one so changed, are consistent; 17 is among what that asks.
+    pub change-exactly : (apply s (change c) .answer .code ≡ 0) ↔ (consistent (withSlot s i (some (changed c f))) ≡ true)
+    change-exactly =
+        let (to, from) = decided s rules (change c) (kindNumber changing) (refl, range) .changed c refl in (
+          λ z.
+              let m = to z in
+              let same : m .index ≡ i = one-slot s rules (c .number) (m .index) (m .held) (m .number) ∙ sym (one-slot s rules (c .number) i held own) in
+              let flow : m .flow ≡ f = Option·some-injective _ _ (sym (m .held) ∙ ap (λ i. getD (s .slots) i none) same ∙ held) in
+              subst (λ (f : Flow). consistent (withSlot s i (some (changed c f))) ≡ true) flow (subst (λ i. consistent (withSlot s i (some (changed c (m .flow)))) ≡ true) same (m .meets)),
+          λ meets. from (record { index = i; flow = f; held = held; number = own; meets = meets }),
+        )
+
+    -- So just when the flow, released and registered again as changed with nothing in between, would be.
+    pub change-as-registered : (apply s (change c) .answer .code ≡ 0) ↔ (apply (apply s (release (c .number)) .next) (register (changed c f)) .answer .code ≡ 0)
+    change-as-registered =
+        rw (released-from s rules (c .number) i held own)
+        (let (to, from) = change-exactly in
+        let (meets, again) = registered-again s c range rules i held in
+        let (rules-of, zero) = registered-zero (withSlot s i none) (changed c f) (changed-ranged s c range rules i held) in
+        (λ z. zero (again (to z)), λ z. from (meets (rules-of z))))
 
 -- The state after any list of calls on any table text is consistent.
 pub reached-consistent : (text : List ℕ) (calls : List Call) → consistent (final (opened text) calls) ≡ true

@@ -1,7 +1,7 @@
 -- A registration that was read answers 0 exactly when none of 12, 14 to 17, 30 and 31 is against it and it is admissible: cause by cause, the links' by their levels.
 -- Assumes nothing.
 use Prim.Native.Nat.{ℕ, _≤_}
-use mathlib.Core.Path.{_≡_, refl, ap, sym, _∙_, subst}
+use mathlib.Core.Path.{_≡_, sym, _∙_, subst}
 use mathlib.Core.Bool.{true, _&&_}
 use mathlib.Core.Logic.{_↔_}
 use mathlib.Core.List.{List, _∷_, List·Memᴰ}
@@ -13,13 +13,13 @@ use Rattle.model.specs.Columns.{between}
 use Rattle.model.specs.Laws.Columns.{between-true}
 use Rattle.model.specs.Laws.Test.{and-both}
 use Rattle.model.specs.QueueTable.{Link, Table}
-use Rattle.model.specs.Orders.{Hop, Flow, register, headInRange, numberInRange, registering, kindNumber}
+use Rattle.model.specs.Orders.{Hop, Flow, register, headInRange, numberInRange}
 use Rattle.model.specs.LinkCheck.{linkFinding}
 use Rattle.model.specs.Laws.LinkCheck.{link-meets, meets-link}
 use Rattle.model.specs.Laws.Levels.{level-admits, admits-level}
 use Rattle.model.specs.Aggregates.{linkAt, levelAggregates}
 use Rattle.model.specs.Schedulable.{LinkMeets}
-use Rattle.model.specs.Reference.{State, heldFlows, apply, perform, fill, findings, deadlineFinding, pathDelay}
+use Rattle.model.specs.Reference.{State, heldFlows, apply, deadlineFinding, pathDelay}
 use Rattle.model.specs.Outcomes.{NoneOthers}
 use Rattle.model.specs.Laws.Finding.{whole-none, none-whole}
 use Rattle.model.specs.Laws.All.{all-member, member-all, all-imp}
@@ -27,7 +27,7 @@ use Rattle.model.specs.Laws.LinkMeets.{findings-meet, meet-findings}
 use Rattle.model.specs.Laws.Carries.{frame-carries, carries-frame}
 use Rattle.model.specs.Laws.Reached.{StateRules}
 use Rattle.model.specs.Consistent.{headOf, flowInRange}
-use Rattle.model.specs.Laws.Reference.{RegisterRules, register-rules, rules-register, performed, no-cause}
+use Rattle.model.specs.Laws.Reference.{RegisterRules, registered-zero}
 use Rattle.model.specs.Admissible.{LinkAdmits, Admissible}
 
 module _ (t : Table) (fs : List Flow) (frames : All (λ f. 1 ≤ f .frame) fs) (n : ℕ) (k : Link) (found : linkAt t n ≡ some k) where
@@ -72,11 +72,9 @@ module _ (s : State) (f : Flow) (ok : StateRules s) (range : flowInRange f ≡ t
 
   -- 0 if and only if none of 12, 14 to 17, 30 and 31 is against it and it is admissible.
   pub admissible : (apply s (register f) .answer .code ≡ 0) ↔ (NoneOthers s f × Admissible (s .table) (heldFlows (s .slots)) f)
-  unfolding findings perform fill
-  admissible = (
-    λ z. let r = register-rules s f (no-cause s (register f) (kindNumber registering) (refl, range) z) in (r .others, to r),
-    λ a. ap (λ o. o .answer .code) (performed s (register f) (rules-register s f (from (a .0) (a .1)))),
-  )
+  admissible =
+      let (rules, zero) = registered-zero s f range in
+      (λ z. let r = rules z in (r .others, to r), λ a. zero (from (a .0) (a .1)))
     where
       to : RegisterRules s f → Admissible (s .table) (heldFlows (s .slots)) f
       to r =

@@ -33,9 +33,9 @@ module _ (s : State) (ok : StateRules s) (o : Order) (kind : ℕ) (r : Readable 
   change-exactly : (c : Change) → Readable kind (orders.change c) → (apply s (orders.change c) .answer .code ≡ 0) ↔ Changeable s c
   unfolding perform fill
   change-exactly c read =
-      let (none, zero) = zero-exactly s (orders.change c) kind read refl in
+      let (passed, zero) = zero-exactly s (orders.change c) kind read refl in
       let (to, from) = changeable s c (read .1) ok in
-      (λ z. to (none z), λ m. zero (from m))
+      (λ z. to (passed z), λ m. zero (from m))
 
   pub decided : Decided s o (apply s o)
   decided =

@@ -4,23 +4,24 @@ use Prim.Native.Nat.{ℕ, zero, suc, _+_, _≤_, _<_}
 use mathlib.Core.Path.{_≡_, refl, sym, subst, _∙_}
 use mathlib.Core.Bool.{Bool, true, false, cond, _&&_}
 use mathlib.Core.Logic.{_↔_}
-use mathlib.Core.List.{List, [], _∷_}
+use mathlib.Core.List.{List, [], _∷_, List·Permᴰ, Permᴰ·symm}
 use mathlib.Core.Option.{Option, none, some}
 use native.Mathlib.Omega.{arith}
 use lib.ListN.{length, getD, set, replicate, length-set, length-replicate}
-use lib.Dec.{eqb}
-use borrow.Author.Tests.{eqb-true, eq-eqb, lt-leb, le-ltb}
+use lib.Dec.{leb, eqb}
+use borrow.Author.Tests.{eqb-true, eq-eqb, ne-eqb, leb-true, lt-leb, lt-ltb, le-ltb}
 use Rattle.model.specs.Words.{every, firstIndex, isNone}
 use Rattle.model.specs.Total.{total}
 use Rattle.model.specs.Orders.{Flow, Change, Order, register, release, change, rejected, changeInRange, kindNumber}
 use Rattle.model.specs.Sizes.{slotCount, hopEntries}
-use Rattle.model.specs.Reference.{Slot, State, Cause, Call, heldFlows, heldHops, withNumber, isHeld, firstCause, numberFinding, roomFindings, indexOf, slotWith, changed, changedSlot, changeFindings, findings, refuse, fill, perform, decide, apply, callOrder, step, opened, afterOrders, final}
+use Rattle.model.specs.Reference.{Slot, State, Cause, Call, heldFlows, heldHops, withNumber, isHeld, firstCause, whole, numberFinding, roomFindings, indexOf, slotWith, changed, changedSlot, changeFindings, findings, refuse, fill, perform, decide, apply, callOrder, step, opened, afterOrders, final}
 use Rattle.model.specs.Laws.Finding.{none-applies, none-whole}
 use Rattle.model.specs.Laws.LinkMeets.{findings-meet, meet-findings}
 use Rattle.model.specs.Outcomes.{NoneApplies, withSlot, Changeable}
+use Rattle.model.specs.Laws.All.{all-imp}
 use Rattle.model.specs.Laws.Part.{perm-part}
-use Rattle.model.specs.Laws.Slot.{all-held, not-all-held, fill-perm, clear-part, index-only}
-use Rattle.model.specs.Laws.Change.{no-other, changed-rules, rules-changed}
+use Rattle.model.specs.Laws.Slot.{all-held, not-all-held, fill-perm, clear-part, number-index, held-at, held-inside, put-perm, index-only}
+use Rattle.model.specs.Laws.Change.{changed-range, no-other, changed-rules, rules-changed}
 use Rattle.model.specs.Laws.Order.{Readable, call-readable}
 use Rattle.model.specs.Laws.Table.{table-consistent}
 use Rattle.model.specs.Laws.Test.{and-both, both-and}
@@ -138,6 +139,15 @@ one-slot s r n i held own =
     sym (index-only n (s .slots) i held own
     (subst (λ n. withNumber n (heldFlows (set (s .slots) i none)) ≡ 0) own (no-other (s .table) (s .slots) i held (r .flows))))
 
+-- A release of its flow leaves that slot empty.
+pub released-from : (s : State) → StateRules s → (n i : ℕ) {f : Flow} → getD (s .slots) i none ≡ some f → f .number ≡ n → apply s (release n) .next ≡ withSlot s i none
+unfolding apply decide perform fill findings firstCause whole
+released-from s r n i held own =
+    let at : i ≡ indexOf n (s .slots) = one-slot s r n i held own in
+    let some-held : leb 1 (withNumber n (heldFlows (s .slots))) ≡ true =
+    number-index n (s .slots) ∙ lt-ltb (indexOf n (s .slots)) (length (s .slots)) (omega (arith, at, held-inside (s .slots) i held)) in
+    rw (at, ne-eqb (withNumber n (heldFlows (s .slots))) 0 (λ z. omega (arith, leb-true 1 (withNumber n (heldFlows (s .slots))) some-held)))
+
 -- There is no cause against a change that was read exactly when its flow is held and all flows are consistent with it so changed.
 module _ (s : State) (c : Change) (range : changeInRange c ≡ true) (r : StateRules s) where
   abbrev index : ℕ
@@ -168,6 +178,33 @@ module _ (s : State) (c : Change) (range : changeInRange c ≡ true) (r : StateR
         let after : StateRules (withSlot s index (some (changed c (m .flow)))) =
         subst (λ i. StateRules (withSlot s i (some (changed c (m .flow))))) there (state-rules _ (m .meets)) in
         subst (λ x. NoneApplies (changeFindings s c x)) (sym held) (rules-changed (s .table) (s .slots) index held (r .flows) c (after .flows)),
+  )
+
+-- The same of its flow registered as changed, where its slot is empty.
+module _ (s : State) (c : Change) (range : changeInRange c ≡ true) (r : StateRules s) (i : ℕ) {f : Flow} (held : getD (s .slots) i none ≡ some f) where
+  abbrev apart : State
+  apart = withSlot s i none
+
+  apart-rules : StateRules apart
+  unfolding fill
+  apart-rules = clear-keeps s i r
+
+  again : List·Permᴰ (heldFlows (set (s .slots) i (some (changed c f)))) (changed c f ∷ heldFlows (set (s .slots) i none))
+  again = put-perm (s .slots) i (changed c f) (held-inside (s .slots) i held)
+
+  pub changed-ranged : flowInRange (changed c f) ≡ true
+  changed-ranged = changed-range c f range (held-at (λ f. flowInRange f ≡ true) (s .slots) i (all-imp (heldFlows (s .slots)) (λ f m. m .range) (r .flows .flows)) held)
+
+  pub registered-again : RegisterRules apart (changed c f) ↔ (consistent (withSlot s i (some (changed c f))) ≡ true)
+  registered-again = (
+    λ m.
+        rules-state (withSlot s i (some (changed c f)))
+        (record {
+          table = r .table;
+          size = length-set (s .slots) i (some (changed c f)) ∙ r .size;
+          flows = flows-part (s .table) (perm-part again) (rules-more apart (changed c f) (apart-rules .size) changed-ranged (apart-rules .flows) m);
+        }),
+    λ e. more-rules apart (changed c f) (apart-rules .size) (flows-part (s .table) (perm-part (Permᴰ·symm again)) (state-rules (withSlot s i (some (changed c f))) e .flows)),
   )
 
 pub apply-keeps : (s : State) (o : Order) (kind : ℕ) → Readable kind o → StateRules s → StateRules (apply s o .next)

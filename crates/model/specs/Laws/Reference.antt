@@ -11,10 +11,11 @@ use lib.ListN.{length, getElem?}
 use lib.Dec.{eqb}
 use borrow.Author.Tests.{eqb-true, eqb-false, ne-eqb, ltb-false, leb-false, not-true}
 use Rattle.model.specs.Words.{All, every, firstIndex, isNone}
-use Rattle.model.specs.Orders.{Hop, Flow, Change, Order, register, release, change, rejected, kindNumber}
+use Rattle.model.specs.Orders.{Hop, Flow, Change, Order, register, release, change, rejected, registering, kindNumber}
 use Rattle.model.specs.Sizes.{hopEntries}
 use Rattle.model.specs.Reference.{Slot, State, Cause, heldFlows, heldHops, withNumber, isHeld, holds, firstCause, whole, numberFinding, lineFindings, deadlineFinding, roomFindings, linkFindings, registerFindings, indexOf, slotWith, changedSlot, changeFindings, findings, refuse, fill, perform, decide, apply, Call, callOrder, step}
 use Rattle.model.specs.Codes.{lineCodes, heldCodes, burstCodes, registerCodes, plainCodes, hopCodes, linkCodes, queueCodes, causeCodes, orderCodes, hopsOf, pathIn, pathOf, OnPath, Names, nothing, hop, link, queue}
+use Rattle.model.specs.Consistent.{flowInRange}
 use Rattle.model.specs.Outcomes as Outcomes
 use Rattle.model.specs.Outcomes.{NoneApplies, NoneOthers, Refused, Admitted, Released, Changed, Done, admission}
 use Rattle.model.specs.Laws.Test.{every-all}
@@ -254,6 +255,12 @@ released-exactly s n = (to (eqb count 0) refl, λ h. rw (ne-eqb count 0 (λ e. o
 pub zero-exactly : (s : State) (o : Order) (kind : ℕ) → Readable kind o → perform s o .answer .code ≡ 0
     → (apply s o .answer .code ≡ 0) ↔ NoneApplies (findings s o)
 zero-exactly s o kind r z = (no-cause s o kind r, λ a. ap (λ out. out .answer .code) (performed s o a) ∙ z)
+
+pub registered-zero : (s : State) (f : Flow) → flowInRange f ≡ true → (apply s (register f) .answer .code ≡ 0) ↔ RegisterRules s f
+unfolding findings perform fill
+registered-zero s f range =
+    let (passed, zero) = zero-exactly s (register f) (kindNumber registering) (refl, range) refl in
+    (λ z. register-rules s f (passed z), λ r. zero (rules-register s f r))
 
 -- An order that answers 0 was carried out.
 pub done : (s : State) (o : Order) (kind : ℕ) → Readable kind o → apply s o .answer .code ≡ 0 → Done s o (apply s o)
