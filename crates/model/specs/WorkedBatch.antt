@@ -182,15 +182,15 @@ workedBatches =
     ∷ worked growthTable growthOrders "...................................................................................................." 0 5
     "     1  0   1   0 0\n     2  0   1   0 0\n     3 22   0   3 1\n     4 23   0   4 1\n     5  0   1   0 0\n"
     -- W-206: a flow in slot 2 is changed there, though slot 1 is free; a greater rate alone lets its burst grow by three at the second link, whose buffer then is one too small
-    -- (23); a burst below its largest frame (17); a flow that isn't held (13); the link's speed (21); a rate of 0 (11); a column more (10); it is held still,
-    -- and once released isn't (13)
+    -- (23); a burst below its largest frame, before the link's speed (17, 21); a flow that isn't held (13); one with a burst of 83, and the number 65,536 (11); nine columns
+    -- of rate (11); a column more, and a rate of 0 (10); another kind (11); the flow is held still, and once released isn't (13)
     ∷ worked
     "   1   1   2   448 1      6      300\n   2   2   3   448 1      6      172\n   3   3   1   448 1      6      169\n"
-    " 1     7     1000     168   84       6  1   3 1\n 1     1     1000     168  100      12  2   1 1   2 1\n 2     7\n 3     1     4000     168\n 3     1     5000     168\n 3     1     4000      99\n 3     2     4000     168\n 3     1   448000     168\n 3     1        0     168\n 3     1     4000     168 \n 2     1\n 3     1     4000     168\n"
-    "................................................................................................................................................................................................................................................"
+    " 1     7     1000     168   84       6  1   3 1\n 1     1     1000     168  100      12  2   1 1   2 1\n 2     7\n 3     1     4000     168\n 3     1     5000     168\n 3     1   448000      99\n 3     1   448000     168\n 3     2     4000      99\n 3     2     4000      83\n 3 65536     4000     168\n 3     1101000000     168\n 3     1        0     168 \n 4     1     4000     168\n 2     1\n 3     1     4000     168\n"
+    "............................................................................................................................................................................................................................................................................................................"
     0
-    12
-    "     1  0   1   0 0\n     2  0   2   0 0\n     3  0   1   0 0\n     4  0   2   0 0\n     5 23   0   2 1\n     6 17   0   0 0\n     7 13   0   0 0\n     8 21   0   1 0\n     9 11   0   0 0\n    10 10   0   0 0\n    11  0   2   0 0\n    12 13   0   0 0\n"
+    15
+    "     1  0   1   0 0\n     2  0   2   0 0\n     3  0   1   0 0\n     4  0   2   0 0\n     5 23   0   2 1\n     6 17   0   0 0\n     7 21   0   1 0\n     8 13   0   0 0\n     9 11   0   0 0\n    10 11   0   0 0\n    11 11   0   0 0\n    12 10   0   0 0\n    13 11   0   0 0\n    14  0   2   0 0\n    15 13   0   0 0\n"
     ∷ []
 
 -- The second and third part, by whole thresholds, before W-208: the codes of the last batch, and whether its flow, ending on link 5 or 2, is consistent beside another.
