@@ -124,7 +124,7 @@ pub record PathCounted (share : Aggregate) (table entries sums : List ℕ) : Typ
   pub is : FlowOf share entries f
   pub figures : Figures (tableOf table) (f ∷ fs) sums
 
--- The figures hold the flow by its new share, with the largest frame it had.
+-- The figures hold the flow by its new share. Free where that has another largest frame.
 pub record PathChanged (was share : Aggregate) (table entries sums sums′ : List ℕ) : Type 0 where
   pub long : length sums′ ≡ sumNumbers
   pub same : (f g : Flow) (fs : List Flow) → AllQueues table entries → FlowOf was entries f → FlowOf share entries g → was .frame ≡ share .frame
@@ -239,7 +239,7 @@ pub record PathChecked (share : Aggregate) (table sums entries : List ℕ) (r : 
       → All (λ g. All (Named (tableOf table)) (g .path)) fs
       → findingOf r ≡ firstCause (linkFindings (tableOf table) (f ∷ fs) (f .path))
 
--- The same with the flow `g` in place of the flow `f` that the figures hold. Free too where their paths or largest frames differ.
+-- The same with the flow `g` in place of the flow `f` that the figures hold. Free where `g` has another largest frame.
 pub record ChangeChecked (was share : Aggregate) (table sums entries : List ℕ) (r : Finding) : Type 0 where
   pub first : (fs : List Flow) (f g : Flow) → WellFormed table → OnTable table entries → FlowOf was entries f → FlowOf share entries g
       → was .frame ≡ share .frame

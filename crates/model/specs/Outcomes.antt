@@ -86,8 +86,8 @@ pub record Changeable (s : State) (c : Change) : Type 0 where
   pub meets : consistent (withSlot s index (some (changed c flow))) ≡ true
 
 -- Mission, line 2: the order `o` on the state `s` is answered, and leaves the state, as document 01 decides it. A registration that was read answers 0 if
--- and only if none of 12, 14 to 17, 30 and 31 is against it and the threshold-based model admits it; a release, if and only if its flow number is held. Any
--- other code is the cause that comes first.
+-- and only if none of 12, 14 to 17, 30 and 31 is against it and the threshold-based model admits it; a release, if and only if its flow number is held; a
+-- change, if and only if it is and the held flows, with this one so changed, are consistent. Any other code is the cause that comes first.
 pub record Decided (s : State) (o : Order) (out : Outcome) : Type 0 where
   pub exactly : (f : Flow) → o ≡ register f → (out .answer .code ≡ 0) ↔ (NoneOthers s f × Admissible (s .table) (heldFlows (s .slots)) f)
   pub held : (n : ℕ) → o ≡ orders.release n → (out .answer .code ≡ 0) ↔ (1 ≤ withNumber n (heldFlows (s .slots)))

@@ -15,7 +15,7 @@ use Rattle.model.specs.Orders.{Hop, Flow, Change, Order, register, relea
 use Rattle.model.specs.LinkCheck.{Finding, linkFinding}
 use Rattle.model.specs.Aggregates.{linkAt, queueAt, thresholdOf, fixedDelayOf, levelAggregates}
 
--- A slot: a flow as its line gave it, or none.
+-- A slot: a flow as its line gave it, with the rate and burst of its last change, or none.
 abbrev pub Slot : Type 0
 Slot = Option Flow
 

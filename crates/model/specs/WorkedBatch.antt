@@ -1,5 +1,5 @@
 -- Document 01, "Whole batch", worked out from the definitions; batches that show what counts as a line, which refusal comes first, and how bursts grow; what the order of registrations decides;
--- and links that 42 judges.
+-- lines of another kind in direct calls; and links that 42 judges.
 -- By computation. Assumes nothing.
 use Prim.Native.Nat.{ℕ, zero, suc}
 use Prim.Native.Char.{code}
@@ -10,12 +10,12 @@ use mathlib.Core.List.{List, [], _∷_, map, flatten}
 use Rattle.model.specs.Words.{every, firstIndex, isNone, nth}
 use Rattle.model.specs.Columns.{isDigit, digits, number, field, fieldAt, padded, justified, between, prepend, Line, lines}
 use Rattle.model.specs.QueueTable.{isRowLength, laterField, rowFields, row, bestEffortInRange, rowInRange, continues, begins, rowInTurn, sameLink, rowAgrees, rowCause, queueOf, newLink, addLevel, addRow, rowStep, lineStep, readLines, readTable}
-use Rattle.model.specs.Orders.{Flow, Order, headFields, hopField, hopFields, pathFields, numberInRange, hopsInRange, headInRange, flowOf, withPath, registrationOf, registration, releaseOf, releaseLine, changeFields, changeInRange, changeOf, changeLine, kindNumber, kindOfNumber, kindOrder, orderOfKind, readOrder, orderLine}
+use Rattle.model.specs.Orders.{Flow, Order, rejected, registering, releasing, changing, headFields, hopField, hopFields, pathFields, numberInRange, hopsInRange, headInRange, flowOf, withPath, registrationOf, registration, releaseOf, releaseLine, changeFields, changeInRange, changeOf, changeLine, kindNumber, kindOfNumber, kindOrder, orderOfKind, readOrder, orderLine}
 use Rattle.model.specs.Total.{total, largest}
 use Rattle.model.specs.Formula.{ceilDiv, shortestSending, hopGrowth, burstAtHop, residual, withinRate, delayBound, backlogBound, blocking, interference, levelResidual, delay, backlog}
 use Rattle.model.specs.LinkCheck.{isEmpty, levelCode, orElse, levelsFinding, rateCode, linkFinding}
 use Rattle.model.specs.Aggregates.{linkAt, queueAt, thresholdOf, speedOf, fixedDelayOf, shares, allShares, sameHop, addsAt, sharesAt, aggregateAt, levelAggregates}
-use Rattle.model.specs.Reference.{heldFlows, heldHops, withNumber, crosses, pathDelay, firstCause, whole, atHop, start, end, noQueue, metEarlier, startsElsewhere, numberFinding, lineFindings, deadlineFinding, isHeld, roomFindings, linkCause, causeAt, linkFindings, registerFindings, changed, changedSlot, changeFindings, findings, holds, refuse, fill, perform, decide, apply, orderAnswers, afterOrders, tableOf, opened}
+use Rattle.model.specs.Reference.{heldFlows, heldHops, withNumber, crosses, pathDelay, firstCause, whole, atHop, start, end, noQueue, metEarlier, startsElsewhere, numberFinding, lineFindings, deadlineFinding, isHeld, roomFindings, linkCause, causeAt, linkFindings, registerFindings, changed, changedSlot, changeFindings, findings, holds, refuse, fill, perform, decide, apply, orderAnswers, afterOrders, lineOfKind, onlyLine, callOrder, tableOf, opened}
 use Rattle.model.specs.Consistent.{rowOf, linkConsistent, headOf, flowInRange}
 use Rattle.model.specs.AnyOrder.{AdmittedWhole}
 use Rattle.model.specs.Outcomes.{earlyFindings}
@@ -182,15 +182,15 @@ workedBatches =
     ∷ worked growthTable growthOrders "...................................................................................................." 0 5
     "     1  0   1   0 0\n     2  0   1   0 0\n     3 22   0   3 1\n     4 23   0   4 1\n     5  0   1   0 0\n"
     -- W-206: a flow in slot 2 is changed there, though slot 1 is free; a greater rate alone lets its burst grow by three at the second link, whose buffer then is one too small
-    -- (23); a burst below its largest frame (17); a flow that isn't held (13); the link's speed (21); a rate of 0 (11); a column more (10); it is held still,
-    -- and once released isn't (13)
+    -- (23); a burst below its largest frame, before the link's speed (17, 21); a flow that isn't held (13); one with a burst of 83, and the number 65,536 (11); nine columns
+    -- of rate (11); a column more, and a rate of 0 (10); another kind (11); the flow is held still, and once released isn't (13)
     ∷ worked
     "   1   1   2   448 1      6      300\n   2   2   3   448 1      6      172\n   3   3   1   448 1      6      169\n"
-    " 1     7     1000     168   84       6  1   3 1\n 1     1     1000     168  100      12  2   1 1   2 1\n 2     7\n 3     1     4000     168\n 3     1     5000     168\n 3     1     4000      99\n 3     2     4000     168\n 3     1   448000     168\n 3     1        0     168\n 3     1     4000     168 \n 2     1\n 3     1     4000     168\n"
-    "................................................................................................................................................................................................................................................"
+    " 1     7     1000     168   84       6  1   3 1\n 1     1     1000     168  100      12  2   1 1   2 1\n 2     7\n 3     1     4000     168\n 3     1     5000     168\n 3     1   448000      99\n 3     1   448000     168\n 3     2     4000      99\n 3     2     4000      83\n 3 65536     4000     168\n 3     1101000000     168\n 3     1        0     168 \n 4     1     4000     168\n 2     1\n 3     1     4000     168\n"
+    "............................................................................................................................................................................................................................................................................................................"
     0
-    12
-    "     1  0   1   0 0\n     2  0   2   0 0\n     3  0   1   0 0\n     4  0   2   0 0\n     5 23   0   2 1\n     6 17   0   0 0\n     7 13   0   0 0\n     8 21   0   1 0\n     9 11   0   0 0\n    10 10   0   0 0\n    11  0   2   0 0\n    12 13   0   0 0\n"
+    15
+    "     1  0   1   0 0\n     2  0   2   0 0\n     3  0   1   0 0\n     4  0   2   0 0\n     5 23   0   2 1\n     6 17   0   0 0\n     7 21   0   1 0\n     8 13   0   0 0\n     9 11   0   0 0\n    10 11   0   0 0\n    11 11   0   0 0\n    12 10   0   0 0\n    13 11   0   0 0\n    14  0   2   0 0\n    15 13   0   0 0\n"
     ∷ []
 
 -- The second and third part, by whole thresholds, before W-208: the codes of the last batch, and whether its flow, ending on link 5 or 2, is consistent beside another.
@@ -218,6 +218,17 @@ pub worked-batches : (map (λ w. w .worked) workedBatches ≡ map (λ w. w .give
     × AdmittedWhole orderLine (opened (bytes hallTable)) (linesOf fourHops)
 unfolding linesOf fourHops hallTable gate pictures filmTable film camera secondCamera sorted flatten workedBatches worked growthTable growthOrders bytes bytesFrom isDigit digits number field fieldAt padded justified between prepend lines isRowLength laterField rowFields row bestEffortInRange rowInRange continues begins rowInTurn sameLink rowAgrees rowCause queueOf newLink addLevel addRow rowStep lineStep readLines readTable headFields hopField hopFields pathFields numberInRange hopsInRange headInRange flowOf withPath registrationOf registration releaseOf releaseLine changeFields changeInRange changeOf changeLine kindNumber kindOfNumber kindOrder orderOfKind readOrder orderLine total largest ceilDiv shortestSending hopGrowth burstAtHop residual withinRate delayBound backlogBound blocking interference levelResidual delay backlog isEmpty levelCode orElse levelsFinding rateCode linkFinding nth linkAt queueAt thresholdOf speedOf fixedDelayOf shares allShares sameHop addsAt sharesAt aggregateAt levelAggregates heldFlows heldHops withNumber crosses pathDelay firstCause whole atHop isNone start end noQueue metEarlier startsElsewhere numberFinding lineFindings deadlineFinding every isHeld roomFindings linkCause causeAt linkFindings registerFindings changed changedSlot changeFindings findings firstIndex holds refuse fill perform decide apply tableOf opened answerColumns answerLine lineAnswers orderAnswers afterOrders answerText refusedBatch doneBatch tooLong tooShort afterTable batch earlyFindings before.shares before.allShares before.levelAggregates before.causeAt before.linkFindings before.changeFindings before.findings before.apply before.lineAnswers before.flowConsistent before.flowsConsistent growthFlows flowInRange headOf
 worked-batches = (refl, refl, refl, refl, record { registrations = ((_, refl), ((_, refl), tt)); admitted = (refl, (refl, tt)) })
+
+-- W-206: lines with a kind alone, in the three direct calls: the rest lacks in a line of the call's own kind (10), and isn't read in one of another (11); a
+-- malformed kind (10).
+pub worked-calls : map (λ kind. map (λ line. callOrder (record { kind = kind; bytes = bytes line })) (" 1\n" ∷ " 2\n" ∷ " 3\n" ∷ "3 \n" ∷ []))
+    (registering ∷ releasing ∷ changing ∷ [])
+    ≡ (rejected 10 ∷ rejected 11 ∷ rejected 11 ∷ rejected 10 ∷ [])
+    ∷ (rejected 11 ∷ rejected 10 ∷ rejected 11 ∷ rejected 10 ∷ [])
+    ∷ (rejected 11 ∷ rejected 11 ∷ rejected 10 ∷ rejected 10 ∷ [])
+    ∷ []
+unfolding bytes bytesFrom isDigit digits number field fieldAt prepend lines changeFields headFields registrationOf registration releaseOf releaseLine changeOf changeLine kindNumber kindOfNumber kindOrder orderOfKind readOrder lineOfKind onlyLine callOrder
+worked-calls = refl
 
 -- 42: the link of a registry that calls find may have these best-effort frames, 0, 84 and 1,542, and not the others.
 pub worked-links : map

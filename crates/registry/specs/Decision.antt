@@ -18,8 +18,9 @@ outcomeOf called = record { answer = answerOf (called .answer); next = stateIn (
 -- What the mission's second line says of a call on a registry.
 pub record CallDecided (before : Registry) (c : Call) (called : Called) : Type 0 where
   -- A registration with none of the causes of a line and of room against it answers 0 exactly when the threshold-based model admits it, with one of them
-  -- never; a release exactly when its flow is held. Another code is the cause that comes first, and the state is as before. An admission sets one slot, the
-  -- lowest free one, to the flow of the line; a release empties one slot, that of the named flow: `Decided` has each as an equation between states.
+  -- never; a release exactly when its flow is held; a change exactly when it is and the held flows, with this one so changed, are consistent. Another code is
+  -- the cause that comes first, and the state is as before. An admission sets one slot, the lowest free one, to the flow of the line; a release empties one
+  -- slot, that of the named flow; a change gives the flow there the rate and burst of the line: `Decided` has each as an equation between states.
   pub decided : Decided (stateIn before) (callOrder c) (outcomeOf called)
   -- No call changes the table's array, and a refused one no figure.
   pub table : called .registry .table ≡ before .table

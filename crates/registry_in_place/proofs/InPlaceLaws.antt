@@ -1,5 +1,5 @@
 -- A function that hands the registry behind its `&mut` to a call by value and stores the one that comes back does that call in place.
--- A walk of its MIR, by hand, for a callee of either kind, of which only the contract is known. Assumes nothing.
+-- A walk of its MIR, by hand, for a callee of any kind, of which only the contract is known. Assumes nothing.
 use mathlib.Core.Path.{refl, ap}
 use Prim.Native.Nat.{ℕ}
 use mathlib.Core.List.{[], _∷_, List}

@@ -1,4 +1,4 @@
--- A registry in a local, lent to a call of either kind: afterwards the local holds the registry that the call left.
+-- A registry in a local, lent to a call of any kind: afterwards the local holds the registry that the call left.
 -- A walk by hand: a lifetime is made for the call, of which only the contract is known. Assumes nothing.
 use Prim.Native.Nat.{ℕ}
 use mathlib.Core.List.{[], _∷_, List}
