@@ -27,7 +27,7 @@ use Rattle.model.specs.Laws.Table.{table-consistent}
 use Rattle.model.specs.Laws.Test.{and-both, both-and}
 use Rattle.model.specs.Consistent.{tableConsistent, flowInRange, consistent}
 use Rattle.model.specs.Laws.Consistent.{FlowsRules, flows-rules, rules-flows, flows-part, flows-more}
-use Rattle.model.specs.Laws.Reference.{RegisterRules, register-rules, number-new, slot-free, hops-free, carried-over}
+use Rattle.model.specs.Laws.Reference.{RegisterRules, register-rules, number-new, slot-free, hops-free, change-done}
 
 -- What a consistent state meets.
 pub record StateRules (s : State) : Type 0 where
@@ -170,7 +170,7 @@ module _ (s : State) (c : Change) (range : changeInRange c ≡ true) (r : StateR
   unfolding findings changeFindings
   changeable = (
     λ a.
-        let done = carried-over s c a in
+        let done = change-done s c a in
         record { index = done .index; flow = done .flow; held = done .held; number = done .number; meets = rules-state _ (subst StateRules (done .next) (change-keeps a)) },
     λ m.
         let there : m .index ≡ index = one-slot s r (c .number) (m .index) (m .held) (m .number) in

@@ -220,9 +220,9 @@ released s n a =
       next = refl;
     }
 
-pub carried-over : (s : State) (c : Change) → NoneApplies (findings s (change c)) → Changed s c (perform s (change c))
+pub change-done : (s : State) (c : Change) → NoneApplies (findings s (change c)) → Changed s c (perform s (change c))
 unfolding perform fill findings changeFindings changedSlot whole
-carried-over s c a = go (slotWith (c .number) (s .slots)) refl a
+change-done s c a = go (slotWith (c .number) (s .slots)) refl a
   where
     go : (x : Slot) → slotWith (c .number) (s .slots) ≡ x → NoneApplies (changeFindings s c x) → Changed s c (fill s (indexOf (c .number) (s .slots)) (changedSlot c x))
     go none e a = absurd (Option·some-ne-none _ (a .0))
@@ -273,7 +273,7 @@ done s o kind r z = subst (Done s o) (sym (performed s o none)) (go o none)
     go : (o : Order) → NoneApplies (findings s o) → Done s o (perform s o)
     go (register f) a = admission f refl (admitted s f (register-rules s f a))
     go (release n) a = Outcomes.release n refl (released s n a)
-    go (change c) a = Outcomes.change c refl (carried-over s c a)
+    go (change c) a = Outcomes.change c refl (change-done s c a)
     go (rejected code) a = absurd (Option·some-ne-none _ (a .0))
 
 -- No order changes the table.
