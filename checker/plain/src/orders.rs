@@ -26,6 +26,13 @@ pub struct Flow {
     pub hops: Vec<Hop>,
 }
 
+#[derive(Clone, Debug, PartialEq)]
+pub enum Order {
+    Register(Flow),
+    Release(u64),
+    Change(Change),
+}
+
 /// What the held flow with this number is to have from now on.
 #[derive(Clone, Copy, Debug, PartialEq)]
 pub struct Change {
@@ -34,13 +41,6 @@ pub struct Change {
     pub rate: u64,
     /// Bytes.
     pub burst: u64,
-}
-
-#[derive(Clone, Debug, PartialEq)]
-pub enum Order {
-    Register(Flow),
-    Release(u64),
-    Change(Change),
 }
 
 pub const REGISTER: u64 = 1;

@@ -20,31 +20,38 @@ use Rattle.model.specs.Aggregates as model
 use Rattle.model.specs.WithFlow.{together}
 use Rattle.model.specs.Schedulable.{Named}
 use Rattle.model.specs.Reference.{Cause, causeAt, linkFindings, firstCause}
-use Rattle.model.specs.Laws.Formula.{AtMost}
 use Rattle.model.specs.Laws.Aggregates.{growthSum}
 use Rattle.model.specs.Laws.All.{all-imp, map-all, all-getD}
 use Rattle.model.specs.Laws.Figures.{Crossed, crossed}
-use Rattle.units.specs.View.{aggregateOf}
 use Rattle.queue_table.specs.View.{linkIn, levelIn, queueAt, tableOf, hopAt, isQueue, WellFormed}
 use Rattle.queue_table.proofs.EntryLaws.{queue-named}
 use Rattle.link_check.proofs.Laws.{mapped-next, mapped-end}
 use Rattle.causes.specs.declared.Finding.{Finding}
 use Rattle.causes.specs.declared.Finding.the-variants.{Nothing}
 use Rattle.causes.specs.View.{findingOf}
-use Rattle.figures.specs.declared.shares.Held.{Held}
-use Rattle.figures.specs.declared.shares.Held.the-variants.{NotYet, By}
-use Rattle.figures.specs.View.{growthAt, figureAt, levelsWith, eightOf, countedAt, changedAt, RoomAt, figuresAt, HeldAt, HeldOn, Bounded, Figures, FlowOf, OnTable, causeWith, Met, Answered, PathChecked, ChangeChecked}
+use Rattle.figures.specs.View.{growthAt, levelsWith, countedAt, changedAt, RoomAt, Figures, FlowOf, OnTable, causeWith, PathChecked, ChangeChecked}
 use Rattle.figures.proofs.EntryLaws.{growth-named}
-use Rattle.figures.proofs.FigureLaws.{at-most, replaced-most}
-use Rattle.figures.proofs.BoundLaws.{bounded-below}
-use Rattle.figures.proofs.LinkLaws.{hop-cause, own-level, levels-counted, levels-changed}
+use Rattle.figures.proofs.LinkLaws.{eightOf, hop-cause, own-level, levels-counted, levels-changed}
+
+-- The levels of each link on the path, with the figures `own` at the path's queue, are those of the flows. `own` takes the queue and S over the hops before.
+pub record Met (own : (e sum : ℕ) → Aggregate) (table sums entries : List ℕ) (gs : List Flow) : Type 0 where
+  pub well : WellFormed table
+  pub path : OnTable table entries
+  pub on : All (λ g. All (Named (tableOf table)) (g .path)) gs
+  pub levels : (i : ℕ) → i < length entries → let e : ℕ = getD entries i 0 in
+      eightOf table gs (linkIn e) ≡ levelsWith sums e (own e (growthSum (tableOf table) (map hopAt (take i entries))))
+
+-- The first of 21 to 23 along the path with those flows.
+abbrev Answered : (own : (e sum : ℕ) → Aggregate) (table sums entries : List ℕ) (r : Finding) → Type 0
+Answered own table sums entries r =
+    (gs : List Flow) → Met own table sums entries gs → findingOf r ≡ firstCause (linkFindings (tableOf table) gs (map hopAt entries))
 
 -- The links before hop `i` pass, and `sum` is S over the hops before it.
 pub record Checking (own : (e sum : ℕ) → Aggregate) (table sums entries : List ℕ) (sum i : ℕ) : Type 0 where
   pub sum-below : sum ≤ i * 100000
   pub sum-is : OnTable table entries → sum ≡ growthSum (tableOf table) (map hopAt (take i entries))
-  pub left : (fs : List Flow) → Met own table sums entries fs
-      → firstCause (linkFindings (tableOf table) fs (drop i (map hopAt entries))) ≡ firstCause (linkFindings (tableOf table) fs (map hopAt entries))
+  pub left : (gs : List Flow) → Met own table sums entries gs
+      → firstCause (linkFindings (tableOf table) gs (drop i (map hopAt entries))) ≡ firstCause (linkFindings (tableOf table) gs (map hopAt entries))
 
 hop-named : {table entries : List ℕ} {i : ℕ} → OnTable table entries → i < length entries → isQueue table (getD entries i 0) ≡ true
 hop-named {table} {entries} {i} path more = all-getD (λ e. isQueue table e ≡ true) entries i 0 (path .named) more
@@ -60,12 +67,12 @@ module _ (own : (e sum : ℕ) → Aggregate) (table sums entries : List ℕ) whe
 
   pub checking-none : Checking own table sums entries 0 0
   unfolding growthSum total
-  checking-none = record { sum-below = omega arith; sum-is = λ path. refl; left = λ fs met. refl }
+  checking-none = record { sum-below = omega arith; sum-is = λ path. refl; left = λ gs met. refl }
 
   module _ {sum i : ℕ} (so-far : Checking own table sums entries sum i) where
     pub checking-all : length entries ≤ i → Answered own table sums entries Nothing
     unfolding linkFindings firstCause
-    checking-all end fs met = sym (ap (λ l. firstCause (linkFindings t fs l)) (mapped-end hopAt entries i end)) ∙ so-far .left fs met
+    checking-all end gs met = sym (ap (λ l. firstCause (linkFindings t gs l)) (mapped-end hopAt entries i end)) ∙ so-far .left gs met
 
     -- What the check of the hop at `i` found, with the figures there.
     module _ (more : i < length entries) (r : Finding) {there : Aggregate} (own-is : there ≡ own (getD entries i 0) sum)
@@ -73,21 +80,21 @@ module _ (own : (e sum : ℕ) → Aggregate) (table sums entries : List ℕ) whe
       abbrev e : ℕ
       e = getD entries i 0
 
-      step : (fs : List Flow) → Met own table sums entries fs
-          → firstCause (findingOf r ∷ linkFindings t fs (drop (i + 1) (map hopAt entries))) ≡ firstCause (linkFindings t fs (map hopAt entries))
+      step : (gs : List Flow) → Met own table sums entries gs
+          → firstCause (findingOf r ∷ linkFindings t gs (drop (i + 1) (map hopAt entries))) ≡ firstCause (linkFindings t gs (map hopAt entries))
       unfolding linkFindings
-      step fs met =
-          let at-hop : causeAt t fs (hopAt e .link) (model.linkAt t (hopAt e .link)) ≡ findingOf r
-          = hop-cause table e (hop-named (met .path) more) sums (met .well) fs (met .on) _ (met .levels i more)
+      step gs met =
+          let at-hop : causeAt t gs (hopAt e .link) (model.linkAt t (hopAt e .link)) ≡ findingOf r
+          = hop-cause table e (hop-named (met .path) more) sums (met .well) gs (met .on) _ (met .levels i more)
           ∙ ap (λ (s : ℕ). causeWith table sums e (own e s)) (sym (so-far .sum-is (met .path)))
           ∙ ap (causeWith table sums e) (sym own-is)
           ∙ sym found in
-          ap (λ o. firstCause (o ∷ linkFindings t fs (drop (i + 1) (map hopAt entries)))) (sym at-hop)
-          ∙ ap (λ l. firstCause (linkFindings t fs l)) (sym (mapped-next hopAt entries i 0 more))
-          ∙ so-far .left fs met
+          ap (λ o. firstCause (o ∷ linkFindings t gs (drop (i + 1) (map hopAt entries)))) (sym at-hop)
+          ∙ ap (λ l. firstCause (linkFindings t gs l)) (sym (mapped-next hopAt entries i 0 more))
+          ∙ so-far .left gs met
 
       pub checking-found : (findingOf r ≡ none → ⊥) → Answered own table sums entries r
-      checking-found fault fs met = sym (first-fault (findingOf r) (linkFindings t fs (drop (i + 1) (map hopAt entries))) fault) ∙ step fs met
+      checking-found fault gs met = sym (first-fault (findingOf r) (linkFindings t gs (drop (i + 1) (map hopAt entries))) fault) ∙ step gs met
 
       sum-next : OnTable table entries → sum + growthAt table e ≡ growthSum t (map hopAt (take (i + 1) entries))
       unfolding growthSum total
@@ -110,12 +117,11 @@ module _ (own : (e sum : ℕ) → Aggregate) (table sums entries : List ℕ) whe
           (record {
             sum-below = omega (arith, so-far .sum-below);
             sum-is = sum-next;
-            left = λ fs met. ap (λ o. firstCause (o ∷ linkFindings t fs (drop (i + 1) (map hopAt entries)))) (sym fits) ∙ step fs met;
+            left = λ gs met. ap (λ o. firstCause (o ∷ linkFindings t gs (drop (i + 1) (map hopAt entries)))) (sym fits) ∙ step gs met;
           })
 
--- A flow on the path.
+-- A flow on the path crosses the link of the hop at `i` there alone.
 module _ {table entries : List ℕ} (path : OnTable table entries) {share : Aggregate} {f : Flow} (is : FlowOf share entries f) where
-  -- It crosses the link of the hop at `i` there alone.
   hop-crossed : (i : ℕ) → i < length entries
       → Crossed (f .path) (map hopAt (take i entries)) (hopAt (getD entries i 0)) (map hopAt (drop (suc i) entries))
   hop-crossed i more =
@@ -131,8 +137,8 @@ module _ {table entries : List ℕ} (path : OnTable table entries) {share : Aggr
       (map-all (Named (tableOf table)) hopAt entries
       (all-imp entries (λ e q. record { queue = queueAt table (linkIn e) (levelIn e); found = queue-named table e q }) (path .named)))
 
-  -- Its share there is counted in where the figures hold it.
-  counted-room : {sums : List ℕ} {sum i : ℕ} (fs : List Flow) → Figures (tableOf table) (f ∷ fs) sums → (more : i < length entries) → getD entries i 0 < queuesMost
+  -- The figures that hold the flow.
+  pub counted-room : {sums : List ℕ} {sum i : ℕ} (fs : List Flow) → Figures (tableOf table) (f ∷ fs) sums → (more : i < length entries) → getD entries i 0 < queuesMost
       → sum ≡ growthSum (tableOf table) (map hopAt (take i entries))
       → RoomAt share sums (getD entries i 0) sum
   unfolding together
@@ -141,56 +147,39 @@ module _ {table entries : List ℕ} (path : OnTable table entries) {share : Aggr
       let own = own-level table e (hop-named path more) sums f fs (hop-crossed i more) low figures in
       rw (sum-is, sym (is .is)) (omega (arith, ap (λ (a : Aggregate). a .rate) own), omega (arith, ap (λ (a : Aggregate). a .burst) own))
 
--- The flow as the figures hold it, at the hop at `i`.
-pub held-at : (held : Held) (table entries sums : List ℕ) (sum i : ℕ) → HeldOn held table entries sums → Bounded sums → i < length entries → getD entries i 0 < queuesMost
-    → (OnTable table entries → sum ≡ growthSum (tableOf table) (map hopAt (take i entries)))
-    → HeldAt held sums (getD entries i 0) sum
-held-at NotYet table entries sums sum i on bounded more low sum-is = (bounded .rates (getD entries i 0) low, bounded .bursts (getD entries i 0) low)
-held-at (By was) table entries sums sum i on bounded more low sum-is =
-    let counted = on .2 in (
-      on .0,
-      counted-room (on .1) (counted .is) (counted .fs) (counted .figures) more low (sum-is (on .1)),
-      λ j. omega (arith, bounded-below sums bounded j),
-    )
-
--- Its figures there are at most those with it counted in.
-pub held-most : (held : Held) (share : Aggregate) (sums : List ℕ) (e sum : ℕ) → AtMost (figuresAt held share sums e sum) (countedAt share sums e sum)
-held-most NotYet share sums e sum = at-most (countedAt share sums e sum)
-held-most (By was) share sums e sum = replaced-most (figureAt sums e) (model.grown (aggregateOf was) sum) (model.grown share sum)
-
--- The answer for a flow on the path beside others, where its figures at each hop are those that were checked.
-module _ (r : Finding) {table sums entries : List ℕ} (well : WellFormed table) (path : OnTable table entries) (fs : List Flow)
-    (on : All (λ g. All (Named (tableOf table)) (g .path)) fs) {share : Aggregate} {f : Flow} (is : FlowOf share entries f) where
-  flow-checked : (own : (e sum : ℕ) → Aggregate)
-      → ((i : ℕ) → i < length entries → let e : ℕ = getD entries i 0 in
-      eightOf table (f ∷ fs) (linkIn e) ≡ levelsWith sums e (own e (growthSum (tableOf table) (map hopAt (take i entries)))))
-      → Answered own table sums entries r
-      → findingOf r ≡ firstCause (linkFindings (tableOf table) (f ∷ fs) (f .path))
-  flow-checked own levels answered =
-      answered (f ∷ fs) (record { well = well; path = path; on = (path-named path is, on); levels = levels })
-      ∙ ap (λ l. firstCause (linkFindings (tableOf table) (f ∷ fs) l)) (sym (is .path-is))
-
 module _ {share : Aggregate} {table sums entries : List ℕ} {r : Finding} where
-  -- It is counted in beside those of the figures.
+  -- With the flow beside those of the figures.
   pub path-checked : Answered (countedAt share sums) table sums entries r → PathChecked share table sums entries r
   path-checked answered =
       record {
         first = λ fs f well path is figures on.
-            flow-checked r well path fs on is (countedAt share sums)
-            (λ i more. rw (sym (is .is)) (levels-counted table (getD entries i 0) (hop-named path more) sums well fs figures f (hop-crossed path is i more)))
-            answered;
+            answered (f ∷ fs)
+            (record {
+              well = well;
+              path = path;
+              on = (path-named path is, on);
+              levels = λ i more.
+                  rw (sym (is .is))
+                  (levels-counted table (getD entries i 0) (hop-named path more) sums well fs figures f (hop-crossed path is i more));
+            })
+            ∙ ap (λ l. firstCause (linkFindings (tableOf table) (f ∷ fs) l)) (sym (is .path-is));
       }
 
-  -- It stands in place of one that the figures hold.
+  -- With a flow in place of one that the figures hold.
   pub change-checked : {was : Aggregate} → Answered (changedAt was share sums) table sums entries r → ChangeChecked was share table sums entries r
-  change-checked {was} answered =
+  change-checked answered =
       record {
         first = λ fs f g well path is is′ same figures on.
-            flow-checked r well path fs on is′ (changedAt was share sums)
-            (λ i more.
-            rw (sym (is .is), sym (is′ .is))
-            (levels-changed table (getD entries i 0) (hop-named path more) sums well fs f figures g
-            (ap (λ (a : Aggregate). a .frame) (is .is) ∙ same ∙ sym (ap (λ (a : Aggregate). a .frame) (is′ .is)))
-            (hop-crossed path is i more) (hop-crossed path is′ i more)))
-            answered;
+            answered (g ∷ fs)
+            (record {
+              well = well;
+              path = path;
+              on = (path-named path is′, on);
+              levels = λ i more.
+                  rw (sym (is .is), sym (is′ .is))
+                  (levels-changed table (getD entries i 0) (hop-named path more) sums well fs f figures g
+                  (ap (λ (a : Aggregate). a .frame) (is .is) ∙ same ∙ sym (ap (λ (a : Aggregate). a .frame) (is′ .is)))
+                  (hop-crossed path is i more) (hop-crossed path is′ i more));
+            })
+            ∙ ap (λ l. firstCause (linkFindings (tableOf table) (g ∷ fs) l)) (sym (is′ .path-is));
       }

@@ -20,8 +20,8 @@ use Rattle.model.specs.Orders.{Hop, Flow}
 use Rattle.model.specs.Laws.Aggregates.{same-hop, hop-same}
 use Rattle.model.specs.Laws.Figures.{shares-nothing, shares-other, shares-here, aggregate-alone, aggregate-more}
 use Rattle.units.specs.View.{AtSource}
-use Rattle.queue_table.specs.View.{entryAt, tableOf, hopAt, isQueue, AllQueues}
-use Rattle.figures.specs.View.{growthAt, ShareBounded, Hops, FlowOf}
+use Rattle.queue_table.specs.View.{entryAt, linkIn, speedAt, tableOf, hopAt, isQueue, AllQueues}
+use Rattle.figures.specs.View.{growthAt, ShareBounded, Hops, Speeds, FlowOf}
 use Rattle.queue_table.proofs.EntryLaws.{threshold-named, speed-named}
 use Rattle.link_check.proofs.Laws.{mapped-next, mapped-end}
 
@@ -56,6 +56,9 @@ pub hop-at : {table entries : List ℕ} {sum i : ℕ} → Hops table entries →
 hop-at {table} {entries} {sum} {i} hops below more =
     let hop = all-getD (λ e. (e < queuesMost) × (growthAt table e ≤ 100000)) entries i 0 (hops .each) more in
     (hop .0, hop .1, omega (arith, hops .few))
+
+pub speed-at : {table entries : List ℕ} {i : ℕ} → Speeds table entries → i < length entries → speedAt table (linkIn (getD entries i 0)) ≤ 10000
+speed-at {table} {entries} {i} speeds more = all-getD (λ e. speedAt table (linkIn e) ≤ 10000) entries i 0 (speeds .each) more
 
 -- What the hops of a flow from `i` on add at queue `e`, where S over those before them is `sum`.
 abbrev pub leftAt : (table : List ℕ) (f : Flow) (sum i e : ℕ) → Aggregate

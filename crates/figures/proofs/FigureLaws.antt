@@ -1,4 +1,4 @@
--- Figures stored in the array are read back, and those of the other queues stay as they were. A flow counted by another share.
+-- Figures stored in the array are read back, and those of the other queues stay as they were.
 -- Assumes nothing.
 use Prim.Native.Nat.{ℕ, zero, suc, _+_, _-_, _*_, _/_, _%_, _^_, _≤_, _<_, max}
 use mathlib.Core.Path.{_≡_, refl, sym, ap, _∙_}
@@ -71,7 +71,7 @@ module _ (sums : List ℕ) (e : ℕ) (a : Aggregate) where
 pub at-most : (a : Aggregate) → AtMost a a
 at-most a = record { rate = omega arith; burst = omega arith; frame = omega arith }
 
--- Figures stored that are no more than with a share counted in: no number grows by more.
+-- No number grows by more than a share where the figures of a queue don't.
 pub stored-more : (sums : List ℕ) (e : ℕ) {share a : Aggregate} → ShareBounded share → AtMost a (together (figureAt sums e) share)
     → (bound : ℕ) → Below bound sums → Below (bound + 2 ^ 31) (figureStored sums e a)
 unfolding figureAt together
@@ -97,7 +97,7 @@ replaced-own rest a was share = λ i. record { rate = rate i; burst = burst i; f
     burst : rest .burst + (a .burst + was .burst) - was .burst + share .burst ≡ rest .burst + (a .burst + share .burst)
     burst = omega arith
 
--- That is no more than with the new share beside the old one.
+-- It is no more than if it were counted in twice.
 pub replaced-most : (own was share : Aggregate) → AtMost (replaced own was share) (together own share)
 unfolding replaced together
 replaced-most own was share = record { rate = omega arith; burst = omega arith; frame = omega arith }

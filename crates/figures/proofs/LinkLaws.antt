@@ -27,7 +27,7 @@ use Rattle.model.specs.Laws.Figures.{Crossed, counted, shares-nothing, levels-m
 use Rattle.queue_table.specs.View.{upTo, entryAt, linkIn, levelIn, linkCount, speedAt, bestEffortAt, levelsAt, queueAt, linkAt, tableOf, hopAt, isQueue, WellFormed}
 use Rattle.queue_table.proofs.ViewLaws.{length-up, up-same}
 use Rattle.queue_table.proofs.LookupLaws.{link-found, link-missing, queue-no-level}
-use Rattle.figures.specs.View.{figureAt, levelFigures, eightOf, levelsWith, countedAt, replaced, changedAt, findingAt, causeWith, codeAt, Figures}
+use Rattle.figures.specs.View.{figureAt, levelFigures, levelsWith, countedAt, replaced, changedAt, findingAt, causeWith, codeAt, Figures}
 use Rattle.queue_table.proofs.EntryLaws.{queue-within, queue-low}
 use Rattle.figures.proofs.EntryLaws.{entry-hop}
 use Rattle.figures.proofs.FigureLaws.{keptFrame, kept-same, replaced-own}
@@ -54,7 +54,11 @@ module _ (table : List ℕ) where
   abbrev t : Table
   t = tableOf table
 
-  figure-levels : (fs : List Flow) (sums : List ℕ) (i : ℕ) → i < linksMost → Figures t fs sums → eightOf table fs i ≡ levelFigures sums i
+  -- What the flows have at the eight levels of a link, counted from 0.
+  abbrev pub eightOf : (fs : List Flow) (link : ℕ) → List Aggregate
+  eightOf fs i = model.levelAggregates t fs (i + 1) 1 (upTo levelsMost (queueAt table i))
+
+  figure-levels : (fs : List Flow) (sums : List ℕ) (i : ℕ) → i < linksMost → Figures t fs sums → eightOf fs i ≡ levelFigures sums i
   unfolding levelFigures
   figure-levels fs sums i h figures =
       levels-up t fs (i + 1) levelsMost (queueAt table i)
@@ -63,7 +67,7 @@ module _ (table : List ℕ) where
 
   -- Eight levels say what the link's own levels say.
   eight-levels : (fs : List Flow) (i speed bestEffort : ℕ) → i < linkCount table → levelsAt table i ≤ levelsMost → All (λ g. All (Named t) (g .path)) fs
-      → linkFinding speed bestEffort (upTo levelsMost (queueAt table i)) (eightOf table fs i)
+      → linkFinding speed bestEffort (upTo levelsMost (queueAt table i)) (eightOf fs i)
       ≡ linkFinding speed bestEffort (upTo (levelsAt table i) (queueAt table i)) (model.levelAggregates t fs (i + 1) 1 (upTo (levelsAt table i) (queueAt table i)))
   eight-levels fs i speed bestEffort h shallow on =
       let m : ℕ = levelsAt table i in
@@ -87,7 +91,7 @@ module _ (table : List ℕ) where
     i = linkIn e
 
     -- The finding there, where the levels with the figures `own` at the queue are those of the flows.
-    pub hop-cause : WellFormed table → (fs : List Flow) → All (λ g. All (Named t) (g .path)) fs → (own : Aggregate) → eightOf table fs i ≡ levelsWith sums e own
+    pub hop-cause : WellFormed table → (fs : List Flow) → All (λ g. All (Named t) (g .path)) fs → (own : Aggregate) → eightOf fs i ≡ levelsWith sums e own
         → causeAt t fs (hopAt e .link) (model.linkAt t (hopAt e .link)) ≡ causeWith table sums e own
     unfolding causeAt linkAt hopAt
     hop-cause well fs on own levels =
@@ -97,12 +101,13 @@ module _ (table : List ℕ) where
         (sym (eight-levels fs i (speedAt table i) (bestEffortAt table i) (within .0) (well .shallow i (within .0)) on)
         ∙ ap (findingAt table i) levels)
 
-    -- A flow that crosses the link at the queue alone is counted in there.
+    -- The levels with a flow that crosses the link at the queue alone.
     module _ (f : Flow) (fs : List Flow) {before after : List Hop} (c : Crossed (f .path) before (hopAt e) after) where
+      -- The figures of the queue.
       abbrev withFlow : Aggregate
       withFlow = together (model.aggregateAt t fs (hopAt e)) (model.grown (model.source f) (growthSum t before))
 
-      one-level : eightOf table (f ∷ fs) i ≡ set (eightOf table fs i) (levelIn e) withFlow
+      one-level : eightOf (f ∷ fs) i ≡ set (eightOf fs i) (levelIn e) withFlow
       unfolding counted hopAt
       one-level = levels-more t f fs c 1 (levelIn e) (upTo levelsMost (queueAt table i)) (omega arith)
 
@@ -117,7 +122,7 @@ module _ (table : List ℕ) where
     module _ (well : WellFormed table) (fs : List Flow) {before after : List Hop} where
       -- A flow more.
       pub levels-counted : Figures t fs sums → (f : Flow) → Crossed (f .path) before (hopAt e) after
-          → eightOf table (f ∷ fs) i ≡ levelsWith sums e (countedAt (model.source f) sums e (growthSum t before))
+          → eightOf (f ∷ fs) i ≡ levelsWith sums e (countedAt (model.source f) sums e (growthSum t before))
       unfolding levelsWith
       levels-counted figures f c =
           one-level f fs c
@@ -127,7 +132,7 @@ module _ (table : List ℕ) where
       pub levels-changed : (f : Flow) → Figures t (f ∷ fs) sums → (g : Flow) → f .frame ≡ g .frame
           → Crossed (f .path) before (hopAt e) after
           → Crossed (g .path) before (hopAt e) after
-          → eightOf table (g ∷ fs) i ≡ levelsWith sums e (changedAt (model.source f) (model.source g) sums e (growthSum t before))
+          → eightOf (g ∷ fs) i ≡ levelsWith sums e (changedAt (model.source f) (model.source g) sums e (growthSum t before))
       unfolding levelsWith
       levels-changed f figures g same c d =
           let was : Aggregate = model.grown (model.source f) (growthSum t before) in
@@ -139,7 +144,7 @@ module _ (table : List ℕ) where
           ∙ shares-nothing (hopAt e) (together others (keptFrame was share))
           ∙ ap (together others) (kept-same was share same) in
           one-level g fs d
-          ∙ sym (set-set (eightOf table fs i) (levelIn e) (withFlow f fs c) (withFlow g fs d))
+          ∙ sym (set-set (eightOf fs i) (levelIn e) (withFlow f fs c) (withFlow g fs d))
           ∙ ap₂ (λ (l : List Aggregate) (a : Aggregate). set l (levelIn e) a) (sym (one-level f fs c) ∙ figure-levels (f ∷ fs) sums i (few well) figures) (sym own)
 
   -- The finding at a link as the flows are.

@@ -158,14 +158,13 @@ module _ (share : Aggregate) (table entries before : List ℕ) where
         abbrev Sure : Bool → Type 0
         Sure again = (1 ≤ share .rate) × Carried t fs × (again ≡ false)
 
-        -- At the hop: its share there, and what is left then.
-        here-now : Near (Sure again) (figureAt sums x) (together (rest x) (together (model.aggregateAt t fs (hopAt x)) there))
-        here-now =
+        left-here-now : Near (Sure again) (figureAt sums x) (together (rest x) (together (model.aggregateAt t fs (hopAt x)) there))
+        left-here-now =
             subst (Near (Sure again) (figureAt sums x)) (left-here is table sum i named more (model.aggregateAt t fs (hopAt x))) (so-far .left f fs named is figures x e₁)
 
         here-room : (there .rate ≤ figureAt sums x .rate) × (there .burst ≤ figureAt sums x .burst)
         unfolding together
-        here-room = (omega (arith, here-now .rate), omega (arith, here-now .burst))
+        here-room = (omega (arith, left-here-now .rate), omega (arith, left-here-now .burst))
 
         none-left : 1 ≤ share .rate → Carried t fs → rest x .rate + model.aggregateAt t fs (hopAt x) .rate ≡ 0
             → max (rest x .frame) (model.aggregateAt t fs (hopAt x) .frame) ≡ 0
@@ -182,7 +181,7 @@ module _ (share : Aggregate) (table entries before : List ℕ) where
           step e lt (yes same) =
               rw (same, removed .stored, stored-here sums x (removed .left) (omega (arith, so-far .long)))
               (taken-out there (figureAt sums x) (removed .left) (rest x) (model.aggregateAt t fs (hopAt x))
-              (removed .rate-left) (removed .burst-left) here-now
+              (removed .rate-left) (removed .burst-left) left-here-now
               (λ s. let no = both (s .2) in ((s .0, s .1, no .0), no .1, none-left (s .0) (s .1))) (removed .frame-left))
           step e lt (no other) =
               rw (removed .stored, stored-other sums x (removed .left) e other)

@@ -4,25 +4,21 @@ use mathlib.Core.Path.{_≡_}
 use mathlib.Core.Bool.{Bool, true, false}
 use mathlib.Core.List.{List, [], _∷_, map}
 use mathlib.Core.Option.{Option, none}
-use lib.ListN.{length, getD, set, take}
+use lib.ListN.{length, getD, set}
 use Rattle.model.specs.Words.{All}
 use Rattle.model.specs.Sizes.{levelsMost, queuesMost, hopsMost}
 use Rattle.model.specs.Total.{total, largest}
 use Rattle.model.specs.Formula.{Aggregate, hopGrowth}
 use Rattle.model.specs.QueueTable.{Table}
 use Rattle.model.specs.Orders.{Hop, Flow}
-use Rattle.model.specs.Aggregates.{source, grown, aggregateAt, levelAggregates}
-use Rattle.model.specs.Laws.Aggregates.{growthSum}
+use Rattle.model.specs.Aggregates.{source, grown, aggregateAt}
 use Rattle.model.specs.LinkCheck as check
 use Rattle.model.specs.Schedulable.{Named, LinkMeets}
 use Rattle.model.specs.WithFlow.{together}
 use Rattle.model.specs.Reference.{Cause, linkCause, firstCause, linkFindings, atHop, metEarlier}
-use Rattle.units.specs.View.{aggregateOf, AtSource}
 use Rattle.causes.specs.declared.Finding.{Finding}
 use Rattle.causes.specs.View.{findingOf}
 use Rattle.queue_table.specs.View.{upTo, entryAt, linkIn, levelIn, hopAt, tableNumbers, linkCount, speedAt, bestEffortAt, thresholdAt, queueAt, tableOf, AllQueues, WellFormed}
-use Rattle.figures.specs.declared.shares.Held.{Held}
-use Rattle.figures.specs.declared.shares.Held.the-variants.{NotYet, By}
 
 -- How many numbers a queue has in the array, and the array.
 abbrev pub figureNumbers : ℕ
@@ -43,19 +39,6 @@ levelFigures sums link = upTo levelsMost (λ p. figureAt sums (entryAt link p))
 unfoldable pub levelsWith : (sums : List ℕ) (e : ℕ) (own : Aggregate) → List Aggregate
 levelsWith sums e own = set (levelFigures sums (linkIn e)) (levelIn e) own
 
--- What the check of a link asks of its levels, with room for a best-effort frame of any 32 bits.
-abbrev pub Summable : List Aggregate → Type 0
-Summable levels = (total (λ a. a .rate) levels < 2 ^ 40) × (total (λ a. a .burst) levels + 2 * largest (λ a. a .frame) levels ≤ 2 ^ 39)
-
--- The array holds the figures of the flows.
-pub record Figures (t : Table) (fs : List Flow) (sums : List ℕ) : Type 0 where
-  pub long : length sums ≡ sumNumbers
-  pub same : (e : ℕ) → e < queuesMost → figureAt sums e ≡ aggregateAt t fs (hopAt e)
-
--- Each number of the array is at most so large.
-abbrev pub Below : (bound : ℕ) (sums : List ℕ) → Type 0
-Below bound sums = (j : ℕ) → getD sums j 0 ≤ bound
-
 -- The figures of queue `e` with a flow counted in, where S over its hops before is `sum`.
 abbrev pub countedAt : (share : Aggregate) (sums : List ℕ) (e sum : ℕ) → Aggregate
 countedAt share sums e sum = together (figureAt sums e) (grown share sum)
@@ -68,19 +51,22 @@ replaced own was share = record { rate = own .rate - was .rate + share .rate; bu
 abbrev pub changedAt : (was share : Aggregate) (sums : List ℕ) (e sum : ℕ) → Aggregate
 changedAt was share sums e sum = replaced (figureAt sums e) (grown was sum) (grown share sum)
 
--- The figures of queue `e` once they hold a flow by `share`.
-abbrev pub figuresAt : Held → (share : Aggregate) (sums : List ℕ) (e sum : ℕ) → Aggregate
-figuresAt NotYet share sums e sum = countedAt share sums e sum
-figuresAt (By was) share sums e sum = changedAt (aggregateOf was) share sums e sum
-
--- The figures of queue `e` are no less than a flow's share there.
+-- The figures of queue `e` are no less than the share of a flow there.
 abbrev pub RoomAt : (share : Aggregate) (sums : List ℕ) (e sum : ℕ) → Type 0
 RoomAt share sums e sum = (share .rate ≤ figureAt sums e .rate) × (grown share sum .burst ≤ figureAt sums e .burst)
 
--- They have room for a flow that they don't hold yet, or the share that they hold it by can be taken out.
-abbrev pub HeldAt : Held → (sums : List ℕ) (e sum : ℕ) → Type 0
-HeldAt NotYet sums e sum = (figureAt sums e .rate ≤ 10000000) × (figureAt sums e .burst ≤ 2 ^ 32)
-HeldAt (By was) sums e sum = AtSource (aggregateOf was) × RoomAt (aggregateOf was) sums e sum × Below (2 ^ 63) sums
+-- What the check of a link asks of its levels, with room for a best-effort frame of any 32 bits.
+abbrev pub Summable : List Aggregate → Type 0
+Summable levels = (total (λ a. a .rate) levels < 2 ^ 40) × (total (λ a. a .burst) levels + 2 * largest (λ a. a .frame) levels ≤ 2 ^ 39)
+
+-- The array holds the figures of the flows.
+pub record Figures (t : Table) (fs : List Flow) (sums : List ℕ) : Type 0 where
+  pub long : length sums ≡ sumNumbers
+  pub same : (e : ℕ) → e < queuesMost → figureAt sums e ≡ aggregateAt t fs (hopAt e)
+
+-- Each number of the array is at most so large.
+abbrev pub Below : (bound : ℕ) (sums : List ℕ) → Type 0
+Below bound sums = (j : ℕ) → getD sums j 0 ≤ bound
 
 -- The figures of a queue stored in the array.
 unfoldable pub figureStored : (sums : List ℕ) (e : ℕ) → Aggregate → List ℕ
@@ -208,28 +194,6 @@ findingAt table link = check.linkFinding (speedAt table link) (bestEffortAt tabl
 -- What the check of the link of queue `e` finds with the figures `own` there.
 abbrev pub causeWith : (table sums : List ℕ) (e : ℕ) (own : Aggregate) → Option Cause
 causeWith table sums e own = linkCause (linkIn e + 1) (findingAt table (linkIn e) (levelsWith sums e own))
-
--- A flow that the figures hold by a share is counted in along its path, which meets no link twice.
-abbrev pub HeldOn : Held → (table entries sums : List ℕ) → Type 0
-HeldOn NotYet table entries sums = Unit {0}
-HeldOn (By was) table entries sums = AtSource (aggregateOf was) × OnTable table entries × PathCounted (aggregateOf was) table entries sums
-
--- What the flows have at the eight levels of a link, counted from 0.
-abbrev pub eightOf : (table : List ℕ) (fs : List Flow) (link : ℕ) → List Aggregate
-eightOf table fs link = levelAggregates (tableOf table) fs (link + 1) 1 (upTo levelsMost (queueAt table link))
-
--- The levels of each link on the path, with the figures `own` at the path's queue, are those of the flows. `own` takes the queue and S
--- over the hops before it.
-pub record Met (own : (e sum : ℕ) → Aggregate) (table sums entries : List ℕ) (fs : List Flow) : Type 0 where
-  pub well : WellFormed table
-  pub path : OnTable table entries
-  pub on : All (λ f. All (Named (tableOf table)) (f .path)) fs
-  pub levels : (i : ℕ) → i < length entries → let e : ℕ = getD entries i 0 in
-      eightOf table fs (linkIn e) ≡ levelsWith sums e (own e (growthSum (tableOf table) (map hopAt (take i entries))))
-
--- The first of 21 to 23 along the path with those flows.
-abbrev pub Answered : (own : (e sum : ℕ) → Aggregate) (table sums entries : List ℕ) (r : Finding) → Type 0
-Answered own table sums entries r = (fs : List Flow) → Met own table sums entries fs → findingOf r ≡ firstCause (linkFindings (tableOf table) fs (map hopAt entries))
 
 -- The first of 21 to 23 along the path with the flow beside the others, which are on queues of the table. Free where a link is met twice or a queue
 -- that the table lacks has figures.

@@ -10,11 +10,10 @@ ghost use Rattle.units.specs.View.{aggregateOf, AtSource};
 ghost use Rattle.queue_table.specs.View.{upTo, tableNumbers, linkIn, speedAt, queueAt, WellFormed};
 ghost use Rattle.causes.specs.View.{findingOf};
 ghost use Rattle.link_check.specs.View.{aggregatesOf, queuesOf};
-ghost use Rattle.figures.specs.View.{Summable, LevelBounded, Hops, Bounded, Speeds, OnTable, PathCounted, figuresAt, HeldOn, Answered, findingAt, causeWith, PathChecked, ChangeChecked, codeAt, LinkSpeeds, LinksMet};
+ghost use Rattle.figures.specs.View.{Summable, LevelBounded, Hops, Bounded, Speeds, OnTable, PathCounted, findingAt, causeWith, PathChecked, ChangeChecked, codeAt, LinkSpeeds, LinksMet};
 use crate::link_levels;
-use crate::shares::Held;
-use crate::shares::figures_at;
-use crate::shares::past_hop;
+use crate::shares::changed_at;
+use crate::shares::counted_at;
 use causes::Finding;
 use link_check::check_link;
 use queue_table::LEVELS;
@@ -78,42 +77,31 @@ fn check_hop(e: usize, own: Aggregate, table: &[u32], sums: &[u64]) -> Finding
     find_on(link, levels, table)
 }
 
-// The links of a path one by one, with the flow counted by `share` at its level: 21 for the link, then level by level 22
-// before 23.
-fn check_path(held: Held, share: Aggregate, table: &[u32], sums: &[u64], entries: &[u32]) -> Finding
-    requires { ⌜ AtSource (aggregateOf share) ⌝ }
-    requires { ⌜ Hops (now table) (now entries) ⌝ }
-    requires { ⌜ Speeds (now table) (now entries) × Bounded (now sums) ⌝ }
-    requires { ⌜ HeldOn held (now table) (now entries) (now sums) ⌝ }
-    ensures { λ r. ⌜ Answered (figuresAt held (aggregateOf share) (now (sums .entry))) (now (table .entry)) (now (sums .entry)) (now (entries .entry)) r ⌝ }
-{
-    let mut sum = Micros(0);
-    let mut i = 0;
-    while i < entries.len() {
-        let e = entries[i] as usize;
-        let own = figures_at(held, share, sum, e, sums);
-        let found = check_hop(e, own, table, sums);
-        let Finding::Nothing = found else {
-            return found;
-        };
-        sum = past_hop(sum, e, table);
-        i += 1;
-    }
-    Finding::Nothing
-}
-
-// What the links of a path find with the flow counted in. The answer is free where the path meets a link twice or leaves the
-// table, or where the figures are no flows' on the table.
+// The links of a path one by one, with the flow counted in at its level and with its share there: 21 for the link, then
+// level by level 22 before 23. The answer is free where the path meets a link twice or leaves the table, or where the
+// figures are no flows' on the table.
 pub fn check_links(share: Aggregate, table: &[u32], sums: &[u64], entries: &[u32]) -> Finding
     requires { ⌜ AtSource (aggregateOf share) ⌝ }
     requires { ⌜ Hops (now table) (now entries) ⌝ }
     requires { ⌜ Speeds (now table) (now entries) × Bounded (now sums) ⌝ }
     ensures { λ r. ⌜ PathChecked (aggregateOf share) (now (table .entry)) (now (sums .entry)) (now (entries .entry)) r ⌝ }
 {
-    check_path(Held::NotYet, share, table, sums, entries)
+    let mut sum = Micros(0);
+    let mut i = 0;
+    while i < entries.len() {
+        let e = entries[i] as usize;
+        let there = counted_at(share, sum, e, table, sums);
+        let found = check_hop(e, there.own, table, sums);
+        let Finding::Nothing = found else {
+            return found;
+        };
+        sum = there.past;
+        i += 1;
+    }
+    Finding::Nothing
 }
 
-// The same with a flow that the figures hold by `was`, counted by `share` in its place.
+// The same with a flow that the figures hold: it is counted by `share` in place of `was`, whose largest frame it keeps.
 pub fn check_change(
     was: Aggregate,
     share: Aggregate,
@@ -127,7 +115,19 @@ pub fn check_change(
     requires { ⌜ OnTable (now table) (now entries) × PathCounted (aggregateOf was) (now table) (now entries) (now sums) ⌝ }
     ensures { λ r. ⌜ ChangeChecked (aggregateOf was) (aggregateOf share) (now (table .entry)) (now (sums .entry)) (now (entries .entry)) r ⌝ }
 {
-    check_path(Held::By(was), share, table, sums, entries)
+    let mut sum = Micros(0);
+    let mut i = 0;
+    while i < entries.len() {
+        let e = entries[i] as usize;
+        let there = changed_at(was, share, sum, e, table, sums);
+        let found = check_hop(e, there.own, table, sums);
+        let Finding::Nothing = found else {
+            return found;
+        };
+        sum = there.past;
+        i += 1;
+    }
+    Finding::Nothing
 }
 
 // Whether a link, counted from 0, meets 21 to 23 with these figures.

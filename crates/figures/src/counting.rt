@@ -9,9 +9,7 @@ ghost use Rattle.model.specs.WithFlow.{together};
 ghost use Rattle.units.specs.View.{aggregateOf, AtSource};
 ghost use Rattle.figures.specs.View.{figureNumbers, sumNumbers, figureAt, Below, ShareBounded, figureStored, Hops, PathAdded, PathCounted, PathChanged, HopRemoved, PathRemoved, FrameRaised};
 use crate::FIGURE_NUMBERS;
-use crate::shares::Held;
-use crate::shares::figures_at;
-use crate::shares::past_hop;
+use crate::shares::changed_at;
 use crate::shares::share_at;
 use units::Aggregate;
 use units::Bytes;
@@ -80,9 +78,9 @@ pub fn change_path(
     let mut i = 0;
     while i < entries.len() {
         let e = entries[i] as usize;
-        let own = figures_at(Held::By(was), share, sum, e, &sums[..]);
-        store_hop(e, own, sums);
-        sum = past_hop(sum, e, table);
+        let there = changed_at(was, share, sum, e, table, &sums[..]);
+        store_hop(e, there.own, sums);
+        sum = there.past;
         i += 1;
     }
 }

@@ -7,7 +7,7 @@ ghost use Rattle.model.specs.Sizes.{queuesMost, thresholdsMost};
 ghost use Rattle.model.specs.Aggregates.{grown};
 ghost use Rattle.units.specs.View.{aggregateOf, AtSource};
 ghost use Rattle.queue_table.specs.View.{tableNumbers};
-ghost use Rattle.figures.specs.View.{sumNumbers, growthAt, replaced, figuresAt, HeldAt};
+ghost use Rattle.figures.specs.View.{sumNumbers, Below, Bounded, growthAt, countedAt, replaced, changedAt, RoomAt};
 use crate::figure;
 use queue_table::link_at;
 use queue_table::link_of;
@@ -17,17 +17,6 @@ use units::Bytes;
 use units::Micros;
 use units::Rate;
 use units::hop_growth;
-
-// S past queue e, where S over the hops before it is `sum`.
-pub(crate) fn past_hop(sum: Micros, e: usize, table: &[u32]) -> Micros
-    requires { ⌜ (sum .0 ≤ thresholdsMost) × ((e < queuesMost) × (length (now table) ≡ tableNumbers)) ⌝ }
-    ensures { λ r. ⌜ r .0 ≡ sum .0 + growthAt (now (table .entry)) e ⌝ }
-{
-    let queue = queue_at(e, table);
-    let link = link_at(link_of(e), table);
-    let growth = hop_growth(queue.threshold, link.speed);
-    Micros(sum.0 + growth.0)
-}
 
 // A flow's share at a hop, and S past it.
 pub(crate) struct AtHop {
@@ -43,9 +32,40 @@ pub(crate) fn share_at(share: Aggregate, sum: Micros, e: usize, table: &[u32]) -
     ensures { λ r. ⌜ r .past .0 ≡ sum .0 + growthAt (now (table .entry)) e ⌝ }
 {
     let there = share.grown(sum);
+    let queue = queue_at(e, table);
+    let link = link_at(link_of(e), table);
+    let growth = hop_growth(queue.threshold, link.speed);
     AtHop {
         share: there,
-        past: past_hop(sum, e, table),
+        past: Micros(sum.0 + growth.0),
+    }
+}
+
+// A queue's figures as they are to be, and S past it.
+pub(crate) struct AtQueue {
+    pub own: Aggregate,
+    pub past: Micros,
+}
+
+// The figures of queue e with a flow counted in there.
+pub(crate) fn counted_at(
+    share: Aggregate,
+    sum: Micros,
+    e: usize,
+    table: &[u32],
+    sums: &[u64],
+) -> AtQueue
+    requires { ⌜ AtSource (aggregateOf share) × (sum .0 ≤ thresholdsMost) ⌝ }
+    requires { ⌜ (e < queuesMost) × ((length (now table) ≡ tableNumbers) × Bounded (now sums)) ⌝ }
+    ensures { λ r. ⌜ aggregateOf (r .own) ≡ countedAt (aggregateOf share) (now (sums .entry)) e (sum .0) ⌝ }
+    ensures { λ r. ⌜ r .past .0 ≡ sum .0 + growthAt (now (table .entry)) e ⌝ }
+{
+    let there = share_at(share, sum, e, table);
+    let past = there.past;
+    let own = figure(e, sums);
+    AtQueue {
+        own: own.with_flow(there.share),
+        past,
     }
 }
 
@@ -65,29 +85,28 @@ fn replaced(own: Aggregate, was: Aggregate, share: Aggregate) -> Aggregate
     }
 }
 
-// How the figures hold a flow: not yet, or by this share at its source.
-pub(crate) enum Held {
-    NotYet,
-    By(Aggregate),
-}
-
-// The figures of queue e once they hold a flow by `share`, where S over the hops before is `sum`.
-pub(crate) fn figures_at(
-    held: Held,
+// The figures of queue e with a flow counted there by `share` in place of `was`, both as at its source.
+pub(crate) fn changed_at(
+    was: Aggregate,
     share: Aggregate,
     sum: Micros,
     e: usize,
+    table: &[u32],
     sums: &[u64],
-) -> Aggregate
-    requires { ⌜ AtSource (aggregateOf share) × (sum .0 ≤ thresholdsMost) ⌝ }
-    requires { ⌜ (e < queuesMost) × (length (now sums) ≡ sumNumbers) ⌝ }
-    requires { ⌜ HeldAt held (now sums) e (sum .0) ⌝ }
-    ensures { λ r. ⌜ aggregateOf r ≡ figuresAt held (aggregateOf share) (now (sums .entry)) e (sum .0) ⌝ }
+) -> AtQueue
+    requires { ⌜ AtSource (aggregateOf was) × (AtSource (aggregateOf share) × (sum .0 ≤ thresholdsMost)) ⌝ }
+    requires { ⌜ (e < queuesMost) × (length (now table) ≡ tableNumbers) ⌝ }
+    requires { ⌜ (length (now sums) ≡ sumNumbers) × Below (2 ^ 63) (now sums) ⌝ }
+    requires { ⌜ RoomAt (aggregateOf was) (now sums) e (sum .0) ⌝ }
+    ensures { λ r. ⌜ aggregateOf (r .own) ≡ changedAt (aggregateOf was) (aggregateOf share) (now (sums .entry)) e (sum .0) ⌝ }
+    ensures { λ r. ⌜ r .past .0 ≡ sum .0 + growthAt (now (table .entry)) e ⌝ }
 {
-    let own = figure(e, sums);
+    let there = share_at(was, sum, e, table);
+    let past = there.past;
     let more = share.grown(sum);
-    match held {
-        Held::NotYet => own.with_flow(more),
-        Held::By(was) => replaced(own, was.grown(sum), more),
+    let own = figure(e, sums);
+    AtQueue {
+        own: replaced(own, there.share, more),
+        past,
     }
 }

@@ -35,13 +35,6 @@ pub struct Flow {
     pub hops: u32,
 }
 
-// The rate and burst that a line gives to the flow with this number.
-pub struct Change {
-    pub number: u32,
-    pub rate: Rate,
-    pub burst: Bytes,
-}
-
 // What a line or a call asks for.
 pub enum Kind {
     Register,
@@ -66,6 +59,13 @@ pub enum Order {
     Malformed,
     // 11: out of range.
     OutOfRange,
+}
+
+// The rate and burst that a line gives to the flow with this number.
+pub struct Change {
+    pub number: u32,
+    pub rate: Rate,
+    pub burst: Bytes,
 }
 
 // An order, and the hops of its path where it is a registration: the first `hops` of them. The rest is free.

@@ -1,12 +1,71 @@
--- `figures::checking::check_links` meets its contract: the flows that the contract names are those that the path was checked with.
+-- `figures::checking::check_links` meets its contract. The invariant: what the hops left say is what the whole path says.
 -- Assumes nothing.
 use borrow.Author.Needs.{needs}
-use Rattle.figures.proofs.CheckLaws.{path-checked}
+use Prim.Native.Nat.{_-_}
+use mathlib.Core.Path.{sym, ap, subst, _∙_}
+use mathlib.Core.Option.{Option·some-ne-none}
+use native.Mathlib.Omega.{arith}
+use lib.ListN.{length}
+use Rattle.units.specs.View.{aggregateOf}
+use Rattle.causes.specs.View.{findingOf}
+use Rattle.figures.specs.View.{countedAt, LevelBounded}
+use Rattle.figures.proofs.EntryLaws.{HopAt, hop-at, speed-at, share-bounded}
+use Rattle.figures.proofs.FigureLaws.{at-most}
+use Rattle.figures.proofs.BoundLaws.{level-bounded}
+use Rattle.figures.proofs.CheckLaws.{Checking, checking-none, checking-all, checking-found, checking-next, path-checked}
 use Rattle.figures.proofs.checking.check_links.Statement.{statement}
 use Rattle.figures.proofs.checking.check_links.Tie as tie
 
-returns : tie.Need-returns
-returns c = path-checked (c .check-path .ensures)
+abbrev Inv-loop : tie.InvT-loop
+Inv-loop share table sums entries sum₀ i₀ sum i = Checking (countedAt (aggregateOf share) sums) table sums entries (sum .0) i
+
+abbrev μ-loop : tie.MeasureT-loop
+μ-loop share table sums entries sum₀ i₀ sum i = length entries - i
+
+abbrev start : tie.In-loop Inv-loop μ-loop → tie.Start Inv-loop μ-loop
+start c = c .before .before .before .before .before
+
+hop : (c : tie.In-loop Inv-loop μ-loop) → let args = start c .args in
+    HopAt (args .table .now) (args .entries .now) (c .before .loop .sum .0) (c .before .loop .i)
+hop c = hop-at (start c .pre .1 .0) (c .before .loop .inv .sum-below) (c .loop-test .taken)
+
+loop-holds : tie.Need-loop-holds Inv-loop μ-loop
+loop-holds c = checking-none _ _ _ _
+
+cast-e : tie.Need-cast-e Inv-loop μ-loop
+cast-e c = omega (arith, hop (c .before))
+
+counted-at-requires : tie.Need-counted-at-requires Inv-loop μ-loop
+counted-at-requires c κs = let at = c .before in let pre = start at .pre in ((pre .0, hop at .2), (hop at .0, (pre .1 .0 .table-long, pre .1 .1 .1)))
+
+check-hop-requires : tie.Need-check-hop-requires Inv-loop μ-loop
+check-hop-requires c κs =
+    let at = c .before .before in
+    let pre = start at .pre in (
+      (hop at .0, (pre .1 .0 .table-long, pre .1 .1 .1)),
+      (
+        speed-at (pre .1 .1 .0) (at .loop-test .taken),
+        subst LevelBounded (sym (c .counted-at .ensures .0)) (level-bounded _ (pre .1 .1 .1) _ (hop at .0) (share-bounded (pre .0) (hop at .2)) (at-most _)),
+      ),
+    )
+
+returns : tie.Need-returns Inv-loop μ-loop
+returns c =
+    let at = c .before .before .before .before .before in
+    let found = c .before .before .check-hop in
+    path-checked
+    (checking-found _ _ _ _ (at .before .loop .inv) (at .loop-test .taken) (found .result) (c .before .before .before .counted-at .ensures .0) (found .ensures)
+    (λ e. Option·some-ne-none _ (sym (ap findingOf (c .enum-told2 .given .1)) ∙ e)))
+
+loop-again : tie.Need-loop-again Inv-loop μ-loop
+loop-again c =
+    let at = c .before .before .before .before .before .before in
+    let worked = c .before .before .before .before .counted-at .ensures in
+    let found = c .before .before .before .check-hop in
+    checking-next _ _ _ _ (at .before .loop .inv) (at .loop-test .taken) (found .result) (worked .0) (found .ensures) (ap findingOf (c .before .enum-told .given .1)) (hop at .1) (worked .1)
+
+returns-2 : tie.Need-returns-2 Inv-loop μ-loop
+returns-2 c = path-checked (checking-all _ _ _ _ (c .before .loop .inv) (c .loop-test .left))
 
 pub check-links-spec : {M : Type 1} → statement M
-check-links-spec = tie.close (tie.spec (λ c κs. search needs) returns)
+check-links-spec = tie.close (tie.spec Inv-loop μ-loop loop-holds (λ c. search needs) (λ c. search needs) cast-e counted-at-requires check-hop-requires (λ c. search needs) (λ c. search needs) returns (λ c. search needs) (λ c. search needs) loop-again returns-2)

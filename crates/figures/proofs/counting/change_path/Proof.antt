@@ -30,30 +30,28 @@ loop-holds c = changing-none _ _ _ _ _ (c .before .before .before .pre .1 .1 .1 
 cast-e : tie.Need-cast-e Inv-loop μ-loop
 cast-e c = omega (arith, hop (c .before))
 
-figures-at-requires : tie.Need-figures-at-requires Inv-loop μ-loop
-figures-at-requires c κs =
+changed-at-requires : tie.Need-changed-at-requires Inv-loop μ-loop
+changed-at-requires c κs =
     let at = c .before .before in
     let now = at .before .loop .inv in
     let more = at .loop-test .taken in
     let pre = start at .pre in (
-      (pre .0 .1, hop at .2),
+      (pre .0 .0, (pre .0 .1, hop at .2)),
       (
-        (hop at .0, now .long),
-        (pre .0 .0, changing-room _ _ _ _ _ now more (hop at .0) (pre .1 .1 .1), λ j. omega (arith, now .below (2 ^ 62) (pre .1 .1 .0) j, more, pre .1 .0 .few)),
+        (hop at .0, pre .1 .0 .table-long),
+        ((now .long, λ j. omega (arith, now .below (2 ^ 62) (pre .1 .1 .0) j, more, pre .1 .0 .few)), changing-room _ _ _ _ _ now more (hop at .0) (pre .1 .1 .1)),
       ),
     )
 
 store-hop-requires : tie.Need-store-hop-requires Inv-loop μ-loop
 store-hop-requires c κs = let at = c .before .before .before .before in (hop at .0, at .before .loop .inv .long)
 
-past-hop-requires : tie.Need-past-hop-requires Inv-loop μ-loop
-past-hop-requires c κs = let at = c .before .before .before .before .before .before .before in (hop at .2, (hop at .0, start at .pre .1 .0 .table-long))
-
 loop-again : tie.Need-loop-again Inv-loop μ-loop
 loop-again c =
     let at = c .before .before .before .before .before .before .before .before in
-    changing-next _ _ _ _ _ (at .before .loop .inv) (at .loop-test .taken) (hop at .0) (hop at .1) (share-bounded (start at .pre .0 .1) (hop at .2))
-    (c .before .before .before .before .before .figures-at .ensures) (c .past-hop .ensures) (c .before .before .before .store-hop .ensures)
+    let worked = c .before .before .before .before .before .changed-at .ensures in
+    changing-next _ _ _ _ _ (at .before .loop .inv) (at .loop-test .taken) (hop at .0) (hop at .1) (share-bounded (start at .pre .0 .1) (hop at .2)) (worked .0) (worked .1)
+    (c .before .before .before .store-hop .ensures)
 
 same-length : tie.Need-same-length Inv-loop μ-loop
 same-length c = c .before .loop .inv .long ∙ sym (c .before .before .before .before .before .pre .1 .1 .1 .figures .long)
@@ -62,4 +60,4 @@ returns : tie.Need-returns Inv-loop μ-loop
 returns c = changing-all _ _ _ _ _ (c .before .loop .inv) (c .loop-test .left)
 
 pub change-path-spec : {M : Type 1} → statement M
-change-path-spec = tie.close (tie.spec Inv-loop μ-loop loop-holds (λ c. search needs) (λ c. search needs) cast-e figures-at-requires store-hop-requires past-hop-requires (λ c. search needs) (λ c. search needs) loop-again same-length returns)
+change-path-spec = tie.close (tie.spec Inv-loop μ-loop loop-holds (λ c. search needs) (λ c. search needs) cast-e changed-at-requires store-hop-requires (λ c. search needs) (λ c. search needs) loop-again same-length returns)
