@@ -22,17 +22,10 @@ Inv-loop was share table sums entries sum₀ i₀ sum i = Checking (changedAt (a
 abbrev μ-loop : tie.MeasureT-loop
 μ-loop was share table sums entries sum₀ i₀ sum i = length entries - i
 
-returns-2 : tie.Need-returns-2 Inv-loop μ-loop
-returns-2 c = change-checked (checking-all _ _ _ _ (c .before .loop .inv) (c .loop-test .left))
-
-loop-holds : tie.Need-loop-holds Inv-loop μ-loop
-loop-holds c = checking-none _ _ _ _
-
 abbrev start : tie.In-loop Inv-loop μ-loop → tie.Start Inv-loop μ-loop
 start c = c .before .before .before .before .before
 
-hop : (c : tie.In-loop Inv-loop μ-loop) → let args = start c .args in
-    HopAt (args .table .now) (args .entries .now) (c .before .loop .sum .0) (c .before .loop .i)
+hop : (c : tie.In-loop Inv-loop μ-loop) → HopAt (start c .args .table .now) (start c .args .entries .now) (c .before .loop .sum .0) (c .before .loop .i)
 hop c = hop-at (start c .pre .1 .0) (c .before .loop .inv .sum-below) (c .loop-test .taken)
 
 changed-at-requires : tie.Need-changed-at-requires Inv-loop μ-loop
@@ -52,9 +45,6 @@ changed-at-requires c κs =
       ),
     )
 
-cast-e : tie.Need-cast-e Inv-loop μ-loop
-cast-e c = omega (arith, hop (c .before))
-
 check-hop-requires : tie.Need-check-hop-requires Inv-loop μ-loop
 check-hop-requires c κs =
     let at = c .before .before in
@@ -67,13 +57,6 @@ check-hop-requires c κs =
       ),
     )
 
-loop-again : tie.Need-loop-again Inv-loop μ-loop
-loop-again c =
-    let at = c .before .before .before .before .before .before in
-    let worked = c .before .before .before .before .changed-at .ensures in
-    let found = c .before .before .before .check-hop in
-    checking-next _ _ _ _ (at .before .loop .inv) (at .loop-test .taken) (found .result) (worked .0) (found .ensures) (ap findingOf (c .before .enum-told .given .1)) (hop at .1) (worked .1)
-
 returns : tie.Need-returns Inv-loop μ-loop
 returns c =
     let at = c .before .before .before .before .before in
@@ -82,5 +65,15 @@ returns c =
     (checking-found _ _ _ _ (at .before .loop .inv) (at .loop-test .taken) (found .result) (c .before .before .before .changed-at .ensures .0) (found .ensures)
     (λ e. Option·some-ne-none _ (sym (ap findingOf (c .enum-told2 .given .1)) ∙ e)))
 
+loop-again : tie.Need-loop-again Inv-loop μ-loop
+loop-again c =
+    let at = c .before .before .before .before .before .before in
+    let worked = c .before .before .before .before .changed-at .ensures in
+    let found = c .before .before .before .check-hop in
+    checking-next _ _ _ _ (at .before .loop .inv) (at .loop-test .taken) (found .result) (worked .0) (found .ensures) (ap findingOf (c .before .enum-told .given .1)) (hop at .1) (worked .1)
+
+returns-2 : tie.Need-returns-2 Inv-loop μ-loop
+returns-2 c = change-checked (checking-all _ _ _ _ (c .before .loop .inv) (c .loop-test .left))
+
 pub check-change-spec : {M : Type 1} → statement M
-check-change-spec = tie.close (tie.spec Inv-loop μ-loop loop-holds (λ c. search needs) (λ c. search needs) cast-e changed-at-requires check-hop-requires (λ c. search needs) (λ c. search needs) returns (λ c. search needs) (λ c. search needs) loop-again returns-2)
+check-change-spec = tie.close (tie.spec Inv-loop μ-loop (λ c. checking-none _ _ _ _) (λ c. search needs) (λ c. search needs) (λ c. omega (arith, hop (c .before))) changed-at-requires check-hop-requires (λ c. search needs) (λ c. search needs) returns (λ c. search needs) (λ c. search needs) loop-again returns-2)

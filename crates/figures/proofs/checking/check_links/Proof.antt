@@ -25,15 +25,8 @@ abbrev μ-loop : tie.MeasureT-loop
 abbrev start : tie.In-loop Inv-loop μ-loop → tie.Start Inv-loop μ-loop
 start c = c .before .before .before .before .before
 
-hop : (c : tie.In-loop Inv-loop μ-loop) → let args = start c .args in
-    HopAt (args .table .now) (args .entries .now) (c .before .loop .sum .0) (c .before .loop .i)
+hop : (c : tie.In-loop Inv-loop μ-loop) → HopAt (start c .args .table .now) (start c .args .entries .now) (c .before .loop .sum .0) (c .before .loop .i)
 hop c = hop-at (start c .pre .1 .0) (c .before .loop .inv .sum-below) (c .loop-test .taken)
-
-loop-holds : tie.Need-loop-holds Inv-loop μ-loop
-loop-holds c = checking-none _ _ _ _
-
-cast-e : tie.Need-cast-e Inv-loop μ-loop
-cast-e c = omega (arith, hop (c .before))
 
 counted-at-requires : tie.Need-counted-at-requires Inv-loop μ-loop
 counted-at-requires c κs = let at = c .before in let pre = start at .pre in ((pre .0, hop at .2), (hop at .0, (pre .1 .0 .table-long, pre .1 .1 .1)))
@@ -68,4 +61,4 @@ returns-2 : tie.Need-returns-2 Inv-loop μ-loop
 returns-2 c = path-checked (checking-all _ _ _ _ (c .before .loop .inv) (c .loop-test .left))
 
 pub check-links-spec : {M : Type 1} → statement M
-check-links-spec = tie.close (tie.spec Inv-loop μ-loop loop-holds (λ c. search needs) (λ c. search needs) cast-e counted-at-requires check-hop-requires (λ c. search needs) (λ c. search needs) returns (λ c. search needs) (λ c. search needs) loop-again returns-2)
+check-links-spec = tie.close (tie.spec Inv-loop μ-loop (λ c. checking-none _ _ _ _) (λ c. search needs) (λ c. search needs) (λ c. omega (arith, hop (c .before))) counted-at-requires check-hop-requires (λ c. search needs) (λ c. search needs) returns (λ c. search needs) (λ c. search needs) loop-again returns-2)
