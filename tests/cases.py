@@ -195,13 +195,13 @@ def said(code, slot=0, link=0, level=0):
 
 
 # The registry's arrays, and where a number stands in them, links, queues and slots counted from 0.
-TABLE, SLOTS, POOL, SUMS = range(4)
+TABLE, SLOTS, POOL, SUMS, BITS = range(5)
 LINK_NUMBERS, QUEUE_NUMBERS, SLOT_COUNT = 6, 2, 256
 COUNT = 64 * LINK_NUMBERS + 512 * QUEUE_NUMBERS
 
 
 def put(array, index, n):
-    """An x line: sets one number of the registry and prints nothing."""
+    """An x line: sets one number of the registry, of the bits that of a slot, and prints nothing."""
     return (f"x{array:2}{index:5}{n:9}\n", "")
 
 
@@ -216,7 +216,7 @@ def queue(e, k):
 
 
 def slot(i, k):
-    """Slot i: flow number (k = 0), rate, burst, largest frame, deadline, hop count (k = 5)."""
+    """Slot i: flow number (k = 0), rate, burst, largest frame, deadline, hop count, start of its path (k = 6)."""
     return SLOT_COUNT * k + i
 
 
@@ -432,7 +432,11 @@ registries = [
         + damaged((POOL, 1, 0, 8), *((SUMS, 24 + i, 0, n) for i, n in enumerate([1, 1544, 1542])),
                   (SUMS, 0, 2, 1), (SUMS, 1, 3086, 1542))        # 16, the figures right
         + [(gone(7), said(0, 1)), (gone(7), said(13))]),
-    (chain(1, 100000), [(along(k, 1), said(0, k)) for k in range(1, 257)] + [(along(257, 1), said(30))]),
+    (chain(1, 100000), [(along(k, 1), said(0, k)) for k in range(1, 257)] + [(along(257, 1), said(30))]
+        + [call for k in (256, 1, 64, 65, 128, 129, 192, 193) for call in [       # the last place, and both sides of each word's end
+            (gone(k), said(0, k)), (along(k, 1), said(0, k)), (along(257, 1), said(30))]]
+        + [(gone(k), said(0, k)) for k in (256, 65, 64)]         # the lowest of several
+        + [(along(300 + k, 1), said(0, k)) for k in (64, 65, 256)] + [(along(257, 1), said(30))]),
     (chain(13, 11000), [(reg(rate=1, deadline=143000, hops=11, path=[(l, 1) for l in range(1, 12)]), said(0, 1))]
         + [put(TABLE, link(0, 4), 10000), (reg(), said(12))] + damaged((TABLE, link(0, 4), 10001, 0))    # fixed delay out of range
         + [put(*change[:3]) for change in hop(12, 1558)] + [(reg(), said(12))]   # a twelfth hop: nothing wrong
@@ -442,7 +446,11 @@ registries = [
         + damaged((POOL, 0, 8, 0), *((SUMS, i, 0, n) for i, n in enumerate([1000, 1542, 1542])),
                   *((SUMS, 24 + i, n, 0) for i, n in enumerate([1000, 1542, 1542])))     # 14, the figures right
         + damaged((SLOTS, slot(0, 5), 13, 1))                    # a hop count of 13
-        + damaged((SLOTS, slot(0, 5), 0, 1))                     # a flow gone, its figures not
+        + damaged((SLOTS, slot(0, 5), 0, 1))                     # a held flow without hops
+        + damaged((SLOTS, slot(1, 6), 0, 1))                     # a path that starts elsewhere
+        + damaged((BITS, 0, 0, 1))                               # a flow gone, its figures not
+        + damaged((BITS, 2, 1, 0))                               # a slot held without a flow
+        + damaged((BITS, 255, 1, 0))
         + damaged((POOL, 0, 2, 0))                               # level 3: no such queue
         + damaged((POOL, 0, 8, 0))                               # link 2
         + damaged((POOL, 1, 999999999, 1))
@@ -463,7 +471,19 @@ registries = [
         + damaged((TABLE, COUNT, 0, 1))                          # paths without a link
         + damaged((TABLE, COUNT, 2, 1))                          # a link of no levels
         + damaged((TABLE, COUNT, 65, 1))
-        + [put(SLOTS, slot(2, 0), 7), put(POOL, 2, 999), (reg(), said(12))]),    # a free slot, a free entry: nothing wrong
+        + [put(SLOTS, slot(2, k), 7) for k in range(7)] + [put(POOL, 2, 999), (reg(), said(12))]),   # a free slot, a free entry: nothing wrong
+    (chain(1, 100000), [(along(k, 1), said(0, k)) for k in range(1, 5)] + [
+        (gone(2), said(0, 2)),
+        *(put(SLOTS, slot(1, k), n) for k, n in enumerate([1, 0, 0, 1543, 0, 13, 999999999])),   # what stands in a free slot means nothing
+        (along(1, 1), said(12)),
+        (gone(2), said(13)),
+        (along(9, 1), said(0, 2)),
+        (gone(1), said(0, 1)),
+        *(put(SLOTS, slot(0, k), n) for k, n in enumerate([9, 0, 0, 0, 0, 12, 1])),
+        (gone(9), said(0, 2)),
+        (along(9, 1), said(0, 1)),
+        (gone(4), said(0, 4)),
+    ]),
     (behind(100, 375, 1604), [(onward, said(0, 1))]),            # 1,588 after a threshold of 375, and 16
     (behind(100, 376, 1604), [(onward, said(23, 0, 2, 1))]),     # 1,589 after 376
     (behind(10, 2468, 1858), [(onward, said(0, 1))]),            # 68 µs less at 10 Mbit/s, the earlier link's speed: 1,842

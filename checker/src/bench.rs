@@ -1,14 +1,15 @@
-//! The benchmark: each version of the batch on the same loads, in turn in the same run; direct calls
-//! with and without the 42 check; and the stack that a batch needs.
+//! The benchmark: each version of the batch on the same loads, in turn in the same run; the search for a
+//! free slot by itself; direct calls with and without the 42 check; and the stack that a batch needs.
 
-use crate::book;
-use crate::clock::thread_time;
+use crate::book::{self, Counted};
+use crate::clock::micros;
 use crate::fast;
 use crate::lists;
 use crate::loads::{kind_of, loads, Load};
-use crate::rounds::{report, Bars, Measured, Round};
+use crate::rounds::{report, Bars, Limits, Measured, Round};
+use crate::search;
 use crate::stack;
-use crate::versions::{versions, Batch, PROVED};
+use crate::versions::{versions, Batch, BOOK, COUNTED, FAST, PROVED};
 use crate::views::Version;
 use plain::orders::write_release;
 use std::hint::black_box;
@@ -19,16 +20,21 @@ const LEAST_ROUNDS: usize = 9;
 /// Texts of the same load that are taken in turn, so that no branch is learnt by heart.
 const VARIANTS: u64 = 8;
 const AREA: usize = 40_000;
-/// The bars: proved to plain for a batch and for direct calls, and the batch's stack.
-const BATCH_RATIO: f64 = 1.2;
-const CALLS_RATIO: f64 = 1.5;
+/// The bars: proved to plain for a batch, for one of the loads that W-203 is to make faster, and for
+/// direct calls; and the batch's stack.
+const BATCH: Limits = Limits {
+    of_book: 1.2,
+    of_counted: None,
+};
+const FASTER: Limits = Limits {
+    of_counted: Some(0.8),
+    ..BATCH
+};
+const CALLS: Limits = Limits {
+    of_book: 1.5,
+    of_counted: None,
+};
 const STACK_KB: f64 = 256.0;
-
-fn micros(work: impl FnOnce()) -> f64 {
-    let before = thread_time();
-    work();
-    thread_time() - before
-}
 
 /// The texts of a load up to five cuts: all lines, and both ends of the steady part's first and last
 /// tenth. One row for each seed.
@@ -107,6 +113,14 @@ fn measure(variants: &[&Load], time: Duration) -> Vec<Measured> {
     found
 }
 
+/// The loads a and b are those that W-203 is to make faster.
+fn limits(load: &Load) -> Limits {
+    match load.name.as_bytes() {
+        [b'a' | b'b', ..] => FASTER,
+        _ => BATCH,
+    }
+}
+
 /// What the plain version answers to a load must be what every version answers.
 fn same_answers(load: &Load) -> bool {
     let text = load.text(load.lines.len());
@@ -143,11 +157,12 @@ pub fn run(seconds: u64, replay: Option<&Path>, with_bars: bool) -> bool {
             load.lines.len(),
             found[0].rounds.len()
         );
-        report(load.name, "order", &found, BATCH_RATIO, &mut bars);
+        report(load.name, "order", &found, limits(load), &mut bars);
     }
+    same &= search::bench(&mut bars);
     direct_calls(&mut bars);
     if let Some(program) = replay {
-        same &= lists::bench(program, CALLS_RATIO, &mut bars).unwrap_or_else(|error| {
+        same &= lists::bench(program, CALLS, &mut bars).unwrap_or_else(|error| {
             println!("{}: {error}", program.display());
             false
         });
@@ -165,6 +180,14 @@ pub fn run(seconds: u64, replay: Option<&Path>, with_bars: bool) -> bool {
 /// Loads whose steady part is also made as direct calls.
 const CALLED: [&str; 2] = ["pairs", "changes"];
 
+/// A round of direct calls on each version's registry.
+type CallRound = fn(&Load, bool) -> Round;
+const CALL_ROUNDS: [(&str, CallRound); 3] = [
+    (BOOK, call_round::<book::Registry>),
+    (COUNTED, call_round::<book::Registry<Counted>>),
+    (FAST, call_round::<fast::Registry>),
+];
+
 /// A long list of direct calls on one kept registry: the steady part of a load, over and over. The
 /// library has no direct calls, so a proved program's are timed as a process.
 fn direct_calls(bars: &mut Bars) {
@@ -173,12 +196,10 @@ fn direct_calls(bars: &mut Bars) {
             continue;
         }
         for checked in [true, false] {
-            let mut found = measured([book::Registry::NAME, fast::Registry::NAME].into_iter());
+            let mut found = measured(CALL_ROUNDS.iter().map(|(name, _)| *name));
             for _ in 0..LEAST_ROUNDS {
-                let round = vec![
-                    call_round::<book::Registry>(&load, checked),
-                    call_round::<fast::Registry>(&load, checked),
-                ];
+                let rounds = CALL_ROUNDS.iter();
+                let round = rounds.map(|(_, round)| round(&load, checked)).collect();
                 keep(&mut found, round);
             }
             let title = format!(
@@ -191,7 +212,7 @@ fn direct_calls(bars: &mut Bars) {
                 }
             );
             println!("{title}: {} calls", PASSES * load.steady.len());
-            report(&title, "call", &found, CALLS_RATIO, bars);
+            report(&title, "call", &found, CALLS, bars);
         }
     }
 }

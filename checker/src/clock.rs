@@ -21,7 +21,7 @@ extern "C" {
 }
 
 /// The µs that this thread has taken.
-pub fn thread_time() -> f64 {
+fn thread_time() -> f64 {
     const THREAD: c_int = 3;
     let mut time = Time {
         seconds: 0,
@@ -31,6 +31,13 @@ pub fn thread_time() -> f64 {
     let code = unsafe { clock_gettime(THREAD, &mut time) };
     assert_eq!(code, 0, "clock_gettime");
     time.seconds as f64 * 1e6 + time.nanos as f64 / 1e3
+}
+
+/// The µs that this thread takes for some work.
+pub fn micros(work: impl FnOnce()) -> f64 {
+    let before = thread_time();
+    work();
+    thread_time() - before
 }
 
 /// The µs that the processes waited for have taken.

@@ -10,6 +10,7 @@ pub mod fast;
 pub mod lists;
 pub mod loads;
 pub mod rounds;
+pub mod search;
 pub mod sequences;
 pub mod sim;
 pub mod simulate;

@@ -1,13 +1,13 @@
 //! A program that makes a recorded list of direct calls, the proved `replay` for one: run as a
 //! process beside the plain version and the others, for its answers and for its time.
 
-use crate::book;
+use crate::book::{self, Counted};
 use crate::clock::children_time;
 use crate::compare::direct::{call_bytes, call_kind};
 use crate::fast;
 use crate::loads;
-use crate::rounds::{report, Bars, Measured, Round};
-use crate::versions::{BOOK, FAST, PROVED};
+use crate::rounds::{report, Bars, Limits, Measured, Round};
+use crate::versions::{BOOK, COUNTED, FAST, PROVED};
 use crate::views::Version;
 use halls::input;
 use halls::rng::Rng;
@@ -48,8 +48,9 @@ pub fn version_replay<R: Version>(table: &[u8], calls: &[u8]) -> Vec<u8> {
 pub type Replay = fn(&[u8], &[u8]) -> Vec<u8>;
 
 /// What `replay` prints, from each version's registry.
-pub const REPLAYS: [(&str, Replay); 2] = [
+pub const REPLAYS: [(&str, Replay); 3] = [
     (BOOK, version_replay::<book::Registry>),
+    (COUNTED, version_replay::<book::Registry<Counted>>),
     (FAST, version_replay::<fast::Registry>),
 ];
 
@@ -150,7 +151,7 @@ const TURNS: usize = 31;
 /// The program's time for a direct call, 42 check included, beside the other versions'. All are
 /// timed as processes in turn, by their processor time, on the first calls of a list up to four cuts;
 /// the difference of two cuts is the time of the calls between. False where an answer differs.
-pub fn bench(program: &Path, most: f64, bars: &mut Bars) -> io::Result<bool> {
+pub fn bench(program: &Path, limits: Limits, bars: &mut Bars) -> io::Result<bool> {
     let programs = programs(program)?;
     for load in loads::call_lists(1) {
         let title = format!("direct calls by processes, {}, 42 checked", load.name);
@@ -176,28 +177,26 @@ pub fn bench(program: &Path, most: f64, bars: &mut Bars) -> io::Result<bool> {
             }
         }
         println!("{title}: {} calls, {TURNS} rounds", load.steady.len());
-        report(&title, "call", &found, most, bars);
+        report(&title, "call", &found, limits, bars);
     }
     Ok(true)
 }
 
 /// The program named, and this one for each version.
-fn programs(program: &Path) -> io::Result<[(&'static str, Program); 3]> {
+fn programs(program: &Path) -> io::Result<Vec<(&'static str, Program)>> {
     let named = Program {
         path: program.canonicalize()?,
         words: Vec::new(),
     };
-    let version = |name| -> io::Result<Program> {
-        Ok(Program {
+    let mut programs = vec![(PROVED, named)];
+    for (name, _) in REPLAYS {
+        let version = Program {
             path: std::env::current_exe()?,
             words: vec![VERSION_REPLAY, name],
-        })
-    };
-    Ok([
-        (PROVED, named),
-        (BOOK, version(BOOK)?),
-        (FAST, version(FAST)?),
-    ])
+        };
+        programs.push((name, version));
+    }
+    Ok(programs)
 }
 
 /// A folder for the calls up to each cut: both ends of the steady part's first and last tenth.

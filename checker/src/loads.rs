@@ -20,7 +20,7 @@ impl Load {
     }
 }
 
-/// The five loads with this seed's numbers; their lines have the same lengths for every seed.
+/// The six loads with this seed's numbers; their lines have the same lengths for every seed.
 pub fn loads(seed: u64) -> Vec<Load> {
     vec![
         one_hop(seed),
@@ -28,6 +28,7 @@ pub fn loads(seed: u64) -> Vec<Load> {
         malformed(seed),
         twelve_hops(seed),
         changes(seed),
+        last_slot(seed),
     ]
 }
 
@@ -251,6 +252,30 @@ fn changes(seed: u64) -> Load {
     let steady = CHANGED_HELD..lines.len();
     Load {
         name: "e four-hop changes",
+        table: ring(),
+        lines,
+        steady,
+    }
+}
+
+/// (f) One-hop flows that get slot 256, the only one free, and leave it at once; 255 held.
+fn last_slot(seed: u64) -> Load {
+    const HELD: usize = 255;
+    const LINE: usize = 42 + 6;
+    let pairs = (MOST_ORDER_BYTES - HELD * LINE) / (LINE + 9);
+    let mut flows = Flows::new(seed, 9);
+    let mut lines = Vec::new();
+    for _ in 0..HELD {
+        lines.push(write_registration(&flows.next(1)));
+    }
+    for _ in 0..pairs {
+        let flow = flows.next(1);
+        lines.push(write_registration(&flow));
+        lines.push(write_release(flow.number));
+    }
+    let steady = HELD..lines.len();
+    Load {
+        name: "f one slot free",
         table: ring(),
         lines,
         steady,

@@ -2,7 +2,7 @@
 
 use checker::sequences::{only_the_first_grows, Judges};
 use checker::sim::Fault;
-use checker::{bench, compare, lists, sequences, simulate, vectors};
+use checker::{bench, compare, lists, search, sequences, simulate, vectors};
 use halls::tables::{Bounds, Count};
 use std::io::Write;
 use std::path::Path;
@@ -13,6 +13,7 @@ const USAGE: &str = "usage:
   checker replay                    (table.txt and calls.txt)
   checker vectors DIR
   checker compare --seed S --count N [--long]
+  checker words --seed S --count N
   checker sequences --seed S --count N
   checker simulate --seed S --count N
   checker compare-replay PROGRAM --seed S --count N
@@ -28,6 +29,7 @@ fn main() -> ExitCode {
         [lists::VERSION_REPLAY, version] => version_replay(version),
         ["compare", options @ ..] => run_compare(options),
         ["compare-replay", program, options @ ..] => run_compare_replay(program, options),
+        ["words", options @ ..] => run_words(options),
         ["sequences", options @ ..] => run_sequences(options),
         ["simulate", options @ ..] => run_simulate(options),
         ["bench", options @ ..] => Some(run_bench(options)),
@@ -52,6 +54,16 @@ fn word<'a>(options: &[&'a str], name: &str) -> Option<&'a str> {
 /// The number after an option's name.
 fn number(options: &[&str], name: &str) -> Option<u64> {
     word(options, name)?.parse().ok()
+}
+
+fn seed_and_count(options: &[&str]) -> Option<(u64, u64)> {
+    Some((number(options, "--seed")?, number(options, "--count")?))
+}
+
+/// Shows a difference, with which no run passes.
+fn differs(what: &str) -> bool {
+    println!("differs: {what}");
+    false
 }
 
 fn run_bench(options: &[&str]) -> bool {
@@ -80,13 +92,9 @@ fn report(name: &str, outcome: std::io::Result<bool>) -> bool {
 }
 
 fn run_compare_replay(program: &str, options: &[&str]) -> Option<bool> {
-    let seed = number(options, "--seed")?;
-    let count = number(options, "--count")?;
+    let (seed, count) = seed_and_count(options)?;
     match lists::compare(Path::new(program), seed, count) {
-        Err(what) => {
-            println!("differs: {what}");
-            Some(false)
-        }
+        Err(what) => Some(differs(&what)),
         Ok(calls) => {
             println!("lists: {count}, calls: {calls}");
             Some(calls > 0)
@@ -95,13 +103,9 @@ fn run_compare_replay(program: &str, options: &[&str]) -> Option<bool> {
 }
 
 fn run_compare(options: &[&str]) -> Option<bool> {
-    let seed = number(options, "--seed")?;
-    let count = number(options, "--count")?;
+    let (seed, count) = seed_and_count(options)?;
     match compare::run(seed, count, options.contains(&"--long")) {
-        Err(what) => {
-            println!("differs: {what}");
-            Some(false)
-        }
+        Err(what) => Some(differs(&what)),
         Ok(report) => {
             report.print();
             let (codes, kinds) = (report.missing(), report.missing_kinds());
@@ -114,15 +118,29 @@ fn run_compare(options: &[&str]) -> Option<bool> {
     }
 }
 
+fn run_words(options: &[&str]) -> Option<bool> {
+    let (seed, count) = seed_and_count(options)?;
+    let searches = search::searches();
+    match search::compare(seed, count, &searches) {
+        Err(what) => Some(differs(&what)),
+        Ok(met) => {
+            let names: Vec<&str> = searches.iter().map(|(name, _)| *name).collect();
+            println!("searches: {}", names.join(", "));
+            met.print();
+            let missing = met.missing();
+            if !missing.is_empty() {
+                println!("never met: {missing:?}");
+            }
+            Some(missing.is_empty())
+        }
+    }
+}
+
 fn run_sequences(options: &[&str]) -> Option<bool> {
-    let seed = number(options, "--seed")?;
-    let count = number(options, "--count")?;
+    let (seed, count) = seed_and_count(options)?;
     let report = match sequences::run(seed, count, &Judges::right()) {
         Ok(report) => report,
-        Err(what) => {
-            println!("differs: {what}");
-            return Some(false);
-        }
+        Err(what) => return Some(differs(&what)),
     };
     report.print();
     let mistaken = Judges {
@@ -136,8 +154,7 @@ fn run_sequences(options: &[&str]) -> Option<bool> {
 }
 
 fn run_simulate(options: &[&str]) -> Option<bool> {
-    let seed = number(options, "--seed")?;
-    let count = number(options, "--count")?;
+    let (seed, count) = seed_and_count(options)?;
     let outcome = simulate::run(seed, count).and_then(|report| {
         report.print();
         let met = [

@@ -1,6 +1,6 @@
 //! What the rounds of a benchmark measured of each version, and the bars that it must meet.
 
-use crate::versions::{BOOK, FAST, PROVED};
+use crate::versions::{BOOK, COUNTED, FAST, PROVED};
 
 /// µs per order or call in one round.
 pub struct Round {
@@ -16,13 +16,13 @@ pub struct Measured {
 }
 
 /// Median and quartiles.
-struct Spread {
-    median: f64,
-    low: f64,
-    high: f64,
+pub struct Spread {
+    pub median: f64,
+    pub low: f64,
+    pub high: f64,
 }
 
-fn spread(values: impl Iterator<Item = f64>) -> Spread {
+pub fn spread(values: impl Iterator<Item = f64>) -> Spread {
     let mut sorted: Vec<f64> = values.collect();
     sorted.sort_by(f64::total_cmp);
     let at = |part: usize| sorted[(sorted.len() - 1) * part / 4];
@@ -45,10 +45,18 @@ pub struct Bars {
 
 impl Bars {
     pub fn at_most(&mut self, what: String, value: f64, most: f64) {
+        self.judge(value <= most, format!("{what}: {value:.2} above {most}"));
+    }
+
+    pub fn at_least(&mut self, what: String, value: f64, least: f64) {
+        self.judge(value >= least, format!("{what}: {value:.2} below {least}"));
+    }
+
+    /// A value that isn't a number meets no bar.
+    fn judge(&mut self, met: bool, missed: String) {
         self.judged += 1;
-        // A value that isn't a number misses its bar.
-        if !matches!(value.partial_cmp(&most), Some(order) if order.is_le()) {
-            self.missed.push(format!("{what}: {value:.2} above {most}"));
+        if !met {
+            self.missed.push(missed);
         }
     }
 
@@ -62,9 +70,17 @@ impl Bars {
     }
 }
 
-/// Prints each version and the ratios. The proved version is judged: against the book by `most`, and
+/// What the proved version may take of another one's time.
+#[derive(Clone, Copy)]
+pub struct Limits {
+    pub of_book: f64,
+    /// None where it isn't judged.
+    pub of_counted: Option<f64>,
+}
+
+/// Prints each version and the ratios. The proved version is judged: against others by the limits, and
 /// its last tenth against its first.
-pub fn report(title: &str, unit: &str, measured: &[Measured], most: f64, bars: &mut Bars) {
+pub fn report(title: &str, unit: &str, measured: &[Measured], limits: Limits, bars: &mut Bars) {
     for Measured { name, rounds } in measured {
         let whole = spread(rounds.iter().map(|round| round.whole));
         let first = spread(rounds.iter().map(|round| round.first_tenth)).median;
@@ -78,25 +94,34 @@ pub fn report(title: &str, unit: &str, measured: &[Measured], most: f64, bars: &
         }
     }
     let version = |name| measured.iter().find(|measured| measured.name == name);
-    let (book, fast) = (version(BOOK), version(FAST));
-    let Some(proved) = version(PROVED) else {
-        ratio(book, fast, ", another data structure");
+    let proved = version(PROVED);
+    let Some(one) = proved.or(version(BOOK)) else {
         return;
     };
-    if let Some(found) = ratio(Some(proved), book, &format!(", bar {most}")) {
-        bars.at_most(format!("{title}, proved / book"), found, most);
+    for (name, most, note) in [
+        (BOOK, Some(limits.of_book), ""),
+        (COUNTED, limits.of_counted, ", the book before W-203"),
+        (FAST, None, ", another data structure"),
+    ] {
+        let Some(other) = version(name).filter(|other| other.name != one.name) else {
+            continue;
+        };
+        let most = most.filter(|_| proved.is_some());
+        let bar = most.map_or(String::new(), |most| format!(", bar {most}"));
+        let found = ratio(one, other, &format!("{bar}{note}"));
+        if let Some(most) = most {
+            bars.at_most(format!("{title}, proved / {name}"), found, most);
+        }
     }
-    ratio(Some(proved), fast, ", another data structure");
 }
 
 /// Prints the median of the ratios, each of two runs in the same round.
-fn ratio(one: Option<&Measured>, other: Option<&Measured>, note: &str) -> Option<f64> {
-    let (one, other) = (one?, other?);
+fn ratio(one: &Measured, other: &Measured, note: &str) -> f64 {
     let pairs = one.rounds.iter().zip(&other.rounds);
     let found = spread(pairs.map(|(a, b)| a.whole / b.whole));
     println!(
         "  {} / {}: {:.2} ({:.2} to {:.2}){note}",
         one.name, other.name, found.median, found.low, found.high
     );
-    Some(found.median)
+    found.median
 }

@@ -1,5 +1,6 @@
 //! The short seeded runs, and the simulator on runs small enough to follow by hand.
 
+use checker::book::Bits;
 use checker::rounds::Bars;
 use checker::sim::{Arrivals, Fault, Network, Observer, Seen};
 use checker::{compare, simulate, vectors};
@@ -24,20 +25,24 @@ fn versions_agree_and_every_code_occurs() {
     compare::run(2, 20, true).unwrap();
 }
 
-/// A bar is missed above its value, by what is no number, and where nothing was judged.
+/// A bar is missed above its most or below its least, by what is no number, and where nothing was judged.
 #[test]
 fn bars_are_judged() {
-    let judged = |values: &[f64]| {
+    let judged = |values: &[f64], judge: fn(&mut Bars, String, f64, f64)| {
         let mut bars = Bars::default();
         for &value in values {
-            bars.at_most("ratio".to_string(), value, 1.2);
+            judge(&mut bars, "ratio".to_string(), value, 1.2);
         }
         bars.print()
     };
-    assert!(judged(&[0.9, 1.2]));
-    assert!(!judged(&[0.9, 1.21]));
-    assert!(!judged(&[f64::NAN]));
-    assert!(!judged(&[]));
+    assert!(judged(&[0.9, 1.2], Bars::at_most));
+    assert!(!judged(&[0.9, 1.21], Bars::at_most));
+    assert!(judged(&[1.2, 1.3], Bars::at_least));
+    assert!(!judged(&[1.19, 1.3], Bars::at_least));
+    for judge in [Bars::at_most, Bars::at_least] {
+        assert!(!judged(&[f64::NAN], judge));
+        assert!(!judged(&[], judge));
+    }
 }
 
 #[test]
@@ -255,7 +260,7 @@ fn loads_answer_as_meant() {
         let text = load.text(load.lines.len());
         assert!(text.len() <= 60_000 && load.lines.len() <= 2_000);
         let mut answers = vec![0; 40_000];
-        let outcome = checker::book::batch(&load.table, &text, &mut answers);
+        let outcome = checker::book::batch::<Bits>(&load.table, &text, &mut answers);
         assert_eq!(outcome, (0, load.lines.len() as u32));
         for (index, answer) in answers.chunks(20).take(load.lines.len()).enumerate() {
             let code: &[u8] = match &load.name[..1] {
@@ -265,6 +270,9 @@ fn loads_answer_as_meant() {
                 _ => b"  0",
             };
             assert_eq!(&answer[6..9], code, "{} line {}", load.name, index + 1);
+            if load.name.starts_with('f') && index >= load.steady.start {
+                assert_eq!(&answer[9..13], b" 256", "line {}", index + 1);
+            }
         }
     }
 }

@@ -1,12 +1,12 @@
 //! Code 42: whether a registry of any content is in order.
 
 use super::figures::{add_path, links_meet};
-use super::{Aggregate, Registry, Slot, HOPS, POOL, QUEUES, SLOTS};
+use super::{Aggregate, Registry, Slot, Store, HOPS, QUEUES};
 
-impl Registry {
+impl<S: Store> Registry<S> {
     /// Document 01's "in order".
     pub fn consistent(&self) -> bool {
-        self.store.hop_sum(SLOTS) <= POOL as u64
+        self.store.packed()
             && self.table.consistent()
             && self.flows_stand()
             && self.figures_right()
@@ -15,12 +15,12 @@ impl Registry {
 
     /// 11, 12, 14 to 17 and 20 for each held flow beside the others.
     fn flows_stand(&self) -> bool {
-        let mut flows = self.store.flows().enumerate();
-        flows.all(|(slot, (flow, path))| flow.hops == 0 || self.flow_stands(slot, flow, path))
+        let mut flows = self.store.flows();
+        flows.all(|(slot, flow, path)| self.flow_stands(slot, &flow, path))
     }
 
     fn flow_stands(&self, slot: usize, flow: &Slot, path: &[u32]) -> bool {
-        path.len() <= HOPS
+        (1..=HOPS).contains(&path.len())
             && flow.in_range()
             && flow.frame <= flow.burst
             && self.store.find(flow.number) == Some(slot)
@@ -31,8 +31,8 @@ impl Registry {
     /// The stored figures are those of the flows, worked out anew.
     fn figures_right(&self) -> bool {
         let mut fresh = [Aggregate::NONE; QUEUES];
-        for (flow, path) in self.store.flows() {
-            add_path(flow, path, &self.table, &mut fresh);
+        for (_, flow, path) in self.store.flows() {
+            add_path(&flow, path, &self.table, &mut fresh);
         }
         fresh == self.sums
     }

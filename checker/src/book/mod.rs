@@ -1,10 +1,13 @@
-//! The proved registry's book in plain Rust: the same numbers, in arrays of structs, and the
-//! same algorithms (scans for a flow and for a free slot, packed paths in slot order, figures kept
-//! up to date, two divisions a level and one a hop), written as one would without proofs. Nothing on
-//! the heap, and a scan whose result is at hand isn't made again.
+//! The proved registry's book in plain Rust: the same numbers and the same algorithms (a scan for a
+//! flow, a bit for each held slot, packed paths in slot order with their starts, figures kept up to
+//! date, two divisions a level and one a hop), written as one would without proofs. Nothing on the
+//! heap, and a scan whose result is at hand isn't made again. `Counted` in place of `Bits` makes it
+//! the book as it stood before W-203.
 
+mod bits;
 mod check;
 mod columns;
+mod counted;
 mod figures;
 mod orders;
 mod store;
@@ -12,6 +15,8 @@ mod table;
 
 use crate::answer::{put_answer, Answer, ANSWER_LINE};
 use crate::calls::Calls;
+pub use bits::{first_clear, Bits, WORDS};
+pub use counted::Counted;
 pub use figures::Aggregate;
 use orders::{read_call, read_order, Change, Hop, Order};
 pub use store::{Slot, Store};
@@ -30,16 +35,16 @@ const MOST_ORDER_LINES: usize = 2_000;
 
 /// Document 01's book. A hop entry names a queue by 8 × link + level, both from 0.
 #[derive(Clone)]
-pub struct Registry {
+pub struct Registry<S = Bits> {
     pub table: Table,
-    pub store: Store,
+    pub store: S,
     pub sums: [Aggregate; QUEUES],
 }
 
-impl Calls for Registry {
-    const EMPTY: Registry = Registry {
+impl<S: Store> Calls for Registry<S> {
+    const EMPTY: Registry<S> = Registry {
         table: Table::EMPTY,
-        store: Store::EMPTY,
+        store: S::EMPTY,
         sums: [Aggregate::NONE; QUEUES],
     };
 
@@ -62,7 +67,7 @@ impl Calls for Registry {
     }
 }
 
-impl Registry {
+impl<S: Store> Registry<S> {
     #[inline]
     fn perform(&mut self, order: Order, hops: &[Hop; HOPS]) -> Answer {
         let done = match order {
@@ -91,7 +96,7 @@ impl Registry {
         self.table.locate(hops, path)?;
         self.table.judge_path(flow.deadline, path)?;
         let slot = self.store.first_free().ok_or(Answer::plain(30))?;
-        let held = self.store.hop_sum(SLOTS) as usize;
+        let held = self.store.held_entries();
         if POOL < held + path.len() {
             return Err(Answer::plain(31));
         }
@@ -105,13 +110,13 @@ impl Registry {
     #[inline]
     fn take_out(&mut self, number: u32) -> Result<usize, Answer> {
         let slot = self.store.find(number).ok_or(Answer::plain(13))?;
-        let flow = self.store.slots[slot];
-        let start = self.store.hop_sum(slot) as usize;
+        let flow = self.store.flow(slot);
+        let start = self.store.start(slot);
         let path = self.store.path(slot, start);
         let again = figures::remove_path(&flow, path, &self.table, &mut self.sums);
         self.store.remove(slot, start);
         if again {
-            for (flow, path) in self.store.flows() {
+            for (_, flow, path) in self.store.flows() {
                 figures::raise_path(flow.frame, path, &mut self.sums);
             }
         }
@@ -122,7 +127,7 @@ impl Registry {
     #[inline]
     fn change(&mut self, change: Change) -> Result<usize, Answer> {
         let slot = self.store.find(change.number).ok_or(Answer::plain(13))?;
-        let old = self.store.slots[slot];
+        let old = self.store.flow(slot);
         if change.burst < old.frame {
             return Err(Answer::plain(17));
         }
@@ -131,17 +136,17 @@ impl Registry {
             burst: change.burst,
             ..old
         };
-        let path = self.store.path(slot, self.store.hop_sum(slot) as usize);
+        let path = self.store.path(slot, self.store.start(slot));
         figures::check_change(&old, &new, path, &self.table, &self.sums)?;
         figures::change_path(&old, &new, path, &self.table, &mut self.sums);
-        self.store.slots[slot] = new;
+        self.store.set_flow(slot, new);
         Ok(slot)
     }
 }
 
 /// A batch: code and line number come back, the answers go into the area.
-pub fn batch(table: &[u8], orders: &[u8], answers: &mut [u8]) -> (u32, u32) {
-    let mut registry = Registry::EMPTY;
+pub fn batch<S: Store>(table: &[u8], orders: &[u8], answers: &mut [u8]) -> (u32, u32) {
+    let mut registry = Registry::<S>::EMPTY;
     let refused = registry.table.read(table);
     if refused.0 != 0 {
         return refused;

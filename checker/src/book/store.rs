@@ -1,19 +1,10 @@
-//! The held flows and their paths. `pool` has the hop entries of the held flows one after the other
-//! in slot order, so that a flow's entries start at the sum of the hop counts before it.
+//! What a registry asks of the store of its held flows and their paths. Each store has the hop
+//! entries of the held flows one after the other in slot order.
 
 use super::{POOL, SLOTS};
 
-const FREE: Slot = Slot {
-    number: 0,
-    rate: 0,
-    burst: 0,
-    frame: 0,
-    deadline: 0,
-    hops: 0,
-};
-
-/// A flow as its line gave it; hop count 0 means that the slot is free.
-#[derive(Clone, Copy)]
+/// A flow as its line gave it.
+#[derive(Clone, Copy, Debug, PartialEq)]
 pub struct Slot {
     pub number: u32,
     pub rate: u32,
@@ -21,12 +12,6 @@ pub struct Slot {
     pub frame: u32,
     pub deadline: u32,
     pub hops: u32,
-}
-
-#[derive(Clone)]
-pub struct Store {
-    pub slots: [Slot; SLOTS],
-    pub pool: [u32; POOL],
 }
 
 #[inline(always)]
@@ -45,6 +30,15 @@ pub fn burst_in_range(burst: u32) -> bool {
 }
 
 impl Slot {
+    pub const NONE: Slot = Slot {
+        number: 0,
+        rate: 0,
+        burst: 0,
+        frame: 0,
+        deadline: 0,
+        hops: 0,
+    };
+
     /// Code 11's ranges, the hop count apart.
     #[inline]
     pub fn in_range(&self) -> bool {
@@ -56,81 +50,60 @@ impl Slot {
     }
 }
 
-impl Store {
-    pub const EMPTY: Store = Store {
-        slots: [FREE; SLOTS],
-        pool: [0; POOL],
-    };
+/// The held flows and their paths.
+pub trait Store: Clone {
+    const EMPTY: Self;
 
-    /// The slot that holds the flow with this number. Blocks are searched for the number alone and
-    /// without an early exit, so that several slots are compared at once.
-    #[inline]
-    pub fn find(&self, number: u32) -> Option<usize> {
-        let (blocks, _) = self.slots.as_chunks::<8>();
-        blocks.iter().enumerate().find_map(|(index, block)| {
-            if !block
-                .iter()
-                .fold(false, |met, slot| met | (slot.number == number))
-            {
-                return None;
-            }
-            let held = |slot: &Slot| slot.number == number && slot.hops != 0;
-            block.iter().position(held).map(|at| 8 * index + at)
-        })
-    }
-
-    /// The lowest free slot, by blocks too.
-    #[inline]
-    pub fn first_free(&self) -> Option<usize> {
-        let (blocks, _) = self.slots.as_chunks::<16>();
-        let some_free =
-            |block: &[Slot; 16]| block.iter().fold(false, |met, slot| met | (slot.hops == 0));
-        let index = blocks.iter().position(some_free)?;
-        let at = blocks[index].iter().position(|slot| slot.hops == 0)?;
-        Some(16 * index + at)
-    }
-
-    /// The sum of the hop counts of the first `count` slots, whatever they are.
-    #[inline]
-    pub fn hop_sum(&self, count: usize) -> u64 {
-        let sum = |slots: &[Slot]| slots.iter().map(|slot| u64::from(slot.hops)).sum::<u64>();
-        let (blocks, rest) = self.slots[..count].as_chunks::<8>();
-        blocks.iter().map(|block| sum(block)).sum::<u64>() + sum(rest)
-    }
+    fn is_held(&self, slot: usize) -> bool;
+    /// The numbers of a slot; those of a free one mean nothing.
+    fn flow(&self, slot: usize) -> Slot;
+    /// Gives a slot other numbers, where it stands.
+    fn set_flow(&mut self, slot: usize, flow: Slot);
+    fn pool(&self) -> &[u32; POOL];
+    fn pool_mut(&mut self) -> &mut [u32; POOL];
+    /// The slot that holds the flow with this number.
+    fn find(&self, number: u32) -> Option<usize>;
+    /// The lowest free slot.
+    fn first_free(&self) -> Option<usize>;
+    /// How many hop entries are held.
+    fn held_entries(&self) -> usize;
+    /// Where the entries of a held slot begin.
+    fn start(&self, slot: usize) -> usize;
+    /// Puts a flow with its path in the lowest free slot; `held` hop entries are held before.
+    fn insert(&mut self, slot: usize, flow: Slot, path: &[u32], held: usize);
+    /// Empties a held slot whose entries begin at `start`.
+    fn remove(&mut self, slot: usize, start: usize);
+    /// Whether a store of any content has its held entries where it says, within the pool.
+    fn packed(&self) -> bool;
+    /// Each held slot with its flow and path; the store is packed.
+    fn flows(&self) -> impl Iterator<Item = (usize, Slot, &[u32])>;
 
     /// The path of a held slot whose entries begin at `start`.
-    #[inline(always)]
-    pub fn path(&self, slot: usize, start: usize) -> &[u32] {
-        &self.pool[start..start + self.slots[slot].hops as usize]
-    }
+    fn path(&self, slot: usize, start: usize) -> &[u32];
+}
 
-    /// Puts a flow with its path in a free slot; `held` hop entries are held before.
-    #[inline]
-    pub fn insert(&mut self, slot: usize, flow: Slot, path: &[u32], held: usize) {
-        let start = self.hop_sum(slot) as usize;
-        let end = start + path.len();
-        self.pool.copy_within(start..held, end);
-        self.pool[start..end].copy_from_slice(path);
-        self.slots[slot] = flow;
-    }
+/// The first held slot with a number that is looked for. Blocks are searched for the number alone and
+/// without an early exit, so that several slots are compared at once.
+#[inline(always)]
+pub fn find_held<T, const BLOCK: usize>(
+    slots: &[T; SLOTS],
+    has_number: impl Fn(&T) -> bool,
+    is_held: impl Fn(usize) -> bool,
+) -> Option<usize> {
+    let (blocks, _) = slots.as_chunks::<BLOCK>();
+    blocks.iter().enumerate().find_map(|(index, block)| {
+        if !block.iter().fold(false, |met, slot| met | has_number(slot)) {
+            return None;
+        }
+        let mut among = BLOCK * index..BLOCK * (index + 1);
+        among.find(|&slot| has_number(&slots[slot]) && is_held(slot))
+    })
+}
 
-    /// Empties a slot whose entries begin at `start`.
-    #[inline]
-    pub fn remove(&mut self, slot: usize, start: usize) {
-        let end = start + self.slots[slot].hops as usize;
-        let after: u32 = self.slots[slot + 1..].iter().map(|slot| slot.hops).sum();
-        self.pool.copy_within(end..end + after as usize, start);
-        self.slots[slot].hops = 0;
-    }
-
-    /// Each slot with its path, free ones with none; the hop counts sum to no more than the pool.
-    #[inline]
-    pub fn flows(&self) -> impl Iterator<Item = (&Slot, &[u32])> {
-        let mut rest = &self.pool[..];
-        self.slots.iter().map(move |slot| {
-            let (path, after) = rest.split_at(slot.hops as usize);
-            rest = after;
-            (slot, path)
-        })
-    }
+/// Puts a path between the first `start` of the held entries and the rest.
+#[inline(always)]
+pub fn put_path(pool: &mut [u32; POOL], start: usize, path: &[u32], held: usize) {
+    let end = start + path.len();
+    pool.copy_within(start..held, end);
+    pool[start..end].copy_from_slice(path);
 }

@@ -3,6 +3,8 @@
 
 use super::changes;
 use crate::answer;
+use crate::book::{self, Counted};
+use crate::fast;
 use crate::views::Version;
 use halls::rng::Rng;
 use halls::Input;
@@ -23,8 +25,9 @@ pub struct Made {
     pub changes: Counts,
     /// Calls that were given a line of another kind, by both kinds.
     pub crossed: BTreeMap<(u64, u64), u64>,
-    /// Calls answered 42, by their kind.
+    /// Calls answered 42, by their kind; those on damaged registries that are in order all the same.
     pub stopped: Counts,
+    pub unharmed: Counts,
 }
 
 impl Made {
@@ -50,6 +53,9 @@ impl Made {
         for one in KINDS {
             if !self.stopped.contains_key(&one.number) {
                 missing.push(format!("42 to a call to {}", one.word));
+            }
+            if !self.unharmed.contains_key(&one.number) {
+                missing.push(format!("an unharmed registry to {}", one.word));
             }
             for other in KINDS {
                 let pair = (one.number, other.number);
@@ -99,9 +105,11 @@ pub fn call_bytes(rng: &mut Rng, line: &[u8], faulty: bool) -> Vec<u8> {
 
 /// A batch's orders as direct calls on each version's registry; the same ones for each.
 pub fn one_list(rng: &mut Rng, given: &Input, made: &mut Made) -> Result<(), String> {
-    let mut again = rng.clone();
-    version_list::<crate::book::Registry>(rng, given, made)?;
-    version_list::<crate::fast::Registry>(&mut again, given, &mut Made::default())
+    let again = rng.clone();
+    version_list::<book::Registry>(rng, given, made)?;
+    let mut others = Made::default();
+    version_list::<book::Registry<Counted>>(&mut again.clone(), given, &mut others)?;
+    version_list::<fast::Registry>(&mut again.clone(), given, &mut others)
 }
 
 fn version_list<R: Version>(rng: &mut Rng, given: &Input, made: &mut Made) -> Result<(), String> {
@@ -166,37 +174,41 @@ const TRIED: [(u64, &[u8]); 3] = [
     (CHANGE, b" 3     1     1000    1542\n"),
 ];
 
-/// Changes one number of a registry; a call then answers 42 exactly when it isn't in order.
+/// Changes one number of a registry; a call then answers 42 exactly when it isn't in order, and as the plain version else.
 fn one_damage<R: Version>(rng: &mut Rng, sound: &R, made: &mut Made) -> Result<(), String> {
     let mut damaged = Box::new(sound.clone());
     damaged.damage(rng);
-    let seen = damaged.view();
-    let expected = consistent(&seen.queues, &seen.slots, &seen.stored);
-    if damaged.consistent() != expected {
+    let before = damaged.view();
+    let in_order = before.placed && consistent(&before.queues, &before.slots, &before.stored);
+    if damaged.consistent() != in_order {
         return Err(format!(
-            "{}: a damaged registry: plain says in order: {expected}",
+            "{}: a damaged registry: plain says in order: {in_order}",
             R::NAME
         ));
     }
-    let before = damaged.clone();
     let (kind, line) = rng.pick(&TRIED);
     let answer = damaged.call(kind as u32, line);
     *made.answers.entry(u64::from(answer.code)).or_default() += 1;
-    if answer.code == 42 {
-        *made.stopped.entry(kind).or_default() += 1;
+    let mut plain = Registry::over(before.queues);
+    plain.slots = before.slots;
+    if in_order {
+        *made.unharmed.entry(kind).or_default() += 1;
+        let known = plain.call(kind, line);
+        if !same_answer(&known, &answer) {
+            return Err(format!(
+                "{}: unharmed: {answer:?}, plain {known:?}",
+                R::NAME
+            ));
+        }
+        return same_state(&plain, damaged.as_ref());
     }
-    if (answer.code == 42) == expected {
-        return Err(format!(
-            "{}: a damaged registry: answer {answer:?}",
-            R::NAME
-        ));
+    *made.stopped.entry(kind).or_default() += 1;
+    let after = damaged.view();
+    if answer != answer::Answer::plain(42) {
+        return Err(format!("{}: not in order: {answer:?}", R::NAME));
     }
-    let (old, new) = (before.view(), damaged.view());
-    if answer.code != 0 && (old.slots != new.slots || old.stored != new.stored) {
-        return Err(format!(
-            "{}: a refused call changed a damaged registry",
-            R::NAME
-        ));
+    if after.slots != plain.slots || after.stored != before.stored {
+        return Err(format!("{}: a 42 changed a damaged registry", R::NAME));
     }
     Ok(())
 }

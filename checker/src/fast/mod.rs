@@ -146,12 +146,6 @@ impl Registry {
     }
 
     #[inline(always)]
-    fn lowest_free(&self) -> Option<usize> {
-        let word = self.taken.iter().position(|&word| word != u64::MAX)?;
-        Some(64 * word + self.taken[word].trailing_ones() as usize)
-    }
-
-    #[inline(always)]
     fn put_in(&mut self, flow: &Flow) -> Answer {
         if self.find(flow.number as u16).is_some() {
             return Answer::plain(12);
@@ -173,7 +167,7 @@ impl Registry {
         let Some(bursts) = self.bursts(&entry) else {
             return Answer::plain(20);
         };
-        let Some(slot) = self.lowest_free() else {
+        let Some(slot) = lowest_free(&self.taken) else {
             return Answer::plain(30);
         };
         if self.pool + flow.count as u32 > HOP_POOL {
@@ -230,6 +224,12 @@ impl Registry {
         self.pool -= flow.count;
         Answer::done(slot)
     }
+}
+
+#[inline(always)]
+pub fn lowest_free(taken: &[u64; WORDS]) -> Option<usize> {
+    let word = taken.iter().position(|&word| word != u64::MAX)?;
+    Some(64 * word + taken[word].trailing_ones() as usize)
 }
 
 /// The largest frame of these slots, which is at most `most`.

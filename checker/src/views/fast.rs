@@ -55,6 +55,7 @@ fn view(registry: &fast::Registry) -> View {
         queues,
         slots,
         stored,
+        placed: true,
     }
 }
 

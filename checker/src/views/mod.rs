@@ -9,11 +9,13 @@ use plain::formula::Aggregate;
 use plain::orders::{Flow, LARGEST_FRAME, SMALLEST_FRAME};
 use plain::table::Queue;
 
-/// What document 01 lets count of a registry: table, the flow or none at each slot, figures.
+/// What document 01 lets count of a registry: table, the flow or none at each slot, figures; and whether the registry's own
+/// record of where hop entries lie, if it keeps one, is right.
 pub struct View {
     pub queues: Vec<Queue>,
     pub slots: Vec<Option<Flow>>,
     pub stored: Vec<Aggregate>,
+    pub placed: bool,
 }
 
 /// What the runs ask of a version's registry beside its calls.

@@ -1,13 +1,13 @@
 -- Held flows that are each right by themselves can be recounted.
 -- Assumes nothing.
-use Prim.Native.Nat.{ℕ, zero, suc, _+_, _≤_, _<_}
-use mathlib.Core.Path.{_≡_, refl, ap, _∙_}
-use mathlib.Core.Bool.{true, _&&_}
+use Prim.Native.Nat.{ℕ, _≤_, _<_}
+use mathlib.Core.Path.{_≡_, refl, ap}
+use mathlib.Core.Bool.{Bool, true, false, _&&_}
 use mathlib.Core.List.{List, [], _∷_, _++_}
-use mathlib.Core.Option.{none, some}
+use mathlib.Core.Option.{none}
 use native.Mathlib.Omega.{arith}
 use lib.Dec.{leb}
-use borrow.Author.Tests.{ne-eqb, le-leb}
+use borrow.Author.Tests.{le-leb}
 use Rattle.model.specs.Words.{every, isNone}
 use Rattle.model.specs.Laws.Slot.{held-at}
 use Rattle.model.specs.Sizes.{hopsMost, slotCount}
@@ -22,58 +22,55 @@ use Rattle.model.specs.Laws.Consistent.{FlowRules}
 use Rattle.model.specs.Laws.Reached.{StateRules}
 use Rattle.queue_table.specs.View.{WellFormed, tableOf, AllQueues}
 use Rattle.path_check.proofs.EntryLaws.{all-queues}
-use Rattle.flow_store.specs.View.{Store, slotsOf, slotOf, flowAt, countAt, entriesIn, flowIn}
-use Rattle.flow_store.proofs.ViewLaws.{slot-at, entries-long, flow-long}
+use Rattle.bit_words.specs.View.{isSet}
+use Rattle.flow_store.specs.View.{Store, slotsOf, flowAt, countAt, entriesIn, flowIn}
+use Rattle.flow_store.proofs.ViewLaws.{held-slot, count-free, entries-long, flow-long}
 use Rattle.flow_check.specs.View.{flowAlone}
 use Rattle.recount.specs.View.{Countable, OnQueues}
 use Rattle.admission.proofs.KeptLaws.{Ranges, ranges, hops-ranged}
 
-pub slot-held : (count : ℕ) (f : Flow) → 1 ≤ count → slotOf count f ≡ some f
-unfolding slotOf
-slot-held count f h = rw (ne-eqb count 0 (omega arith))
-
-module _ (table slots pool : List ℕ) (formed : WellFormed table) (store : Store slots pool)
+module _ (table bits slots pool : List ℕ) (formed : WellFormed table) (store : Store bits slots pool)
     (right : tableConsistent (tableOf table) ≡ true)
-    (alone : every (flowAlone (tableOf table) (heldFlows (slotsOf slots pool))) (heldFlows (slotsOf slots pool)) ≡ true) where
+    (alone : every (flowAlone (tableOf table) (heldFlows (slotsOf bits slots pool))) (heldFlows (slotsOf bits slots pool)) ≡ true) where
   abbrev t : Table
   t = tableOf table
 
   abbrev flow : ℕ → Flow
-  flow i = flowIn slots pool i
+  flow i = flowIn bits slots pool i
 
-  pub by-itself : (i : ℕ) → i < slotCount → 1 ≤ countAt slots i → (flowInRange (flow i) ≡ true) × (atHop 14 (noQueue t) [] (flow i .path) ≡ none)
+  pub by-itself : (i : ℕ) → i < slotCount → isSet bits i ≡ true → (flowInRange (flow i) ≡ true) × (atHop 14 (noQueue t) [] (flow i .path) ≡ none)
   unfolding flowAlone lineFindings
   by-itself i lt held =
-      let found = slot-at slots i pool lt ∙ slot-held (countAt slots i) (flow i) held in
-      let e = held-at (λ (f : Flow). flowAlone t (heldFlows (slotsOf slots pool)) f ≡ true) (slotsOf slots pool) i (every-all (flowAlone t (heldFlows (slotsOf slots pool))) (heldFlows (slotsOf slots pool)) alone) found in
-      let (e₁, causes) = and-both (flowInRange (flow i) && leb (withNumber (flow i .number) (heldFlows (slotsOf slots pool))) 1) _ e in
+      let found = held-slot bits slots i pool lt held in
+      let e = held-at (λ (f : Flow). flowAlone t (heldFlows (slotsOf bits slots pool)) f ≡ true) (slotsOf bits slots pool) i (every-all (flowAlone t (heldFlows (slotsOf bits slots pool))) (heldFlows (slotsOf bits slots pool)) alone) found in
+      let (e₁, causes) = and-both (flowInRange (flow i) && leb (withNumber (flow i .number) (heldFlows (slotsOf bits slots pool))) 1) _ e in
       let (range, number) = and-both (flowInRange (flow i)) _ e₁ in
       let passed = none-applies (lineFindings t (flow i) ++ deadlineFinding t (flow i) ∷ []) (is-none _ causes) in
       (range, passed .1 .0)
 
-  held-queues : (i : ℕ) → i < slotCount → 1 ≤ countAt slots i → AllQueues table (entriesIn slots pool i)
+  held-queues : (i : ℕ) → i < slotCount → isSet bits i ≡ true → AllQueues table (entriesIn bits slots pool i)
   unfolding flowAt isNone
-  held-queues i lt held = all-queues table (entriesIn slots pool i) (ap isNone (by-itself i lt held .1))
+  held-queues i lt held = all-queues table (entriesIn bits slots pool i) (ap isNone (by-itself i lt held .1))
 
-  pub on-queues : OnQueues table slots pool
-  on-queues i lt = go (countAt slots i) refl
+  pub on-queues : OnQueues table bits slots pool
+  on-queues i lt = go (isSet bits i) refl
     where
-      go : (k : ℕ) → countAt slots i ≡ k → AllQueues table (entriesIn slots pool i)
-      go zero e = rw e tt
-      go (suc k) e = held-queues i lt (omega arith)
+      go : (b : Bool) → isSet bits i ≡ b → AllQueues table (entriesIn bits slots pool i)
+      go true e = held-queues i lt e
+      go false e = rw (count-free bits slots i e) tt
 
-  pub countable : Countable table slots pool
+  pub countable : Countable table bits slots pool
   unfolding flowAt
   countable =
       record {
         store = store;
         each = λ i lt held.
             let range : Ranges (flow i) = ranges (flow i) (by-itself i lt held .0) in
-            let few : countAt slots i ≤ hopsMost = omega (arith, range .few, flow-long slots i pool lt store) in
+            let few : countAt bits slots i ≤ hopsMost = omega (arith, range .few, flow-long bits slots i pool lt store) in
             record {
               few = few;
               share = (range .rate, range .burst, range .frame);
-              hops = hops-ranged table formed right (entriesIn slots pool i) (held-queues i lt held) (omega (arith, few, entries-long slots i pool lt store));
+              hops = hops-ranged table formed right (entriesIn bits slots pool i) (held-queues i lt held) (omega (arith, few, entries-long bits slots i pool lt store));
             };
       }
 

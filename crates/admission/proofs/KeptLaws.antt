@@ -36,9 +36,10 @@ use Rattle.units.specs.View.{aggregateOf, AtSource}
 use Rattle.orders.specs.View.{fieldsOf, lineFlow}
 use Rattle.queue_table.specs.View.{linkIn, speedAt, WellFormed, tableOf, hopAt, isQueue, linkAt, AllQueues}
 use Rattle.queue_table.proofs.LookupLaws.{link-found}
+use Rattle.bit_words.specs.View.{LeastClear}
 use Rattle.flow_store.specs.View.{Store, slotsOf, Insertable}
 use Rattle.flow_store.proofs.ViewLaws.{length-slots, held-hops}
-use Rattle.flow_store.proofs.ScanLaws.{free-count}
+use Rattle.flow_store.proofs.ScanLaws.{lowest-free}
 use Rattle.flow_check.specs.View as judged
 use Rattle.figures.specs.View.{Figures, Bounded, Hops, Speeds, OnTable, FlowOf, PathAdded, growthAt}
 use Rattle.queue_table.proofs.EntryLaws.{queue-within, queue-low, queue-named}
@@ -55,7 +56,6 @@ pub record Ranges (f : line.Flow) : Type 0 where
   pub burst : f .burst ≤ 1000000
   pub frame : f .frame ≤ 1542
   pub deadline : f .deadline ≤ 10000000
-  pub hops : 1 ≤ length (f .path)
   pub few : length (f .path) ≤ hopsMost
 
 pub ranges : (f : line.Flow) → flowInRange f ≡ true → Ranges f
@@ -72,7 +72,6 @@ ranges f e =
       burst = between-true 84 1000000 (f .burst) burst .1;
       frame = between-true 84 1542 (f .frame) frame .1;
       deadline = between-true 1 10000000 (f .deadline) deadline .1;
-      hops = between-true 1 hopsMost (length (f .path)) hops .0;
       few = between-true 1 hopsMost (length (f .path)) hops .1;
     }
 
@@ -94,11 +93,11 @@ hops-ranged table formed right entries named few =
           (le-trans (growth-most _ _) (threshold-below (tableOf table) right (hopAt e) _ (queue-named table e q))),
     )
 
-pub stepped-same : {o o′ : Order} {table slots pool slots′ pool′ sums′ : List ℕ} {r : Answer} → o ≡ o′
-    → Stepped o table slots pool slots′ pool′ sums′ r
-    → Stepped o′ table slots pool slots′ pool′ sums′ r
-stepped-same {table = table} {slots} {pool} {slots′} {pool′} {sums′} {r} e =
-    subst (λ (o : Order). Stepped o table slots pool slots′ pool′ sums′ r) e
+pub stepped-same : {o o′ : Order} {table bits slots pool bits′ slots′ pool′ sums′ : List ℕ} {r : Answer} → o ≡ o′
+    → Stepped o table bits slots pool bits′ slots′ pool′ sums′ r
+    → Stepped o′ table bits slots pool bits′ slots′ pool′ sums′ r
+stepped-same {table = table} {bits} {slots} {pool} {bits′} {slots′} {pool′} {sums′} {r} e =
+    subst (λ (o : Order). Stepped o table bits slots pool bits′ slots′ pool′ sums′ r) e
 
 pub filled : (s : State) (i : ℕ) (x : Slot) → answerOf (Done (i + 1)) ≡ fill s i x .answer
 unfolding fill
@@ -106,16 +105,16 @@ filled s i x =
     let e : i + 1 ≡ suc i = omega arith in
     λ t. record { code = 0; slot = e t; link = 0; level = 0 }
 
-module _ (table slots pool sums : List ℕ) (k : Kept table slots pool sums) where
+module _ (table bits slots pool sums : List ℕ) (k : Kept table bits slots pool sums) where
   abbrev s : State
-  s = stateOf table slots pool
+  s = stateOf table bits slots pool
 
   rules : StateRules s
   rules = state-rules s (k .is-consistent)
 
   -- A refusal is the first cause, and nothing changes.
   pub stepped-refused : (o : Order) (cause : Cause) → firstCause (findings s o) ≡ some (causeOf cause)
-      → Stepped o table slots pool slots pool sums (Refused cause)
+      → Stepped o table bits slots pool bits slots pool sums (Refused cause)
   unfolding apply decide refuse
   stepped-refused o cause first =
       let done : apply s o ≡ refuse s (causeOf cause) = ap (decide s o) first in
@@ -135,8 +134,8 @@ module _ (table slots pool sums : List ℕ) (k : Kept table slots pool sums) whe
       }
 
   -- The held flows are on queues of the table.
-  pub held-named : All (λ g. All (Named (tableOf table)) (g .path)) (heldFlows (slotsOf slots pool))
-  held-named = all-imp (heldFlows (slotsOf slots pool)) (λ g m. m .queues) (schedulable s rules .flows)
+  pub held-named : All (λ g. All (Named (tableOf table)) (g .path)) (heldFlows (slotsOf bits slots pool))
+  held-named = all-imp (heldFlows (slotsOf bits slots pool)) (λ g m. m .queues) (schedulable s rules .flows)
 
   -- Queues of the table have thresholds and speeds in their ranges.
   module _ (entries : List ℕ) (named : AllQueues table entries) where
@@ -181,62 +180,64 @@ module _ (table slots pool sums : List ℕ) (k : Kept table slots pool sums) whe
     unfolding flowOf
     hops-long = ap length (sym (named .path)) ∙ length-map path hopAt ∙ path-length
 
-    module _ (room : firstCause (roomFindings (slotsOf slots pool) f) ≡ none) (slot : ℕ) (lowest : slot ≡ firstIndex isNone (slotsOf slots pool)) where
-      free : every isHeld (slotsOf slots pool) ≡ false
-      free = slot-free (slotsOf slots pool) f (none-applies (roomFindings (slotsOf slots pool) f) room)
+    module _ (room : firstCause (roomFindings (slotsOf bits slots pool) f) ≡ none) (slot : ℕ) (least : LeastClear bits slot) where
+      lowest : slot ≡ firstIndex isNone (slotsOf bits slots pool)
+      lowest = lowest-free bits slots pool slot (k .store .bits-long) least
+
+      free : every isHeld (slotsOf bits slots pool) ≡ false
+      free = slot-free (slotsOf bits slots pool) f (none-applies (roomFindings (slotsOf bits slots pool) f) room)
 
       pub inside : slot < slotCount
       unfolding isHeld
-      inside = omega (arith, lowest, index-below isNone (slotsOf slots pool) free, length-slots slots pool)
+      inside = omega (arith, lowest, index-below isNone (slotsOf bits slots pool) free, length-slots bits slots pool)
 
-      pub insertable : Insertable slot flow path slots pool
+      pub insertable : Insertable slot flow path bits slots pool
       unfolding flowOf
       insertable =
           record {
             store = k .store;
             narrow = record { share = numbers; deadline = range .deadline };
             inside = inside;
-            free = rw lowest (free-count slots pool (rw (sym lowest) inside));
+            lowest = least;
             hops = sym path-length;
-            path = omega (arith, path-length, hops-long, range .hops);
-            room = omega (arith, path-length, hops-long, held-hops slots pool (k .store), hops-free (slotsOf slots pool) f (none-applies (roomFindings (slotsOf slots pool) f) room));
+            room = omega (arith, path-length, hops-long, held-hops bits slots pool (k .store), hops-free (slotsOf bits slots pool) f (none-applies (roomFindings (slotsOf bits slots pool) f) room));
           }
 
       -- An admission: the flow is in the lowest free slot, and every figure is right.
-      pub stepped-admitted : {slots′ pool′ sums′ : List ℕ} → firstCause (findings s (register f)) ≡ none
-          → slotsOf slots′ pool′ ≡ set (slotsOf slots pool) slot (some (flowOf (fieldsOf flow) (map hopAt path)))
-          → Store slots′ pool′
+      pub stepped-admitted : {bits′ slots′ pool′ sums′ : List ℕ} → firstCause (findings s (register f)) ≡ none
+          → slotsOf bits′ slots′ pool′ ≡ set (slotsOf bits slots pool) slot (some (flowOf (fieldsOf flow) (map hopAt path)))
+          → Store bits′ slots′ pool′
           → PathAdded (aggregateOf (flow .share)) table path sums sums′
-          → Stepped (register f) table slots pool slots′ pool′ sums′ (Done (slot + 1))
+          → Stepped (register f) table bits slots pool bits′ slots′ pool′ sums′ (Done (slot + 1))
       unfolding apply decide perform fill
-      stepped-admitted {slots′} {pool′} {sums′} nothing view store added =
+      stepped-admitted {bits′} {slots′} {pool′} {sums′} nothing view store added =
           record { answer = answer; next = next; kept = record { formed = k .formed; store = store; is-consistent = is-consistent; figures = figures } }
         where
-          done : apply s (register f) ≡ fill s (firstIndex isNone (slotsOf slots pool)) (some f)
+          done : apply s (register f) ≡ fill s (firstIndex isNone (slotsOf bits slots pool)) (some f)
           done = ap (decide s (register f)) nothing
 
-          seen : slotsOf slots′ pool′ ≡ set (slotsOf slots pool) (firstIndex isNone (slotsOf slots pool)) (some f)
+          seen : slotsOf bits′ slots′ pool′ ≡ set (slotsOf bits slots pool) (firstIndex isNone (slotsOf bits slots pool)) (some f)
           seen =
               view
-              ∙ ap (λ (i : ℕ). set (slotsOf slots pool) i (some (flowOf (fieldsOf flow) (map hopAt path)))) lowest
-              ∙ ap (λ (p : List line.Hop). set (slotsOf slots pool) (firstIndex isNone (slotsOf slots pool)) (some (flowOf (fieldsOf flow) p))) (named .path)
+              ∙ ap (λ (i : ℕ). set (slotsOf bits slots pool) i (some (flowOf (fieldsOf flow) (map hopAt path)))) lowest
+              ∙ ap (λ (p : List line.Hop). set (slotsOf bits slots pool) (firstIndex isNone (slotsOf bits slots pool)) (some (flowOf (fieldsOf flow) p))) (named .path)
 
           answer : answerOf (Done (slot + 1)) ≡ apply s (register f) .answer
-          answer = ap (λ (i : ℕ). answerOf (Done (i + 1))) lowest ∙ filled s (firstIndex isNone (slotsOf slots pool)) (some f) ∙ sym (ap (λ (out : Outcome). out .answer) done)
+          answer = ap (λ (i : ℕ). answerOf (Done (i + 1))) lowest ∙ filled s (firstIndex isNone (slotsOf bits slots pool)) (some f) ∙ sym (ap (λ (out : Outcome). out .answer) done)
 
-          next : stateOf table slots′ pool′ ≡ apply s (register f) .next
+          next : stateOf table bits′ slots′ pool′ ≡ apply s (register f) .next
           next = ap (λ (l : List Slot). record { table = tableOf table; slots = l }) seen ∙ sym (ap (λ (out : Outcome). out .next) done)
 
-          is-consistent : consistent (stateOf table slots′ pool′) ≡ true
+          is-consistent : consistent (stateOf table bits′ slots′ pool′) ≡ true
           is-consistent = rw next (rules-state _ (apply-keeps s (register f) (kindNumber registering) (refl, read .range) rules))
 
-          figures : Figures (tableOf table) (heldFlows (slotsOf slots′ pool′)) sums′
+          figures : Figures (tableOf table) (heldFlows (slotsOf bits′ slots′ pool′)) sums′
           figures =
               let more = figures-added f (named .queues) flow-of added (k .figures) in
               record {
                 long = more .long;
                 same = λ e lt.
                     more .same e lt
-                    ∙ sym (aggregate-perm (tableOf table) (fill-perm f (slotsOf slots pool) free) (hopAt e))
+                    ∙ sym (aggregate-perm (tableOf table) (fill-perm f (slotsOf bits slots pool) free) (hopAt e))
                     ∙ ap (λ (l : List Slot). lookup.aggregateAt (tableOf table) (heldFlows l) (hopAt e)) (sym seen);
               }

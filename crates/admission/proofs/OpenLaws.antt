@@ -1,7 +1,8 @@
 -- A registry of zeros on a table that was read is the empty one, and consistent.
 -- Assumes nothing.
 use Prim.Native.Nat.{ℕ, zero, suc, _+_, _*_}
-use mathlib.Core.Path.{_≡_, refl, ap, ap₂, _∙_}
+use mathlib.Core.Path.{_≡_, refl, sym, ap, ap₂, _∙_}
+use mathlib.Core.Bool.{true≢false}
 use mathlib.Core.List.{List, [], _∷_}
 use mathlib.Core.Option.{none}
 use native.Mathlib.Omega.{arith}
@@ -14,7 +15,9 @@ use Rattle.model.specs.Reference.{Slot, heldFlows, opened}
 use Rattle.model.specs.Laws.Reached.{opened-rules, rules-state, none-held}
 use Rattle.queue_table.specs.declared.Verdict.{Verdict}
 use Rattle.queue_table.specs.View.{tableOf, TableFilled, hopAt}
-use Rattle.flow_store.specs.View.{slotNumbers, slotsOf, slotsFrom, slotOf, countAt, countsFrom}
+use Rattle.bit_words.specs.Laws.{none-set}
+use Rattle.flow_store.specs.View.{slotWords, slotNumbers, slotsOf, slotsFrom, slotOf, countsFrom}
+use Rattle.flow_store.proofs.ViewLaws.{count-free}
 use Rattle.figures.specs.View.{sumNumbers, figureAt}
 use Rattle.admission.specs.View.{stateOf, Kept}
 
@@ -23,42 +26,43 @@ zeros zero j = refl
 zeros (suc m) zero = refl
 zeros (suc m) (suc j) = zeros m j
 
-free-count : (m i : ℕ) → countAt (replicate m 0) i ≡ 0
-unfolding countAt
-free-count m i = zeros m (5 * slotCount + i)
-
-free-slots : (m n i : ℕ) (pool : List ℕ) → slotsFrom n i (replicate m 0) pool ≡ replicate n none
+free-slots : (w n i : ℕ) (slots pool : List ℕ) → slotsFrom n i (replicate w 0) slots pool ≡ replicate n none
 unfolding slotsFrom slotOf
-free-slots m zero i pool = refl
-free-slots m (suc n) i pool = rw (free-count m i) (ap₂ (λ (x : Slot) (l : List Slot). x ∷ l) refl (free-slots m n (suc i) pool))
+free-slots w zero i slots pool = refl
+free-slots w (suc n) i slots pool =
+    rw (none-set w i, count-free (replicate w 0) slots i (none-set w i)) (ap₂ (λ (x : Slot) (l : List Slot). x ∷ l) refl (free-slots w n (suc i) slots pool))
 
-free-counts : (m n i : ℕ) → countsFrom n i (replicate m 0) ≡ 0
+free-counts : (w n i : ℕ) (slots : List ℕ) → countsFrom n i (replicate w 0) slots ≡ 0
 unfolding countsFrom
-free-counts m zero i = refl
-free-counts m (suc n) i = rw (free-count m i) (omega (arith, free-counts m n (suc i)))
+free-counts w zero i slots = refl
+free-counts w (suc n) i slots = rw (count-free (replicate w 0) slots i (none-set w i)) (omega (arith, free-counts w n (suc i) slots))
 
 no-figures : (m : ℕ) (t : Table) (e : ℕ) → figureAt (replicate m 0) e ≡ lookup.aggregateAt t [] (hopAt e)
 unfolding figureAt lookup.sharesAt lookup.aggregateAt lookup.allShares total largest
 no-figures m t e = λ i. record { rate = zeros m (3 * e) i; burst = zeros m (3 * e + 1) i; frame = zeros m (3 * e + 2) i }
 
 module _ (text table : List ℕ) (v : Verdict) (filled : TableFilled text v table)
-    (slots pool sums : ℕ) (slots-are : slots ≡ slotNumbers) (pool-is : pool ≡ hopEntries) (sums-are : sums ≡ sumNumbers) where
-  pub empty : stateOf table (replicate slots 0) (replicate pool 0) ≡ opened text
+    (bits slots pool sums : ℕ) (bits-are : bits ≡ slotWords) (slots-are : slots ≡ slotNumbers) (pool-is : pool ≡ hopEntries) (sums-are : sums ≡ sumNumbers) where
+  pub empty : stateOf table (replicate bits 0) (replicate slots 0) (replicate pool 0) ≡ opened text
   unfolding opened slotsOf
-  empty = λ i. record { table = filled .held i; slots = free-slots slots slotCount 0 (replicate pool 0) i }
+  empty = λ i. record { table = filled .held i; slots = free-slots bits slotCount 0 (replicate slots 0) (replicate pool 0) i }
 
-  no-flows : heldFlows (slotsOf (replicate slots 0) (replicate pool 0)) ≡ []
+  no-flows : heldFlows (slotsOf (replicate bits 0) (replicate slots 0) (replicate pool 0)) ≡ []
   unfolding slotsOf
-  no-flows = ap heldFlows (free-slots slots slotCount 0 (replicate pool 0)) ∙ none-held slotCount
+  no-flows = ap heldFlows (free-slots bits slotCount 0 (replicate slots 0) (replicate pool 0)) ∙ none-held slotCount
 
-  pub empty-kept : Kept table (replicate slots 0) (replicate pool 0) (replicate sums 0)
+  pub empty-kept : Kept table (replicate bits 0) (replicate slots 0) (replicate pool 0) (replicate sums 0)
   empty-kept =
       record {
         formed = filled .kept;
         store = record {
+          bits-long = length-replicate bits 0 ∙ bits-are;
           slots-long = length-replicate slots 0 ∙ slots-are;
           pool-long = length-replicate pool 0 ∙ pool-is;
-          fits = omega (arith, free-counts slots slotCount 0);
+          packed = record {
+            fits = omega (arith, free-counts bits slotCount 0 (replicate slots 0));
+            starts = λ i lt set. absurd (true≢false (sym set ∙ none-set bits i));
+          };
         };
         is-consistent = rw empty (rules-state (opened text) (opened-rules text));
         figures = record {

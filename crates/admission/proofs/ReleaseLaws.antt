@@ -1,6 +1,6 @@
 -- A release: the flow in a held slot was counted in at its queues, and the registry without it is consistent again.
 -- Assumes nothing.
-use Prim.Native.Nat.{ℕ, zero, suc, _+_, _≤_, _<_, max}
+use Prim.Native.Nat.{ℕ, suc, _+_, _≤_, _<_, max}
 use mathlib.Core.Path.{_≡_, refl, sym, ap, subst, _∙_}
 use mathlib.Core.Bool.{Bool, true, false, cond, false≢true}
 use mathlib.Core.List.{List, [], _∷_}
@@ -10,7 +10,7 @@ use lib.ListN.{length, getD, set}
 use lib.Dec.{leb}
 use borrow.Author.Tests.{leb-true, leb-false, lt-ltb, le-ltb, eq-eqb, ne-eqb}
 use Rattle.model.specs.Words.{All, firstIndex}
-use Rattle.model.specs.Sizes.{queuesMost, slotCount}
+use Rattle.model.specs.Sizes.{queuesMost, hopsMost, slotCount}
 use Rattle.model.specs.Formula.{Aggregate}
 use Rattle.model.specs.QueueTable.{Table}
 use Rattle.model.specs.Orders.{Flow, release}
@@ -22,15 +22,16 @@ use Rattle.model.specs.Laws.Aggregates.{aggregate-perm}
 use Rattle.model.specs.Laws.Slot.{index-found, number-index, held-perm}
 use Rattle.model.specs.Laws.Reached.{StateRules, state-rules, rules-state, clear-keeps}
 use Rattle.queue_table.specs.View.{tableOf, hopAt}
-use Rattle.flow_store.specs.View.{Store, slotsOf, slotOf, rateAt, shareAt, flowAt, countAt, entriesIn, flowIn}
-use Rattle.flow_store.proofs.ViewLaws.{length-slots, slot-at}
+use Rattle.bit_words.specs.View.{isSet}
+use Rattle.flow_store.specs.View.{Store, slotsOf, slotOf, hopsAt, rateAt, shareAt, flowAt, entriesIn, flowIn}
+use Rattle.flow_store.proofs.ViewLaws.{length-slots, slot-at, held-slot, count-held}
 use Rattle.figures.specs.View.{Figures, FlowOf, PathCounted, Carried, Near, PathRemoved, figureAt, raised}
 use Rattle.queue_table.proofs.EntryLaws.{queue-low}
 use Rattle.recount.specs.View.{Ranged, OnQueues, FramesRaised}
 use Rattle.admission.specs.declared.Answer.the-variants.{Done}
 use Rattle.admission.specs.View.{stateOf, answerOf, Kept, Stepped}
 use Rattle.admission.proofs.KeptLaws.{ranges, filled}
-use Rattle.admission.proofs.HeldLaws.{slot-held, by-itself, on-queues, countable, kept-alone}
+use Rattle.admission.proofs.HeldLaws.{by-itself, on-queues, countable, kept-alone}
 
 -- A queue's figures that only lack their largest frame, once that is raised.
 raised-right : {sure : Type 0} (a b : Aggregate) → Near sure a b → raised a (b .frame) ≡ b
@@ -43,36 +44,39 @@ raised-right a b l = λ i. record { rate = l .rate i; burst = l .burst i; frame 
 left-right : {sure : Type 0} (a b : Aggregate) → sure → Near sure a b → a ≡ b
 left-right a b s l = λ i. record { rate = l .rate i; burst = l .burst i; frame = l .frame s i }
 
-module _ (table slots pool sums : List ℕ) (k : Kept table slots pool sums) where
+module _ (table bits slots pool sums : List ℕ) (k : Kept table bits slots pool sums) where
   abbrev t : Table
   t = tableOf table
 
-  rules : StateRules (stateOf table slots pool)
-  rules = state-rules (stateOf table slots pool) (k .is-consistent)
+  rules : StateRules (stateOf table bits slots pool)
+  rules = state-rules (stateOf table bits slots pool) (k .is-consistent)
 
-  pub on : OnQueues table slots pool
-  on = on-queues table slots pool (k .formed) (k .store) (rules .table) (kept-alone (stateOf table slots pool) rules)
+  pub on : OnQueues table bits slots pool
+  on = on-queues table bits slots pool (k .formed) (k .store) (rules .table) (kept-alone (stateOf table bits slots pool) rules)
 
-  module _ (slot : ℕ) (inside : slot < slotCount) (held : 1 ≤ countAt slots slot) where
+  module _ (slot : ℕ) (inside : slot < slotCount) (held : isSet bits slot ≡ true) where
     abbrev entries : List ℕ
-    entries = entriesIn slots pool slot
+    entries = entriesIn bits slots pool slot
 
     abbrev flow : Flow
-    flow = flowIn slots pool slot
+    flow = flowIn bits slots pool slot
 
     abbrev left : List Flow
-    left = heldFlows (set (slotsOf slots pool) slot none)
+    left = heldFlows (set (slotsOf bits slots pool) slot none)
 
-    pub found : getD (slotsOf slots pool) slot none ≡ some flow
-    found = slot-at slots slot pool inside ∙ slot-held (countAt slots slot) flow held
+    pub found : getD (slotsOf bits slots pool) slot none ≡ some flow
+    found = held-slot bits slots slot pool inside held
 
-    pub ranged : Ranged table slots pool slot
-    ranged = countable table slots pool (k .formed) (k .store) (rules .table) (kept-alone (stateOf table slots pool) rules) .each slot inside held
+    pub ranged : Ranged table bits slots pool slot
+    ranged = countable table bits slots pool (k .formed) (k .store) (rules .table) (kept-alone (stateOf table bits slots pool) rules) .each slot inside held
+
+    pub few : hopsAt slots slot ≤ hopsMost
+    few = omega (arith, ranged .few, count-held bits slots slot held)
 
     some-rate : 1 ≤ rateAt slots slot
     unfolding flowAt
     some-rate =
-        ranges flow (by-itself table slots pool (k .formed) (k .store) (rules .table) (kept-alone (stateOf table slots pool) rules) slot inside held .0) .some-rate
+        ranges flow (by-itself table bits slots pool (k .formed) (k .store) (rules .table) (kept-alone (stateOf table bits slots pool) rules) slot inside held .0) .some-rate
 
     pub is : FlowOf (shareAt slots slot) entries flow
     unfolding flowAt
@@ -82,7 +86,7 @@ module _ (table slots pool sums : List ℕ) (k : Kept table slots pool sums) whe
     with-flow =
         record {
           long = k .figures .long;
-          same = λ e lt. k .figures .same e lt ∙ aggregate-perm t (held-perm (slotsOf slots pool) slot found) (hopAt e);
+          same = λ e lt. k .figures .same e lt ∙ aggregate-perm t (held-perm (slotsOf bits slots pool) slot found) (hopAt e);
         }
 
     pub counted : PathCounted (shareAt slots slot) table entries sums
@@ -90,45 +94,45 @@ module _ (table slots pool sums : List ℕ) (k : Kept table slots pool sums) whe
         record { f = flow; fs = left; named = on slot inside; is = is; figures = with-flow }
 
     -- The slot is empty.
-    module _ {slots′ pool′ : List ℕ} (view : slotsOf slots′ pool′ ≡ set (slotsOf slots pool) slot none) (store : Store slots′ pool′) where
-      rules′ : StateRules (stateOf table slots′ pool′)
+    module _ {bits′ slots′ pool′ : List ℕ} (view : slotsOf bits′ slots′ pool′ ≡ set (slotsOf bits slots pool) slot none) (store : Store bits′ slots′ pool′) where
+      rules′ : StateRules (stateOf table bits′ slots′ pool′)
       unfolding fill
       rules′ =
           subst (λ (l : List Slot). StateRules (record { table = t; slots = l })) (sym view)
-          (clear-keeps (stateOf table slots pool) slot rules)
+          (clear-keeps (stateOf table bits slots pool) slot rules)
 
       carries : Carried t left
       carries =
           carried t left
           (subst (λ (l : List Slot). All (λ f. 1 ≤ f .rate) (heldFlows l)) view
-          (all-imp (heldFlows (slotsOf slots′ pool′)) (λ f r. ranges f (r .range) .some-rate) (rules′ .flows .flows)))
+          (all-imp (heldFlows (slotsOf bits′ slots′ pool′)) (λ f r. ranges f (r .range) .some-rate) (rules′ .flows .flows)))
 
-      kept-again : {sums′ : List ℕ} → Figures t left sums′ → Kept table slots′ pool′ sums′
+      kept-again : {sums′ : List ℕ} → Figures t left sums′ → Kept table bits′ slots′ pool′ sums′
       kept-again {sums′} figures =
           record {
             formed = k .formed;
             store = store;
-            is-consistent = rules-state (stateOf table slots′ pool′) rules′;
+            is-consistent = rules-state (stateOf table bits′ slots′ pool′) rules′;
             figures = subst (λ (l : List Slot). Figures t (heldFlows l) sums′) (sym view) figures;
           }
 
-      pub entries-low-left : (i : ℕ) → i < slotCount → All (λ e. e < queuesMost) (entriesIn slots′ pool′ i)
+      pub entries-low-left : (i : ℕ) → i < slotCount → All (λ e. e < queuesMost) (entriesIn bits′ slots′ pool′ i)
       entries-low-left i lt =
-          all-imp (entriesIn slots′ pool′ i) (λ e q. queue-low table e q (k .formed .few))
-          (on-queues table slots′ pool′ (k .formed) store (rules′ .table) (kept-alone (stateOf table slots′ pool′) rules′) i lt)
+          all-imp (entriesIn bits′ slots′ pool′ i) (λ e q. queue-low table e q (k .formed .few))
+          (on-queues table bits′ slots′ pool′ (k .formed) store (rules′ .table) (kept-alone (stateOf table bits′ slots′ pool′) rules′) i lt)
 
       module _ {again : Bool} {sums′ : List ℕ} (removed : PathRemoved (shareAt slots slot) table entries sums sums′ again) where
         at-queue : (e : ℕ) → e < queuesMost → Near (again ≡ false) (figureAt sums′ e) (aggregateAt t left (hopAt e))
         at-queue = removed .left flow left (on slot inside) is with-flow some-rate carries
 
-        pub kept-left : again ≡ false → Kept table slots′ pool′ sums′
+        pub kept-left : again ≡ false → Kept table bits′ slots′ pool′ sums′
         kept-left known =
             kept-again (record {
               long = removed .long;
               same = λ e lt. left-right _ _ known (at-queue e lt);
             })
 
-        pub kept-raised : {sums″ : List ℕ} → FramesRaised slots′ pool′ sums′ sums″ → Kept table slots′ pool′ sums″
+        pub kept-raised : {sums″ : List ℕ} → FramesRaised bits′ slots′ pool′ sums′ sums″ → Kept table bits′ slots′ pool′ sums″
         kept-raised raise =
             kept-again (record {
               long = raise .long;
@@ -148,49 +152,49 @@ module _ (number : ℕ) where
       go true h = omega arith
       go false h = omega arith
 
-  held-count : (count : ℕ) (f : Flow) → holds number (slotOf count f) ≡ true → 1 ≤ count
+  held-bit : (b : Bool) (f : Flow) → holds number (slotOf b f) ≡ true → b ≡ true
   unfolding slotOf holds
-  held-count zero f e = absurd (false≢true e)
-  held-count (suc count) f e = omega arith
+  held-bit true f e = refl
+  held-bit false f e = absurd (false≢true e)
 
-  module _ (slots pool : List ℕ) (slot : ℕ) (found : slot ≡ firstIndex (holds number) (slotsOf slots pool)) where
+  module _ (bits slots pool : List ℕ) (slot : ℕ) (found : slot ≡ firstIndex (holds number) (slotsOf bits slots pool)) where
     -- 13: no slot holds the number.
     pub not-held : (t : Table) → slot ≡ slotCount
-        → firstCause (findings (record { table = t; slots = slotsOf slots pool }) (release number)) ≡ some (record { code = 13; link = 0; level = 0 })
+        → firstCause (findings (record { table = t; slots = slotsOf bits slots pool }) (release number)) ≡ some (record { code = 13; link = 0; level = 0 })
     unfolding findings firstCause whole
     not-held t none-holds =
-        let none-held : leb 1 (withNumber number (heldFlows (slotsOf slots pool))) ≡ false
-        = number-index number (slotsOf slots pool) ∙ le-ltb (firstIndex (holds number) (slotsOf slots pool)) (length (slotsOf slots pool)) (omega (arith, found, length-slots slots pool)) in
-        let zero-held : withNumber number (heldFlows (slotsOf slots pool)) ≡ 0 = omega (arith, leb-false 1 (withNumber number (heldFlows (slotsOf slots pool))) none-held) in
-        rw (eq-eqb (withNumber number (heldFlows (slotsOf slots pool))) 0 zero-held)
+        let none-held : leb 1 (withNumber number (heldFlows (slotsOf bits slots pool))) ≡ false
+        = number-index number (slotsOf bits slots pool) ∙ le-ltb (firstIndex (holds number) (slotsOf bits slots pool)) (length (slotsOf bits slots pool)) (omega (arith, found, length-slots bits slots pool)) in
+        let zero-held : withNumber number (heldFlows (slotsOf bits slots pool)) ≡ 0 = omega (arith, leb-false 1 (withNumber number (heldFlows (slotsOf bits slots pool))) none-held) in
+        rw (eq-eqb (withNumber number (heldFlows (slotsOf bits slots pool))) 0 zero-held)
 
     module _ (known : slot ≡ slotCount → ⊥) where
       pub slot-inside : slot < slotCount
-      slot-inside = omega (arith, found, index-most (slotsOf slots pool), length-slots slots pool, known)
+      slot-inside = omega (arith, found, index-most (slotsOf bits slots pool), length-slots bits slots pool, known)
 
-      pub slot-count : 1 ≤ countAt slots slot
-      slot-count =
-          held-count (countAt slots slot) _
-          (ap (holds number) (sym (slot-at slots slot pool slot-inside))
-          ∙ ap (λ (i : ℕ). holds number (getD (slotsOf slots pool) i none)) found
-          ∙ index-found (holds number) none (slotsOf slots pool) (omega (arith, sym found, slot-inside, length-slots slots pool)))
+      pub slot-set : isSet bits slot ≡ true
+      slot-set =
+          held-bit (isSet bits slot) _
+          (ap (holds number) (sym (slot-at bits slots slot pool slot-inside))
+          ∙ ap (λ (i : ℕ). holds number (getD (slotsOf bits slots pool) i none)) found
+          ∙ index-found (holds number) none (slotsOf bits slots pool) (omega (arith, sym found, slot-inside, length-slots bits slots pool)))
 
-      nothing : (t : Table) → firstCause (findings (record { table = t; slots = slotsOf slots pool }) (release number)) ≡ none
+      nothing : (t : Table) → firstCause (findings (record { table = t; slots = slotsOf bits slots pool }) (release number)) ≡ none
       unfolding findings firstCause whole
       nothing t =
-          let some-held : leb 1 (withNumber number (heldFlows (slotsOf slots pool))) ≡ true
-          = number-index number (slotsOf slots pool) ∙ lt-ltb (firstIndex (holds number) (slotsOf slots pool)) (length (slotsOf slots pool)) (omega (arith, sym found, slot-inside, length-slots slots pool)) in
-          rw (ne-eqb (withNumber number (heldFlows (slotsOf slots pool))) 0 (λ z. omega (arith, leb-true 1 (withNumber number (heldFlows (slotsOf slots pool))) some-held)))
+          let some-held : leb 1 (withNumber number (heldFlows (slotsOf bits slots pool))) ≡ true
+          = number-index number (slotsOf bits slots pool) ∙ lt-ltb (firstIndex (holds number) (slotsOf bits slots pool)) (length (slotsOf bits slots pool)) (omega (arith, sym found, slot-inside, length-slots bits slots pool)) in
+          rw (ne-eqb (withNumber number (heldFlows (slotsOf bits slots pool))) 0 (λ z. omega (arith, leb-true 1 (withNumber number (heldFlows (slotsOf bits slots pool))) some-held)))
 
       -- The slot of the flow with the number is empty, and that slot is answered.
-      pub stepped-released : {table slots′ pool′ sums′ : List ℕ} → slotsOf slots′ pool′ ≡ set (slotsOf slots pool) slot none → Kept table slots′ pool′ sums′
-          → Stepped (release number) table slots pool slots′ pool′ sums′ (Done (slot + 1))
+      pub stepped-released : {table bits′ slots′ pool′ sums′ : List ℕ} → slotsOf bits′ slots′ pool′ ≡ set (slotsOf bits slots pool) slot none → Kept table bits′ slots′ pool′ sums′
+          → Stepped (release number) table bits slots pool bits′ slots′ pool′ sums′ (Done (slot + 1))
       unfolding apply decide perform fill
       stepped-released {table} view kept =
-          let s : State = stateOf table slots pool in
-          let done : apply s (release number) ≡ fill s (firstIndex (holds number) (slotsOf slots pool)) none = ap (decide s (release number)) (nothing (tableOf table)) in
+          let s : State = stateOf table bits slots pool in
+          let done : apply s (release number) ≡ fill s (firstIndex (holds number) (slotsOf bits slots pool)) none = ap (decide s (release number)) (nothing (tableOf table)) in
           record {
-            answer = ap (λ (i : ℕ). answerOf (Done (i + 1))) found ∙ filled s (firstIndex (holds number) (slotsOf slots pool)) none ∙ sym (ap (λ (out : Outcome). out .answer) done);
-            next = ap (λ (l : List Slot). record { table = tableOf table; slots = l }) (view ∙ ap (λ (i : ℕ). set (slotsOf slots pool) i none) found) ∙ sym (ap (λ (out : Outcome). out .next) done);
+            answer = ap (λ (i : ℕ). answerOf (Done (i + 1))) found ∙ filled s (firstIndex (holds number) (slotsOf bits slots pool)) none ∙ sym (ap (λ (out : Outcome). out .answer) done);
+            next = ap (λ (l : List Slot). record { table = tableOf table; slots = l }) (view ∙ ap (λ (i : ℕ). set (slotsOf bits slots pool) i none) found) ∙ sym (ap (λ (out : Outcome). out .next) done);
             kept = kept;
           }

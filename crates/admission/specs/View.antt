@@ -20,8 +20,8 @@ use Rattle.admission.specs.declared.Answer.{Answer}
 use Rattle.admission.specs.declared.Answer.the-variants.{Done, Refused}
 
 -- The state that the arrays hold: the table's links, and a flow or none at each slot.
-abbrev pub stateOf : (table slots pool : List ℕ) → model.State
-stateOf table slots pool = record { table = tableOf table; slots = slotsOf slots pool }
+abbrev pub stateOf : (table bits slots pool : List ℕ) → model.State
+stateOf table bits slots pool = record { table = tableOf table; slots = slotsOf bits slots pool }
 
 -- A refusal as an answer line has it.
 abbrev pub refusalOf : model.Cause → model.Answer
@@ -47,14 +47,14 @@ OrderRead Malformed hops = Unit {0}
 OrderRead OutOfRange hops = Unit {0}
 
 -- A consistent registry, whose figures are those of its flows.
-pub record Kept (table slots pool sums : List ℕ) : Type 0 where
+pub record Kept (table bits slots pool sums : List ℕ) : Type 0 where
   pub formed : WellFormed table
-  pub store : Store slots pool
-  pub is-consistent : consistent (stateOf table slots pool) ≡ true
-  pub figures : Figures (tableOf table) (model.heldFlows (slotsOf slots pool)) sums
+  pub store : Store bits slots pool
+  pub is-consistent : consistent (stateOf table bits slots pool) ≡ true
+  pub figures : Figures (tableOf table) (model.heldFlows (slotsOf bits slots pool)) sums
 
 -- The order was done as the reference model does it, and the registry is consistent after it. Free: the other numbers of free slots, unused hop entries.
-pub record Stepped (o : model-orders.Order) (table slots pool slots′ pool′ sums′ : List ℕ) (r : Answer) : Type 0 where
-  pub answer : answerOf r ≡ model.apply (stateOf table slots pool) o .answer
-  pub next : stateOf table slots′ pool′ ≡ model.apply (stateOf table slots pool) o .next
-  pub kept : Kept table slots′ pool′ sums′
+pub record Stepped (o : model-orders.Order) (table bits slots pool bits′ slots′ pool′ sums′ : List ℕ) (r : Answer) : Type 0 where
+  pub answer : answerOf r ≡ model.apply (stateOf table bits slots pool) o .answer
+  pub next : stateOf table bits′ slots′ pool′ ≡ model.apply (stateOf table bits slots pool) o .next
+  pub kept : Kept table bits′ slots′ pool′ sums′

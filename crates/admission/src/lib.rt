@@ -1,21 +1,18 @@
 // What an order does to a consistent registry, in place on its arrays: a registration, a release, a change, or 10 and 11. Its cost doesn't
 // depend on the calls before.
 //
-// The arrays are those of `queue_table` (table), `flow_store` (slots, pool) and `figures` (sums).
+// The arrays are those of `queue_table` (table), `flow_store` (bits, slots, pool) and `figures` (sums).
 ghost use mathlib.Core.Path.{_≡_};
 ghost use mathlib.Core.Bool.{true};
-ghost use mathlib.Core.List.{map};
-ghost use mathlib.Core.Option.{none, some};
-ghost use Prim.Native.Nat.{_^_, _≤_, _<_};
-ghost use lib.ListN.{length, set};
+ghost use mathlib.Core.Option.{none};
+ghost use Prim.Native.Nat.{_<_};
+ghost use lib.ListN.{set};
 ghost use Rattle.model.specs.Sizes.{slotCount};
-ghost use Rattle.model.specs.Orders.{register, release, change, changeInRange, flowOf};
+ghost use Rattle.model.specs.Orders.{register, release, change, changeInRange};
 ghost use Rattle.model.specs.Reference.{indexOf};
-ghost use Rattle.units.specs.View.{aggregateOf};
-ghost use Rattle.orders.specs.View.{changeOf, fieldsOf, lineFlow, orderWith};
-ghost use Rattle.queue_table.specs.View.{hopAt};
-ghost use Rattle.flow_store.specs.View.{Store, slotsOf, countAt, Insertable};
-ghost use Rattle.figures.specs.View.{sumNumbers, Hops, Below, PathAdded};
+ghost use Rattle.orders.specs.View.{changeOf, lineFlow, orderWith};
+ghost use Rattle.bit_words.specs.View.{isSet};
+ghost use Rattle.flow_store.specs.View.{slotsOf};
 ghost use Rattle.admission.specs.View.{LineRead, OrderRead, Kept, Stepped};
 use causes::Cause;
 use causes::Finding;
@@ -32,48 +29,28 @@ pub enum Answer {
     Refused(Cause),
 }
 
-// Puts a flow with its path in a free slot and counts it in at each queue.
-fn put_in(
-    slot: usize,
-    flow: Flow,
-    entries: &[u32],
-    table: &[u32],
-    slots: &mut [u32],
-    pool: &mut [u32],
-    sums: &mut [u64],
-)
-    requires { ⌜ Insertable slot flow (now entries) (now slots) (now pool) × Hops (now table) (now entries) ⌝ }
-    requires { ⌜ (length (now sums) ≡ sumNumbers) × Below (2 ^ 62) (now sums) ⌝ }
-    ensures { λ _. ⌜ slotsOf (now (slots .exit)) (now (pool .exit)) ≡ set (slotsOf (now (slots .entry)) (now (pool .entry))) slot (some (flowOf (fieldsOf flow) (map hopAt (now (entries .entry))))) ⌝ }
-    ensures { λ _. ⌜ Store (now (slots .exit)) (now (pool .exit)) ⌝ }
-    ensures { λ _. ⌜ PathAdded (aggregateOf (flow .share)) (now (table .entry)) (now (entries .entry)) (now (sums .entry)) (now (sums .exit)) ⌝ }
-{
-    let share = flow.share;
-    flow_store::insert(slot, flow, entries, slots, pool);
-    figures::add_path(share, table, entries, sums);
-}
-
 // Registers the flow of an order line.
 fn register_flow(
     flow: Flow,
     hops: &[u32],
     table: &[u32],
+    bits: &mut [u64],
     slots: &mut [u32],
     pool: &mut [u32],
     sums: &mut [u64],
 ) -> Answer
     requires { ⌜ LineRead flow (now hops) ⌝ }
-    requires { ⌜ Kept (now table) (now slots) (now pool) (now sums) ⌝ }
-    ensures { λ r. ⌜ Stepped (register (lineFlow flow (now (hops .entry)))) (now (table .entry)) (now (slots .entry)) (now (pool .entry)) (now (slots .exit)) (now (pool .exit)) (now (sums .exit)) r ⌝ }
+    requires { ⌜ Kept (now table) (now bits) (now slots) (now pool) (now sums) ⌝ }
+    ensures { λ r. ⌜ Stepped (register (lineFlow flow (now (hops .entry)))) (now (table .entry)) (now (bits .entry)) (now (slots .entry)) (now (pool .entry)) (now (bits .exit)) (now (slots .exit)) (now (pool .exit)) (now (sums .exit)) r ⌝ }
 {
     let count = flow.hops as usize;
-    let judged = flow_check::judge_flow(flow, hops, table, &slots[..]);
+    let judged = flow_check::judge_flow(flow, hops, table, &bits[..], &slots[..]);
     let against = judged.finding;
     let entries = judged.entries;
     if let Finding::Against(cause) = against {
         return Answer::Refused(cause);
     }
-    let room = flow_check::judge_room(flow.hops, &slots[..]);
+    let room = flow_check::judge_room(flow.hops, &bits[..], &slots[..]);
     let lack = room.finding;
     let slot = room.slot;
     if let Finding::Against(cause) = lack {
@@ -84,23 +61,32 @@ fn register_flow(
     if let Finding::Against(cause) = found {
         return Answer::Refused(cause);
     }
-    put_in(slot, flow, path, table, slots, pool, sums);
+    let share = flow.share;
+    flow_store::insert(slot, flow, path, bits, slots, pool);
+    figures::add_path(share, table, path, sums);
     Answer::Done(slot as u32 + 1)
 }
 
 // Empties a held slot and takes its flow out at each queue.
-fn take_out(slot: usize, table: &[u32], slots: &mut [u32], pool: &mut [u32], sums: &mut [u64])
-    requires { ⌜ Kept (now table) (now slots) (now pool) (now sums) ⌝ }
-    requires { ⌜ (slot < slotCount) × (1 ≤ countAt (now slots) slot) ⌝ }
-    ensures { λ _. ⌜ slotsOf (now (slots .exit)) (now (pool .exit)) ≡ set (slotsOf (now (slots .entry)) (now (pool .entry))) slot none ⌝ }
-    ensures { λ _. ⌜ Kept (now (table .entry)) (now (slots .exit)) (now (pool .exit)) (now (sums .exit)) ⌝ }
+fn take_out(
+    slot: usize,
+    table: &[u32],
+    bits: &mut [u64],
+    slots: &mut [u32],
+    pool: &mut [u32],
+    sums: &mut [u64],
+)
+    requires { ⌜ Kept (now table) (now bits) (now slots) (now pool) (now sums) ⌝ }
+    requires { ⌜ (slot < slotCount) × (isSet (now bits) slot ≡ true) ⌝ }
+    ensures { λ _. ⌜ slotsOf (now (bits .exit)) (now (slots .exit)) (now (pool .exit)) ≡ set (slotsOf (now (bits .entry)) (now (slots .entry)) (now (pool .entry))) slot none ⌝ }
+    ensures { λ _. ⌜ Kept (now (table .entry)) (now (bits .exit)) (now (slots .exit)) (now (pool .exit)) (now (sums .exit)) ⌝ }
 {
     let flow = flow_store::flow_at(slot, &slots[..]);
     let mut entries = [0u32; orders::MOST_HOPS];
     let hops = flow_store::path_into(slot, &slots[..], &pool[..], &mut entries);
-    flow_store::remove(slot, slots, pool);
+    flow_store::remove(slot, bits, slots, pool);
     if figures::remove_path(flow.share, table, &entries[..hops], sums) {
-        recount::raise_frames(&slots[..], &pool[..], sums);
+        recount::raise_frames(&bits[..], &slots[..], &pool[..], sums);
     }
 }
 
@@ -108,18 +94,19 @@ fn take_out(slot: usize, table: &[u32], slots: &mut [u32], pool: &mut [u32], sum
 fn release_flow(
     number: u32,
     table: &[u32],
+    bits: &mut [u64],
     slots: &mut [u32],
     pool: &mut [u32],
     sums: &mut [u64],
 ) -> Answer
-    requires { ⌜ Kept (now table) (now slots) (now pool) (now sums) ⌝ }
-    ensures { λ r. ⌜ Stepped (release number) (now (table .entry)) (now (slots .entry)) (now (pool .entry)) (now (slots .exit)) (now (pool .exit)) (now (sums .exit)) r ⌝ }
+    requires { ⌜ Kept (now table) (now bits) (now slots) (now pool) (now sums) ⌝ }
+    ensures { λ r. ⌜ Stepped (release number) (now (table .entry)) (now (bits .entry)) (now (slots .entry)) (now (pool .entry)) (now (bits .exit)) (now (slots .exit)) (now (pool .exit)) (now (sums .exit)) r ⌝ }
 {
-    let held = flow_store::find(number, &slots[..]);
+    let held = flow_store::find(number, &bits[..], &slots[..]);
     if held == SLOTS {
         return Answer::Refused(Cause::NumberNotHeld);
     }
-    take_out(held, table, slots, pool, sums);
+    take_out(held, table, bits, slots, pool, sums);
     Answer::Done(held as u32 + 1)
 }
 
@@ -128,14 +115,15 @@ fn change_held(
     held: usize,
     given: Change,
     table: &[u32],
+    bits: &[u64],
     slots: &mut [u32],
     pool: &[u32],
     sums: &mut [u64],
 ) -> Answer
-    requires { ⌜ Kept (now table) (now slots) (now pool) (now sums) ⌝ }
-    requires { ⌜ (held ≡ indexOf (given .number) (slotsOf (now slots) (now pool))) × (held < slotCount) ⌝ }
+    requires { ⌜ Kept (now table) (now bits) (now slots) (now pool) (now sums) ⌝ }
+    requires { ⌜ (held ≡ indexOf (given .number) (slotsOf (now bits) (now slots) (now pool))) × (held < slotCount) ⌝ }
     requires { ⌜ changeInRange (changeOf given) ≡ true ⌝ }
-    ensures { λ r. ⌜ Stepped (change (changeOf given)) (now (table .entry)) (now (slots .entry)) (now (pool .entry)) (now (slots .exit)) (now (pool .entry)) (now (sums .exit)) r ⌝ }
+    ensures { λ r. ⌜ Stepped (change (changeOf given)) (now (table .entry)) (now (bits .entry)) (now (slots .entry)) (now (pool .entry)) (now (bits .entry)) (now (slots .exit)) (now (pool .entry)) (now (sums .exit)) r ⌝ }
 {
     let flow = flow_store::flow_at(held, &slots[..]);
     let was = flow.share;
@@ -162,19 +150,20 @@ fn change_held(
 fn change_flow(
     given: Change,
     table: &[u32],
+    bits: &[u64],
     slots: &mut [u32],
     pool: &[u32],
     sums: &mut [u64],
 ) -> Answer
-    requires { ⌜ Kept (now table) (now slots) (now pool) (now sums) ⌝ }
+    requires { ⌜ Kept (now table) (now bits) (now slots) (now pool) (now sums) ⌝ }
     requires { ⌜ changeInRange (changeOf given) ≡ true ⌝ }
-    ensures { λ r. ⌜ Stepped (change (changeOf given)) (now (table .entry)) (now (slots .entry)) (now (pool .entry)) (now (slots .exit)) (now (pool .entry)) (now (sums .exit)) r ⌝ }
+    ensures { λ r. ⌜ Stepped (change (changeOf given)) (now (table .entry)) (now (bits .entry)) (now (slots .entry)) (now (pool .entry)) (now (bits .entry)) (now (slots .exit)) (now (pool .entry)) (now (sums .exit)) r ⌝ }
 {
-    let held = flow_store::find(given.number, &slots[..]);
+    let held = flow_store::find(given.number, bits, &slots[..]);
     if held == SLOTS {
         return Answer::Refused(Cause::NumberNotHeld);
     }
-    change_held(held, given, table, slots, pool, sums)
+    change_held(held, given, table, bits, slots, pool, sums)
 }
 
 // Carries out the order of a line.
@@ -182,18 +171,19 @@ pub fn perform(
     order: Order,
     hops: &[u32],
     table: &[u32],
+    bits: &mut [u64],
     slots: &mut [u32],
     pool: &mut [u32],
     sums: &mut [u64],
 ) -> Answer
     requires { ⌜ OrderRead order (now hops) ⌝ }
-    requires { ⌜ Kept (now table) (now slots) (now pool) (now sums) ⌝ }
-    ensures { λ r. ⌜ Stepped (orderWith order (now (hops .entry))) (now (table .entry)) (now (slots .entry)) (now (pool .entry)) (now (slots .exit)) (now (pool .exit)) (now (sums .exit)) r ⌝ }
+    requires { ⌜ Kept (now table) (now bits) (now slots) (now pool) (now sums) ⌝ }
+    ensures { λ r. ⌜ Stepped (orderWith order (now (hops .entry))) (now (table .entry)) (now (bits .entry)) (now (slots .entry)) (now (pool .entry)) (now (bits .exit)) (now (slots .exit)) (now (pool .exit)) (now (sums .exit)) r ⌝ }
 {
     match order {
-        Order::Register(flow) => register_flow(flow, hops, table, slots, pool, sums),
-        Order::Release(number) => release_flow(number, table, slots, pool, sums),
-        Order::Change(given) => change_flow(given, table, slots, &pool[..], sums),
+        Order::Register(flow) => register_flow(flow, hops, table, bits, slots, pool, sums),
+        Order::Release(number) => release_flow(number, table, bits, slots, pool, sums),
+        Order::Change(given) => change_flow(given, table, &bits[..], slots, &pool[..], sums),
         Order::Malformed => Answer::Refused(Cause::Malformed),
         Order::OutOfRange => Answer::Refused(Cause::OutOfRange),
     }

@@ -8,7 +8,7 @@ use Rattle.model.specs.Columns.{lines}
 use Rattle.model.specs.QueueTable.{accepted}
 use Rattle.model.specs.Batch as model
 use Rattle.queue_table.specs.View.{tableOf, faultCode}
-use Rattle.flow_store.specs.View.{slotNumbers}
+use Rattle.flow_store.specs.View.{slotWords, slotNumbers}
 use Rattle.figures.specs.View.{sumNumbers}
 use Rattle.admission.specs.View.{stateOf, answerOf, Kept}
 use Rattle.batch.specs.declared.Advance.{Advance}
@@ -17,6 +17,9 @@ use Rattle.batch.specs.declared.Refusal.{Refusal}
 use Rattle.batch.specs.declared.Refusal.the-variants.{Table, OrdersTooLong, AreaTooShort}
 
 -- The arrays of an empty registry.
+unfoldable pub noBits : List ℕ
+noBits = replicate slotWords 0
+
 unfoldable pub noFlows : List ℕ
 noFlows = replicate slotNumbers 0
 
@@ -27,12 +30,12 @@ unfoldable pub noSums : List ℕ
 noSums = replicate sumNumbers 0
 
 -- The line at `at` was answered, and the others go on from the registry left behind.
-pub record LineDone (orders : List ℕ) (at : ℕ) (table slots pool slots′ pool′ sums′ : List ℕ) (r : Advance) : Type 0 where
+pub record LineDone (orders : List ℕ) (at : ℕ) (table bits slots pool bits′ slots′ pool′ sums′ : List ℕ) (r : Advance) : Type 0 where
   pub same :
-      model.lineAnswers (stateOf table slots pool) (lines (drop at orders))
-      ≡ answerOf (r .answer) ∷ model.lineAnswers (stateOf table slots′ pool′) (lines (drop (r .next) orders))
+      model.lineAnswers (stateOf table bits slots pool) (lines (drop at orders))
+      ≡ answerOf (r .answer) ∷ model.lineAnswers (stateOf table bits′ slots′ pool′) (lines (drop (r .next) orders))
   pub counted : length (lines (drop at orders)) ≡ suc (length (lines (drop (r .next) orders)))
-  pub kept : Kept table slots′ pool′ sums′
+  pub kept : Kept table bits′ slots′ pool′ sums′
   pub on : at < r .next
   pub within : r .next ≤ length orders
 
@@ -42,8 +45,8 @@ pub record Answerable (orders area : List ℕ) : Type 0 where
   pub long : answerBytes * length (lines orders) ≤ length area
 
 -- The answers stand in the area, from the registry of these arrays on.
-abbrev pub Answered : (orders table slots pool area area′ : List ℕ) → Type 0
-Answered orders table slots pool area area′ = area′ ≡ model.doneBatch (stateOf table slots pool) (lines orders) area .area
+abbrev pub Answered : (orders table bits slots pool area area′ : List ℕ) → Type 0
+Answered orders table bits slots pool area area′ = area′ ≡ model.doneBatch (stateOf table bits slots pool) (lines orders) area .area
 
 abbrev pub resultOf : BatchResult → (area : List ℕ) → model.Batch
 resultOf r area = record { code = r .code; line = r .line; area = area }
@@ -57,7 +60,7 @@ refusedWith AreaTooShort area = model.refusedBatch 40 0 area
 -- The orders were judged and answered on an empty registry.
 abbrev pub OrdersDone : (table orders area area′ : List ℕ) → BatchResult → Type 0
 OrdersDone table orders area area′ r =
-    resultOf r area′ ≡ model.afterTable (accepted (tableOf table)) (stateOf table noFlows noHops) orders area
+    resultOf r area′ ≡ model.afterTable (accepted (tableOf table)) (stateOf table noBits noFlows noHops) orders area
 
 -- Code, line and every byte of the area are those of the model.
 abbrev pub Batched : (table orders area area′ : List ℕ) → BatchResult → Type 0

@@ -7,7 +7,7 @@ use mathlib.Core.List.{List, _∷_, map}
 use mathlib.Core.Option.{Option, none, some}
 use native.Mathlib.Omega.{arith}
 use borrow.Author.Tests.{eq-eqb, ne-eqb, le-leb, lt-leb, lt-ltb, le-ltb}
-use lib.ListN.{getD}
+use lib.ListN.{length, getD}
 use lib.Dec.{leb, ltb, eqb}
 use Rattle.model.specs.Words.{firstIndex, isNone}
 use Rattle.model.specs.Sizes.{hopsMost, slotCount}
@@ -20,8 +20,9 @@ use Rattle.model.specs.Reference.{Cause, Slot, firstCause, whole, holds, lineFi
 use Rattle.orders.specs.declared.Flow.{Flow}
 use Rattle.orders.specs.View.{fieldsOf}
 use Rattle.queue_table.specs.View.{hopAt}
-use Rattle.flow_store.specs.View.{Store, countAt, headAt, flowAt, slotOf, slotsOf, entriesIn, flowIn}
-use Rattle.flow_store.proofs.ViewLaws.{slot-at, flow-long}
+use Rattle.bit_words.specs.View.{isSet}
+use Rattle.flow_store.specs.View.{Store, hopsAt, headAt, flowAt, slotOf, slotsOf, flowIn, entriesNamed}
+use Rattle.flow_store.proofs.ViewLaws.{slot-at, flow-long, count-held, path-named, entries-long}
 use Rattle.flow_check.specs.View.{entryFindings, pathFindings, slotAlone}
 
 -- The first of the findings is one, or none.
@@ -67,78 +68,87 @@ pos : (n : ℕ) → (n ≡ 0 → ⊥) → 1 ≤ n
 pos zero ne = absurd (ne refl)
 pos (suc n) ne = omega arith
 
-module _ (t : Table) (slots pool : List ℕ) (i : ℕ) (inside : i < slotCount) (store : Store slots pool) where
+-- A held slot's path has as many entries as its hop count says.
+pub path-long : (i : ℕ) {bits slots pool : List ℕ} → Store bits slots pool → i < slotCount → isSet bits i ≡ true → length (entriesNamed slots pool i) ≡ hopsAt slots i
+path-long i {bits} {slots} {pool} store inside held =
+    ap length (path-named bits slots pool store i inside held) ∙ entries-long bits slots i pool inside store ∙ count-held bits slots i held
+
+module _ (t : Table) (i : ℕ) {bits slots pool : List ℕ} (store : Store bits slots pool) (inside : i < slotCount) where
+  abbrev all : List Slot
+  all = slotsOf bits slots pool
+
   abbrev here : Bool
-  here = slotAlone t (slotsOf slots pool) i (getD (slotsOf slots pool) i none)
+  here = slotAlone t all i (getD all i none)
 
-  abbrev held : model.Flow
-  held = flowIn slots pool i
+  abbrev flow : model.Flow
+  flow = flowIn bits slots pool i
 
-  free-slot : countAt slots i ≡ 0 → getD (slotsOf slots pool) i none ≡ none
-  unfolding slotOf
-  free-slot e = slot-at slots i pool inside ∙ simp (eq-eqb (countAt slots i) 0 e)
+  by-bit : {b : Bool} → isSet bits i ≡ b → here ≡ slotAlone t all i (slotOf b flow)
+  by-bit e = ap (slotAlone t all i) (slot-at bits slots i pool inside ∙ ap (λ (b : Bool). slotOf b flow) e)
 
-  held-slot : (countAt slots i ≡ 0 → ⊥) → getD (slotsOf slots pool) i none ≡ some held
-  unfolding slotOf
-  held-slot ne = slot-at slots i pool inside ∙ simp (ne-eqb (countAt slots i) 0 ne)
+  pub judged-free : isSet bits i ≡ false → here ≡ true
+  unfolding slotAlone slotOf
+  judged-free free = by-bit free
 
-  range-at : flowInRange held ≡ (model.headInRange (headAt slots i) && between 1 hopsMost (countAt slots i))
-  unfolding flowInRange headOf model.headInRange model.hopsInRange flowAt
-  range-at = ap (λ (n : ℕ). model.headInRange (headAt slots i) && between 1 hopsMost n) (flow-long slots i pool inside store)
+  module _ (held : isSet bits i ≡ true) where
+    there : here ≡ slotAlone t all i (some flow)
+    unfolding slotOf
+    there = by-bit held
 
-  -- By the numbers read from the slot.
-  module _ (g : Flow) (e : fieldsOf g ≡ headAt slots i) where
-    count : countAt slots i ≡ g .hops
-    unfolding countAt
-    count = sym (ap (λ (h : model.Head). h .hops) e)
+    range-at : flowInRange flow ≡ (model.headInRange (headAt slots i) && between 1 hopsMost (hopsAt slots i))
+    unfolding flowInRange headOf model.headInRange model.hopsInRange flowAt
+    range-at =
+        ap (λ (n : ℕ). model.headInRange (headAt slots i) && between 1 hopsMost n)
+        (flow-long bits slots i pool inside store ∙ count-held bits slots i held)
 
-    pub judged-free : g .hops ≡ 0 → here ≡ true
-    unfolding slotAlone
-    judged-free z = ap (slotAlone t (slotsOf slots pool) i) (free-slot (count ∙ z))
+    outside : between 1 hopsMost (hopsAt slots i) ≡ false → here ≡ false
+    outside o = there ∙ alone-range t all i flow (range-at ∙ and-false (model.headInRange (headAt slots i)) o)
 
-    module _ (some-hops : g .hops ≡ 0 → ⊥) where
-      there : here ≡ slotAlone t (slotsOf slots pool) i (some held)
-      there = ap (slotAlone t (slotsOf slots pool) i) (held-slot (λ z. some-hops (sym count ∙ z)))
+    -- By the numbers read from the slot.
+    module _ (g : Flow) (e : fieldsOf g ≡ headAt slots i) where
+      hops : g .hops ≡ hopsAt slots i
+      hops = ap (λ (h : model.Head). h .hops) e
 
-      past : hopsMost < g .hops → between 1 hopsMost (countAt slots i) ≡ false
+      pub judged-none : g .hops ≡ 0 → here ≡ false
       unfolding between
-      past h = and-false (leb 1 (countAt slots i)) (lt-leb (countAt slots i) hopsMost (omega (arith, count)))
+      judged-none z = outside (rw (← hops, z))
 
-      pub judged-hops : hopsMost < g .hops → here ≡ false
-      judged-hops h =
-          there ∙ alone-range t (slotsOf slots pool) i held (range-at ∙ and-false (model.headInRange (headAt slots i)) (past h))
+      pub judged-many : hopsMost < g .hops → here ≡ false
+      unfolding between
+      judged-many h = outside (and-false (leb 1 (hopsAt slots i)) (lt-leb (hopsAt slots i) hopsMost (omega (arith, hops))))
 
-      module _ (few : g .hops ≤ hopsMost) where
-        fits : between 1 hopsMost (countAt slots i) ≡ true
+      module _ (some-hops : g .hops ≡ 0 → ⊥) (few : g .hops ≤ hopsMost) where
+        fits : between 1 hopsMost (hopsAt slots i) ≡ true
         unfolding between
-        fits = rw count (both-and (le-leb 1 (g .hops) (pos (g .hops) some-hops)) (le-leb (g .hops) hopsMost few))
+        fits = rw (← hops) (both-and (le-leb 1 (g .hops) (pos (g .hops) some-hops)) (le-leb (g .hops) hopsMost few))
 
-        range-here : flowInRange held ≡ model.headInRange (fieldsOf g)
+        range-here : flowInRange flow ≡ model.headInRange (fieldsOf g)
         range-here = range-at ∙ and-true _ fits ∙ ap model.headInRange (sym e)
 
         pub judged-range : model.headInRange (fieldsOf g) ≡ false → here ≡ false
-        judged-range r = there ∙ alone-range t (slotsOf slots pool) i held (range-here ∙ r)
+        judged-range r = there ∙ alone-range t all i flow (range-here ∙ r)
 
         module _ (range : model.headInRange (fieldsOf g) ≡ true) where
-          own-index : firstIndex (holds (held .number)) (slotsOf slots pool) ≡ firstIndex (holds (g .number)) (slotsOf slots pool)
+          own-index : firstIndex (holds (flow .number)) all ≡ firstIndex (holds (g .number)) all
           unfolding flowAt
-          own-index = ap (λ (h : model.Head). firstIndex (holds (h .number)) (slotsOf slots pool)) (sym e)
+          own-index = ap (λ (h : model.Head). firstIndex (holds (h .number)) all) (sym e)
 
-          pub judged-number : (firstIndex (holds (g .number)) (slotsOf slots pool) ≡ i → ⊥) → here ≡ false
-          judged-number ne = there ∙ alone-number t (slotsOf slots pool) i held (range-here ∙ range) (ne-eqb _ i (λ z. ne (sym own-index ∙ z)))
+          pub judged-number : (firstIndex (holds (g .number)) all ≡ i → ⊥) → here ≡ false
+          judged-number ne = there ∙ alone-number t all i flow (range-here ∙ range) (ne-eqb _ i (λ z. ne (sym own-index ∙ z)))
 
-          module _ (own : firstIndex (holds (g .number)) (slotsOf slots pool) ≡ i) where
-            frame-here : ltb (held .burst) (held .frame) ≡ ltb (g .share .burst .0) (g .share .frame .0)
+          module _ (own : firstIndex (holds (g .number)) all ≡ i) where
+            frame-here : ltb (flow .burst) (flow .frame) ≡ ltb (g .share .burst .0) (g .share .frame .0)
             unfolding flowAt
             frame-here = ap (λ (h : model.Head). ltb (h .burst) (h .frame)) (sym e)
 
             pub judged-frame : g .share .burst .0 < g .share .frame .0 → here ≡ false
-            judged-frame h = there ∙ alone-frame t (slotsOf slots pool) i held (range-here ∙ range) (eq-eqb _ i (own-index ∙ own)) (frame-here ∙ lt-ltb _ _ h)
+            judged-frame h = there ∙ alone-frame t all i flow (range-here ∙ range) (eq-eqb _ i (own-index ∙ own)) (frame-here ∙ lt-ltb _ _ h)
 
             pub judged-path : g .share .frame .0 ≤ g .share .burst .0
-                → here ≡ isNone (firstCause (pathFindings t (g .deadline .0) (map hopAt (entriesIn slots pool i))))
+                → here ≡ isNone (firstCause (pathFindings t (g .deadline .0) (map hopAt (entriesNamed slots pool i))))
             unfolding flowAt
             judged-path h =
                 there
-                ∙ alone-path t (slotsOf slots pool) i held (range-here ∙ range) (eq-eqb _ i (own-index ∙ own)) (frame-here ∙ le-ltb _ _ h)
-                ∙ ap (λ (x : model.Head). isNone (firstCause (pathFindings t (x .deadline) (map hopAt (entriesIn slots pool i))))) (sym e)
+                ∙ alone-path t all i flow (range-here ∙ range) (eq-eqb _ i (own-index ∙ own)) (frame-here ∙ le-ltb _ _ h)
+                ∙ rw (← path-named bits slots pool store i inside held)
+                (ap (λ (x : model.Head). isNone (firstCause (pathFindings t (x .deadline) (map hopAt (entriesNamed slots pool i))))) (sym e))

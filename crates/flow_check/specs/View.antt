@@ -16,6 +16,7 @@ use Rattle.causes.specs.View.{findingOf}
 use Rattle.orders.specs.declared.Flow.{Flow}
 use Rattle.orders.specs.View.{linePath, lineFlow}
 use Rattle.queue_table.specs.View.{tableOf, hopAt, AllQueues}
+use Rattle.bit_words.specs.View.{LeastClear}
 use Rattle.flow_store.specs.View.{Store, slotsOf}
 use Rattle.flow_check.specs.declared.Judged.{Judged}
 use Rattle.flow_check.specs.declared.FreeSlot.{FreeSlot}
@@ -45,17 +46,17 @@ pub record PathJudged (f : Flow) (hops table : List ℕ) (r : Judged) : Type 0 w
   pub named : findingOf (r .finding) ≡ none → PathNamed f hops table (r .entries)
 
 -- The causes before 30 against the line's flow, beside the flows in the slots. Free: the entries beside a cause.
-pub record FlowJudged (f : Flow) (hops table slots : List ℕ) (r : Judged) : Type 0 where
+pub record FlowJudged (f : Flow) (hops table bits slots : List ℕ) (r : Judged) : Type 0 where
   pub first : (pool : List ℕ)
       → findingOf (r .finding)
-      ≡ model-causes.firstCause (earlyFindings (record { table = tableOf table; slots = slotsOf slots pool }) (lineFlow f hops))
+      ≡ model-causes.firstCause (earlyFindings (record { table = tableOf table; slots = slotsOf bits slots pool }) (lineFlow f hops))
   pub named : findingOf (r .finding) ≡ none → PathNamed f hops table (r .entries)
 
--- 30 and 31 against a flow with so many hops; else the lowest free slot. The finding is free where the counts exceed the pool.
-pub record RoomJudged (hops : ℕ) (slots : List ℕ) (r : FreeSlot) : Type 0 where
-  pub first : (pool : List ℕ) (f : model.Flow) → Store slots pool → length (f .path) ≡ hops
-      → findingOf (r .finding) ≡ model-causes.firstCause (model-causes.roomFindings (slotsOf slots pool) f)
-  pub slot : (pool : List ℕ) → r .slot ≡ firstIndex isNone (slotsOf slots pool)
+-- 30 and 31 against a flow with so many hops; and the lowest free slot.
+pub record RoomJudged (hops : ℕ) (bits slots : List ℕ) (r : FreeSlot) : Type 0 where
+  pub first : (pool : List ℕ) (f : model.Flow) → Store bits slots pool → length (f .path) ≡ hops
+      → findingOf (r .finding) ≡ model-causes.firstCause (model-causes.roomFindings (slotsOf bits slots pool) f)
+  pub slot : LeastClear bits (r .slot)
 
 -- 11, 12, 17, 14, 16, 15 and 20 of a held flow beside the others: what consistency asks of it but the links.
 unfoldable pub flowAlone : Table → List model.Flow → model.Flow → Bool

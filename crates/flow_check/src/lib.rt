@@ -1,15 +1,15 @@
 // The causes against a registration before its links are checked (document 01, "Order"): 12, 17, 14, 16, 15, 20, and
 // then 30 and 31; and whether each held flow meets 11 and those before 30 beside the others.
 ghost use mathlib.Core.Path.{_≡_};
-ghost use mathlib.Core.List.{List, map};
+ghost use mathlib.Core.List.{map};
 ghost use mathlib.Core.Option.{none};
-ghost use Prim.Native.Nat.{ℕ, _+_, _≤_, _<_};
+ghost use Prim.Native.Nat.{_≤_, _<_};
 ghost use lib.ListN.{length, getD};
 ghost use Rattle.model.specs.Words.{every, isNone};
 ghost use Rattle.model.specs.Sizes.{hopsMost, slotCount};
 ghost use Rattle.model.specs.Reference.{firstCause, heldFlows};
 ghost use Rattle.queue_table.specs.View.{WellFormed, hopAt, tableOf, AllQueues};
-ghost use Rattle.flow_store.specs.View.{Store, slotNumbers, slotsOf, countAt, entriesIn};
+ghost use Rattle.flow_store.specs.View.{Packed, Store, slotWords, slotNumbers, slotsOf};
 ghost use Rattle.orders.specs.View.{hopNumbers};
 ghost use Rattle.causes.specs.View.{findingOf};
 ghost use Rattle.flow_check.specs.View.{entryFindings, PathJudged, FlowJudged, RoomJudged, flowAlone, slotAlone, pathFindings};
@@ -80,15 +80,15 @@ fn judge_path(flow: Flow, hops: &[u32], table: &[u32]) -> Judged
 }
 
 // 12, 17, 14, 16, 15 and 20.
-pub fn judge_flow(flow: Flow, hops: &[u32], table: &[u32], slots: &[u32]) -> Judged
-    requires { ⌜ WellFormed (now table) × (length (now hops) ≡ hopNumbers) × (flow .hops ≤ hopsMost) × (length (now slots) ≡ slotNumbers) ⌝ }
-    ensures { λ r. ⌜ FlowJudged flow (now (hops .entry)) (now (table .entry)) (now (slots .entry)) r ⌝ }
+pub fn judge_flow(flow: Flow, hops: &[u32], table: &[u32], bits: &[u64], slots: &[u32]) -> Judged
+    requires { ⌜ WellFormed (now table) × (length (now hops) ≡ hopNumbers) × (flow .hops ≤ hopsMost) × (length (now bits) ≡ slotWords) × (length (now slots) ≡ slotNumbers) ⌝ }
+    ensures { λ r. ⌜ FlowJudged flow (now (hops .entry)) (now (table .entry)) (now (bits .entry)) (now (slots .entry)) r ⌝ }
 {
     let number = flow.number;
     let share = flow.share;
     let burst = share.burst.0;
     let frame = share.frame.0;
-    if flow_store::find(number, slots) < SLOTS {
+    if flow_store::find(number, bits, slots) < SLOTS {
         return Judged {
             finding: Finding::Against(Cause::NumberHeld),
             entries: [0; MOST_HOPS],
@@ -103,19 +103,19 @@ pub fn judge_flow(flow: Flow, hops: &[u32], table: &[u32], slots: &[u32]) -> Jud
     judge_path(flow, hops, table)
 }
 
-// 30, then 31 for a path of so many hops. The finding is free where the counts exceed the pool, as no store's do.
-pub fn judge_room(hops: u32, slots: &[u32]) -> FreeSlot
-    requires { ⌜ (length (now slots) ≡ slotNumbers) × (hops ≤ hopsMost) ⌝ }
-    ensures { λ r. ⌜ RoomJudged hops (now (slots .entry)) r ⌝ }
+// 30, then 31 for a path of so many hops.
+pub fn judge_room(hops: u32, bits: &[u64], slots: &[u32]) -> FreeSlot
+    requires { ⌜ (length (now bits) ≡ slotWords) × (length (now slots) ≡ slotNumbers) × Packed (now bits) (now slots) × (hops ≤ hopsMost) ⌝ }
+    ensures { λ r. ⌜ RoomJudged hops (now (bits .entry)) (now (slots .entry)) r ⌝ }
 {
-    let slot = flow_store::first_free(slots);
+    let slot = flow_store::first_free(bits);
     if SLOTS <= slot {
         return FreeSlot {
             finding: Finding::Against(Cause::NoSlot),
             slot,
         };
     }
-    if POOL as u64 - (hops as u64) < flow_store::hop_sum(slots, SLOTS) {
+    if POOL - (hops as usize) < flow_store::held_entries(bits, slots) {
         return FreeSlot {
             finding: Finding::Against(Cause::NoEntries),
             slot,
@@ -147,12 +147,14 @@ fn path_stands(deadline: Micros, table: &[u32], entries: &[u32]) -> bool
     is_nothing(judge_entries(deadline, table, entries))
 }
 
-// Whether a slot is free, or its flow meets 11, 12, 17, 14, 16, 15 and 20; its numbers can have any value. The entries are
-// the slot's part of the pool.
-fn held_flow(slot: usize, entries: &[u32], table: &[u32], slots: &[u32]) -> bool
-    requires { ⌜ WellFormed (now table) × (length (now slots) ≡ slotNumbers) × (slot < slotCount) × (length (now entries) ≡ countAt (now slots) slot) ⌝ }
-    ensures { λ r. ⌜ ((pool : List ℕ) → Store (now (slots .entry)) pool → now (entries .entry) ≡ entriesIn (now (slots .entry)) pool slot → r ≡ slotAlone (tableOf (now (table .entry))) (slotsOf (now (slots .entry)) pool) slot (getD (slotsOf (now (slots .entry)) pool) slot none)) ⌝ }
+// Whether a slot is free, or its flow meets 11, 12, 17, 14, 16, 15 and 20; its numbers can have any value.
+fn slot_stands(slot: usize, table: &[u32], bits: &[u64], slots: &[u32], pool: &[u32]) -> bool
+    requires { ⌜ WellFormed (now table) × Store (now bits) (now slots) (now pool) × (slot < slotCount) ⌝ }
+    ensures { λ r. ⌜ r ≡ slotAlone (tableOf (now (table .entry))) (slotsOf (now (bits .entry)) (now (slots .entry)) (now (pool .entry))) slot (getD (slotsOf (now (bits .entry)) (now (slots .entry)) (now (pool .entry))) slot none) ⌝ }
 {
+    if !flow_store::is_held(slot, bits) {
+        return true;
+    }
     let flow = flow_store::flow_at(slot, slots);
     let number = flow.number;
     let share = flow.share;
@@ -160,7 +162,7 @@ fn held_flow(slot: usize, entries: &[u32], table: &[u32], slots: &[u32]) -> bool
     let largest = share.frame.0;
     let hops = flow.hops;
     if hops == 0 {
-        return true;
+        return false;
     }
     if (MOST_HOPS as u32) < hops {
         return false;
@@ -168,28 +170,25 @@ fn held_flow(slot: usize, entries: &[u32], table: &[u32], slots: &[u32]) -> bool
     if !orders::in_range(flow) {
         return false;
     }
-    if flow_store::find(number, slots) != slot {
+    if flow_store::find(number, bits, slots) != slot {
         return false;
     }
     if burst < largest {
         return false;
     }
-    path_stands(flow.deadline, table, entries)
+    path_stands(flow.deadline, table, flow_store::path_of(slot, slots, pool))
 }
 
 // Whether each held flow meets 11, 12, 17, 14, 16, 15 and 20 beside the others.
-pub fn held_flows(table: &[u32], slots: &[u32], pool: &[u32]) -> bool
-    requires { ⌜ WellFormed (now table) × Store (now slots) (now pool) ⌝ }
-    ensures { λ r. ⌜ r ≡ every (flowAlone (tableOf (now (table .entry))) (heldFlows (slotsOf (now (slots .entry)) (now (pool .entry))))) (heldFlows (slotsOf (now (slots .entry)) (now (pool .entry)))) ⌝ }
+pub fn held_flows(table: &[u32], bits: &[u64], slots: &[u32], pool: &[u32]) -> bool
+    requires { ⌜ WellFormed (now table) × Store (now bits) (now slots) (now pool) ⌝ }
+    ensures { λ r. ⌜ r ≡ every (flowAlone (tableOf (now (table .entry))) (heldFlows (slotsOf (now (bits .entry)) (now (slots .entry)) (now (pool .entry))))) (heldFlows (slotsOf (now (bits .entry)) (now (slots .entry)) (now (pool .entry)))) ⌝ }
 {
-    let mut at = 0;
     let mut slot = 0;
     while slot < SLOTS {
-        let hops = flow_store::hops_at(slot, slots);
-        if !held_flow(slot, flow_store::path_at(at, hops, pool), table, slots) {
+        if !slot_stands(slot, table, bits, slots, pool) {
             return false;
         }
-        at += hops;
         slot += 1;
     }
     true

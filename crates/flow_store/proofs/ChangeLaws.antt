@@ -2,8 +2,10 @@
 -- Assumes nothing.
 use Prim.Native.Nat.{ℕ, zero, suc, _+_, _-_, _*_, _≤_, _<_}
 use mathlib.Core.Path.{_≡_, refl, sym, ap, ap₂, _∙_}
+use mathlib.Core.Bool.{Bool, true, cond}
 use mathlib.Core.List.{List, [], _∷_, _++_, map}
 use native.Mathlib.Omega.{arith}
+use native.Mathlib.Decide.{decLt}
 use native.Mathlib.Nat.{suc-add, zero-add}
 use lib.ListN.{getD, set, take, drop}
 use lib.Seq.{take-take, take-nil, set-at}
@@ -11,7 +13,8 @@ use Rattle.model.specs.Sizes.{slotCount}
 use Rattle.model.specs.Orders.{Flow}
 use Rattle.model.specs.Reference.{Slot}
 use Rattle.queue_table.specs.View.{hopAt}
-use Rattle.flow_store.specs.View.{countAt, flowAt, slotOf, slotsFrom, slotsOf, countsFrom}
+use Rattle.bit_words.specs.View.{isSet}
+use Rattle.flow_store.specs.View.{startAt, countAt, flowAt, slotOf, slotsFrom, slotsOf, countsFrom}
 use Rattle.flow_store.proofs.ViewLaws.{length-from, slots-around, counts-around}
 
 drop-take : (c m : ℕ) (l : List ℕ) → drop c (take (c + m) l) ≡ take m (drop c l)
@@ -26,70 +29,98 @@ front-same c m p q e = sym (take-take c (c + m) q (omega arith)) ∙ ap (take c)
 rest-same : (c m : ℕ) (p q : List ℕ) → take (c + m) q ≡ take (c + m) p → take m (drop c q) ≡ take m (drop c p)
 rest-same c m p q e = sym (drop-take c m q) ∙ ap (drop c) e ∙ drop-take c m p
 
-module _ (slots slots′ : List ℕ) where
-  -- The numbers of n slots from slot i on are the same.
+module _ (bits slots bits′ slots′ : List ℕ) where
+  -- The bit of slot i is the same, and so are its numbers but the start.
+  abbrev pub SameAt : (i : ℕ) → Type 0
+  SameAt i = (isSet bits′ i ≡ isSet bits i) × ((r : ℕ) → r < 6 → getD slots′ (slotCount * r + i) 0 ≡ getD slots (slotCount * r + i) 0)
+
+  -- Those of n slots from slot i on are.
   abbrev Same : (n i : ℕ) → Type 0
-  Same n i = (j r : ℕ) → i ≤ j → j < i + n → getD slots′ (slotCount * r + j) 0 ≡ getD slots (slotCount * r + j) 0
+  Same n i = (j : ℕ) → i ≤ j → j < i + n → SameAt j
 
-  count-same : (n i : ℕ) → Same (suc n) i → countAt slots′ i ≡ countAt slots i
+  count-same : (i : ℕ) → SameAt i → countAt bits′ slots′ i ≡ countAt bits slots i
   unfolding countAt
-  count-same n i same = same i 5 (omega arith) (omega arith)
+  count-same i same = ap₂ (λ (b : Bool) (n : ℕ). cond b n 0) (same .0) (same .1 5 (omega arith))
 
-  flow-same : (n i : ℕ) (a b : List ℕ) → Same (suc n) i → a ≡ b → flowAt slots′ i a ≡ flowAt slots i b
+  flow-same : (i : ℕ) (a b : List ℕ) → SameAt i → a ≡ b → flowAt slots′ i a ≡ flowAt slots i b
   unfolding flowAt
-  flow-same n i a b same e =
+  flow-same i a b same e =
       λ t.
       record {
-        number = (rw (zero-add i) at (same i 0 (omega arith) (omega arith))) t;
-        rate = same i 1 (omega arith) (omega arith) t;
-        burst = same i 2 (omega arith) (omega arith) t;
-        frame = same i 3 (omega arith) (omega arith) t;
-        deadline = same i 4 (omega arith) (omega arith) t;
+        number = (rw (zero-add i) at (same .1 0 (omega arith))) t;
+        rate = same .1 1 (omega arith) t;
+        burst = same .1 2 (omega arith) t;
+        frame = same .1 3 (omega arith) t;
+        deadline = same .1 4 (omega arith) t;
         path = map hopAt (e t);
       }
 
-  counts-same : (n i : ℕ) → Same n i → countsFrom n i slots′ ≡ countsFrom n i slots
+  counts-same : (n i : ℕ) → Same n i → countsFrom n i bits′ slots′ ≡ countsFrom n i bits slots
   unfolding countsFrom
   counts-same zero i same = refl
   counts-same (suc n) i same =
-      ap₂ (λ (a b : ℕ). a + b) (count-same n i same) (counts-same n (suc i) (λ j r low high. same j r (omega arith) (omega arith)))
+      ap₂ (λ (a b : ℕ). a + b) (count-same i (same i (omega arith) (omega arith))) (counts-same n (suc i) (λ j low high. same j (omega arith) (omega arith)))
 
-  slots-same : (n i : ℕ) (p q : List ℕ) → Same n i → take (countsFrom n i slots) q ≡ take (countsFrom n i slots) p
-      → slotsFrom n i slots′ q ≡ slotsFrom n i slots p
+  slots-same : (n i : ℕ) (p q : List ℕ) → Same n i → take (countsFrom n i bits slots) q ≡ take (countsFrom n i bits slots) p
+      → slotsFrom n i bits′ slots′ q ≡ slotsFrom n i bits slots p
   unfolding slotsFrom countsFrom
   slots-same zero i p q same e = refl
   slots-same (suc n) i p q same e =
-      let c = countAt slots i in
-      let m = countsFrom n (suc i) slots in
-      rw (count-same n i same)
-      (ap₂ (λ (f : Flow) (l : List Slot). slotOf c f ∷ l) (flow-same n i (take c q) (take c p) same (front-same c m p q e))
-      (slots-same n (suc i) (drop c p) (drop c q) (λ j r low high. same j r (omega arith) (omega arith)) (rest-same c m p q e)))
+      let c = countAt bits slots i in
+      let m = countsFrom n (suc i) bits slots in
+      let here = same i (omega arith) (omega arith) in
+      rw (count-same i here, here .0)
+      (ap₂ (λ (f : Flow) (l : List Slot). slotOf (isSet bits i) f ∷ l) (flow-same i (take c q) (take c p) here (front-same c m p q e))
+      (slots-same n (suc i) (drop c p) (drop c q) (λ j low high. same j (omega arith) (omega arith)) (rest-same c m p q e)))
 
 -- Slot k has changed, and the others haven't.
-module _ (slots slots′ : List ℕ) (k : ℕ) (inside : k < slotCount) (others : (i r : ℕ) → i < slotCount → (i ≡ k → ⊥) → getD slots′ (slotCount * r + i) 0 ≡ getD slots (slotCount * r + i) 0) where
-  counts-before : countsFrom k 0 slots′ ≡ countsFrom k 0 slots
-  counts-before = counts-same slots slots′ k 0 (λ j r low high. others j r (omega arith) (λ e. omega arith))
+module _ (bits slots bits′ slots′ : List ℕ) (k : ℕ) (inside : k < slotCount) (others : (i : ℕ) → i < slotCount → (i ≡ k → ⊥) → SameAt bits slots bits′ slots′ i) where
+  counts-before : (n : ℕ) → n ≤ k → countsFrom n 0 bits′ slots′ ≡ countsFrom n 0 bits slots
+  counts-before n h = counts-same bits slots bits′ slots′ n 0 (λ j low high. others j (omega arith) (λ e. omega arith))
 
-  counts-after : countsFrom (slotCount - suc k) (suc k) slots′ ≡ countsFrom (slotCount - suc k) (suc k) slots
-  counts-after = counts-same slots slots′ (slotCount - suc k) (suc k) (λ j r low high. others j r (omega arith) (λ e. omega arith))
+  -- Past it the counts differ by what its own count does.
+  counts-past : (n : ℕ) → k < n → n ≤ slotCount → countsFrom n 0 bits′ slots′ + countAt bits slots k ≡ countsFrom n 0 bits slots + countAt bits′ slots′ k
+  counts-past n h in-slots =
+      let after : countsFrom (n - suc k) (suc k) bits′ slots′ ≡ countsFrom (n - suc k) (suc k) bits slots =
+      counts-same bits slots bits′ slots′ (n - suc k) (suc k) (λ j low high. others j (omega arith) (λ e. omega arith)) in
+      omega (arith, counts-around bits slots n k h, counts-around bits′ slots′ n k h, counts-before k (omega arith), after)
 
-  pub counts-changed : countsFrom slotCount 0 slots′ + countAt slots k ≡ countsFrom slotCount 0 slots + countAt slots′ k
-  counts-changed = omega (arith, counts-around slots k inside, counts-around slots′ k inside, counts-before, counts-after)
+  pub counts-changed : countsFrom slotCount 0 bits′ slots′ + countAt bits slots k ≡ countsFrom slotCount 0 bits slots + countAt bits′ slots′ k
+  counts-changed = counts-past slotCount inside (omega arith)
+
+  -- The starts before it are the same, and those past it have moved as the counts have.
+  pub starts-changed : ((i : ℕ) → i < slotCount → isSet bits i ≡ true → startAt slots i ≡ countsFrom i 0 bits slots)
+      → ((i : ℕ) → i < k → startAt slots′ i ≡ startAt slots i)
+      → (isSet bits′ k ≡ true → startAt slots′ k ≡ countsFrom k 0 bits slots)
+      → ((i : ℕ) → k < i → i < slotCount → isSet bits i ≡ true → startAt slots′ i + countAt bits slots k ≡ startAt slots i + countAt bits′ slots′ k)
+      → (i : ℕ) → i < slotCount → isSet bits′ i ≡ true → startAt slots′ i ≡ countsFrom i 0 bits′ slots′
+  starts-changed starts before own after i h held = go (decLt i k) (decLt k i)
+    where
+      was : (i ≡ k → ⊥) → startAt slots i ≡ countsFrom i 0 bits slots
+      was other = starts i h (sym (others i h other .0) ∙ held)
+
+      go : Dec (i < k) → Dec (k < i) → startAt slots′ i ≡ countsFrom i 0 bits′ slots′
+      go (yes lt) d = before i lt ∙ was (λ e. omega arith) ∙ sym (counts-before i (omega arith))
+      go (no le) (yes gt) =
+          omega (arith, after i gt h (sym (others i h (λ e. omega arith) .0) ∙ held), was (λ e. omega arith), counts-past i gt (omega arith))
+      go (no le) (no ge) =
+          let same : i ≡ k = omega arith in
+          rw same (own (rw same at held) ∙ sym (counts-before k (omega arith)))
 
   -- The entries before and after its own are the same too.
-  pub slot-changed : (pool pool′ : List ℕ) → take (countsFrom k 0 slots) pool′ ≡ take (countsFrom k 0 slots) pool
-      → take (countsFrom (slotCount - suc k) (suc k) slots) (drop (countsFrom k 0 slots + countAt slots′ k) pool′)
-      ≡ take (countsFrom (slotCount - suc k) (suc k) slots) (drop (countsFrom k 0 slots + countAt slots k) pool)
-      → slotsOf slots′ pool′
-      ≡ set (slotsOf slots pool) k (slotOf (countAt slots′ k) (flowAt slots′ k (take (countAt slots′ k) (drop (countsFrom k 0 slots) pool′))))
+  pub slot-changed : (pool pool′ : List ℕ) → take (countsFrom k 0 bits slots) pool′ ≡ take (countsFrom k 0 bits slots) pool
+      → take (countsFrom (slotCount - suc k) (suc k) bits slots) (drop (countsFrom k 0 bits slots + countAt bits′ slots′ k) pool′)
+      ≡ take (countsFrom (slotCount - suc k) (suc k) bits slots) (drop (countsFrom k 0 bits slots + countAt bits slots k) pool)
+      → slotsOf bits′ slots′ pool′
+      ≡ set (slotsOf bits slots pool) k (slotOf (isSet bits′ k) (flowAt slots′ k (take (countAt bits′ slots′ k) (drop (countsFrom k 0 bits slots) pool′))))
   slot-changed pool pool′ front rest =
-      let start = countsFrom k 0 slots in
-      let now = slotOf (countAt slots′ k) (flowAt slots′ k (take (countAt slots′ k) (drop start pool′))) in
-      let was = slotOf (countAt slots k) (flowAt slots k (take (countAt slots k) (drop start pool))) in
-      let before = slotsFrom k 0 slots pool in
-      let after = slotsFrom (slotCount - suc k) (suc k) slots (drop (start + countAt slots k) pool) in
-      slots-around slots′ k pool′ inside
-      ∙ rw counts-before
-      (ap₂ (λ (a b : List Slot). a ++ now ∷ b) (slots-same slots slots′ k 0 pool pool′ (λ j r low high. others j r (omega arith) (λ e. omega arith)) front)
-      (slots-same slots slots′ (slotCount - suc k) (suc k) (drop (start + countAt slots k) pool) (drop (start + countAt slots′ k) pool′) (λ j r low high. others j r (omega arith) (λ e. omega arith)) rest))
-      ∙ sym (ap (λ (l : List Slot). set l k now) (slots-around slots k pool inside) ∙ set-at before was after now k (length-from slots k 0 pool))
+      let start = countsFrom k 0 bits slots in
+      let now = slotOf (isSet bits′ k) (flowAt slots′ k (take (countAt bits′ slots′ k) (drop start pool′))) in
+      let was = slotOf (isSet bits k) (flowAt slots k (take (countAt bits slots k) (drop start pool))) in
+      let before = slotsFrom k 0 bits slots pool in
+      let after = slotsFrom (slotCount - suc k) (suc k) bits slots (drop (start + countAt bits slots k) pool) in
+      slots-around bits′ slots′ k pool′ inside
+      ∙ rw (counts-before k (omega arith))
+      (ap₂ (λ (a b : List Slot). a ++ now ∷ b) (slots-same bits slots bits′ slots′ k 0 pool pool′ (λ j low high. others j (omega arith) (λ e. omega arith)) front)
+      (slots-same bits slots bits′ slots′ (slotCount - suc k) (suc k) (drop (start + countAt bits slots k) pool) (drop (start + countAt bits′ slots′ k) pool′) (λ j low high. others j (omega arith) (λ e. omega arith)) rest))
+      ∙ sym (ap (λ (l : List Slot). set l k now) (slots-around bits slots k pool inside) ∙ set-at before was after now k (length-from bits slots k 0 pool))

@@ -2,11 +2,11 @@
 -- Assumes nothing.
 use Prim.Native.Nat.{ℕ, zero, suc, _+_, _-_, _*_, _≤_, _<_}
 use mathlib.Core.Path.{_≡_, refl, ap, _∙_}
+use mathlib.Core.Bool.{true}
 use mathlib.Core.List.{List, [], _∷_, map}
 use mathlib.Core.Option.{some}
 use native.Mathlib.Omega.{arith}
 use native.Mathlib.Nat.{zero-add}
-use borrow.Author.Tests.{ne-eqb}
 use lib.ListN.{length, getD, set, take, drop, length-set}
 use lib.Seq.{getD-set-same, getD-set-other}
 use Rattle.model.specs.Sizes.{slotCount}
@@ -14,9 +14,11 @@ use Rattle.model.specs.Orders.{flowOf}
 use Rattle.queue_table.specs.View.{hopAt}
 use Rattle.orders.specs.declared.Flow.{Flow}
 use Rattle.orders.specs.View.{fieldsOf}
-use Rattle.flow_store.specs.View.{slotNumbers, countAt, flowAt, slotOf, slotsOf, countsFrom, Store, flowStored, pathInserted, Insertable}
-use Rattle.flow_store.proofs.ViewLaws.{counts-around}
-use Rattle.flow_store.proofs.ChangeLaws.{counts-changed, slot-changed}
+use Rattle.bit_words.specs.View.{isSet, BitChanged}
+use Rattle.flow_store.specs.View.{slotNumbers, startPosition, startAt, endBefore, countAt, flowAt, slotOf, slotsOf, countsFrom, Store, flowStored, StartsMoved, pathInserted, Insertable}
+use Rattle.flow_store.proofs.ViewLaws.{counts-around, count-free, count-held}
+use Rattle.flow_store.proofs.StartLaws.{end-before}
+use Rattle.flow_store.proofs.ChangeLaws.{SameAt, counts-changed, starts-changed, slot-changed}
 use Rattle.flow_store.proofs.PoolLaws.{inserted-long, inserted-front, inserted-path, inserted-rest}
 
 -- Numbers stored at a slot, one of each kind from kind r on.
@@ -51,22 +53,18 @@ module _ (k : ℕ) (inside : k < slotCount) where
       rw e (spread-at (suc r) vs (set l (slotCount * r + k) v) q (omega arith) (omega (arith, length-set l (slotCount * r + k) v)))
 
 -- A flow stored at a slot: its numbers there, every other slot's as they were.
-module _ (k : ℕ) (f : Flow) (slots : List ℕ) (inside : k < slotCount) (long : length slots ≡ slotNumbers) where
+module _ (k start : ℕ) (f : Flow) (slots : List ℕ) (inside : k < slotCount) (long : length slots ≡ slotNumbers) where
   abbrev numbers : List ℕ
-  numbers = f .number ∷ f .share .rate .0 ∷ f .share .burst .0 ∷ f .share .frame .0 ∷ f .deadline .0 ∷ f .hops ∷ []
+  numbers = f .number ∷ f .share .rate .0 ∷ f .share .burst .0 ∷ f .share .frame .0 ∷ f .deadline .0 ∷ f .hops ∷ start ∷ []
 
-  stored : flowStored k f slots ≡ spread k inside 0 numbers slots
+  stored : flowStored k start f slots ≡ spread k inside 0 numbers slots
   unfolding flowStored spread
   stored = rw (zero-add k)
 
-  number-stored : (q : ℕ) → q < 6 → getD (flowStored k f slots) (slotCount * (0 + q) + k) 0 ≡ getD numbers q 0
+  number-stored : (q : ℕ) → q < 7 → getD (flowStored k start f slots) (slotCount * (0 + q) + k) 0 ≡ getD numbers q 0
   number-stored q h = rw stored (spread-at k inside 0 numbers slots q h (omega arith))
 
-  count-stored : countAt (flowStored k f slots) k ≡ f .hops
-  unfolding countAt
-  count-stored = number-stored 5 (omega arith)
-
-  flow-stored : (entries : List ℕ) → flowAt (flowStored k f slots) k entries ≡ flowOf (fieldsOf f) (map hopAt entries)
+  flow-stored : (entries : List ℕ) → flowAt (flowStored k start f slots) k entries ≡ flowOf (fieldsOf f) (map hopAt entries)
   unfolding flowAt flowOf
   flow-stored entries =
       λ t.
@@ -79,56 +77,95 @@ module _ (k : ℕ) (f : Flow) (slots : List ℕ) (inside : k < slotCount) (long 
         path = map hopAt entries;
       }
 
-  others : (i r : ℕ) → i < slotCount → (i ≡ k → ⊥) → getD (flowStored k f slots) (slotCount * r + i) 0 ≡ getD slots (slotCount * r + i) 0
-  others i r h other =
+  stored-other : (i r : ℕ) → i < slotCount → (i ≡ k → ⊥) → getD (flowStored k start f slots) (slotCount * r + i) 0 ≡ getD slots (slotCount * r + i) 0
+  stored-other i r h other =
       rw stored (spread-other k inside 0 numbers slots (slotCount * r + i) (λ m le e. other (omega arith)))
 
-  stored-long : length (flowStored k f slots) ≡ slotNumbers
+  stored-long : length (flowStored k start f slots) ≡ slotNumbers
   stored-long = rw stored (spread-long k inside 0 numbers slots ∙ long)
 
-module _ (k : ℕ) (f : Flow) (entries slots pool : List ℕ) (ok : Insertable k f entries slots pool) where
-  long : length slots ≡ slotNumbers
-  long = ok .store .slots-long
-
+module _ {k : ℕ} {f : Flow} {entries bits slots pool : List ℕ} (ok : Insertable k f entries bits slots pool) where
   abbrev start : ℕ
-  start = countsFrom k 0 slots
+  start = countsFrom k 0 bits slots
 
   abbrev end : ℕ
-  end = countsFrom slotCount 0 slots
+  end = countsFrom slotCount 0 bits slots
 
-  order : start ≤ end
-  order = omega (arith, counts-around slots k (ok .inside))
+  -- All slots before the lowest free one are held.
+  pub starts : endBefore slots k ≡ start
+  starts = end-before bits slots (ok .store .packed) k (omega (arith, ok .inside)) (λ j lt near. ok .lowest .set-before j lt)
 
-  room : end + length entries ≤ length pool
+  free : countAt bits slots k ≡ 0
+  free = count-free bits slots k (ok .lowest .clear (omega (arith, ok .inside, ok .store .bits-long)))
+
+  around : end ≡ start + countsFrom (slotCount - suc k) (suc k) bits slots
+  around = omega (arith, counts-around bits slots slotCount k (ok .inside), free)
+
+  pub order : start ≤ end
+  order = omega (arith, around)
+
+  pub room : end + length entries ≤ length pool
   room = omega (arith, ok .room, ok .store .pool-long)
 
-  count : countAt (flowStored k f slots) k ≡ length entries
-  count = count-stored k f slots (ok .inside) long ∙ ok .hops
+  -- The starts past the slot have moved up by the path's entries, and its bit is set.
+  module _ {bits′ moved : List ℕ} (marked : BitChanged k true bits bits′) (shift : StartsMoved (k + 1) (length entries) slots moved) where
+    abbrev slots′ : List ℕ
+    slots′ = flowStored k start f moved
 
-  held : slotOf (countAt (flowStored k f slots) k) (flowAt (flowStored k f slots) k (take (countAt (flowStored k f slots) k) (drop start (pathInserted start end entries pool))))
-      ≡ some (flowOf (fieldsOf f) (map hopAt entries))
-  unfolding slotOf
-  held =
-      rw (count, inserted-path start end entries pool order room, flow-stored k f slots (ok .inside) long entries)
-      (simp (ne-eqb (length entries) 0 (λ e. omega (arith, ok .path))))
+    abbrev pool′ : List ℕ
+    pool′ = pathInserted start end entries pool
 
-  rest : take (countsFrom (slotCount - suc k) (suc k) slots) (drop (start + countAt (flowStored k f slots) k) (pathInserted start end entries pool))
-      ≡ take (countsFrom (slotCount - suc k) (suc k) slots) (drop (start + countAt slots k) pool)
-  rest =
-      let after : countsFrom (slotCount - suc k) (suc k) slots ≡ end - start = omega (arith, counts-around slots k (ok .inside), ok .free) in
-      let same : start + countAt slots k ≡ start = omega (arith, ok .free) in
-      rw (count, same, after) (inserted-rest start end entries pool order room)
+    long : length moved ≡ slotNumbers
+    long = shift .long ∙ ok .store .slots-long
 
-  pub inserted : slotsOf (flowStored k f slots) (pathInserted start end entries pool)
-      ≡ set (slotsOf slots pool) k (some (flowOf (fieldsOf f) (map hopAt entries)))
-  inserted =
-      slot-changed slots (flowStored k f slots) k (ok .inside) (others k f slots (ok .inside) long) pool (pathInserted start end entries pool) (inserted-front start end entries pool order room) rest
-      ∙ ap (set (slotsOf slots pool) k) held
+    count : countAt bits′ slots′ k ≡ length entries
+    count = count-held bits′ slots′ k (marked .own) ∙ number-stored k start f moved (ok .inside) long 5 (omega arith) ∙ ok .hops
 
-  pub inserted-store : Store (flowStored k f slots) (pathInserted start end entries pool)
-  inserted-store =
-      record {
-        slots-long = stored-long k f slots (ok .inside) long;
-        pool-long = inserted-long start end entries pool order room ∙ ok .store .pool-long;
-        fits = omega (arith, counts-changed slots (flowStored k f slots) k (ok .inside) (others k f slots (ok .inside) long), count, ok .free, ok .room);
-      }
+    others : (i : ℕ) → i < slotCount → (i ≡ k → ⊥) → SameAt bits slots bits′ slots′ i
+    others i h other =
+        (marked .others i other, λ r few. stored-other k start f moved (ok .inside) long i r h other ∙ shift .others (slotCount * r + i) (omega arith))
+
+    held : slotOf (isSet bits′ k) (flowAt slots′ k (take (countAt bits′ slots′ k) (drop start pool′))) ≡ some (flowOf (fieldsOf f) (map hopAt entries))
+    unfolding slotOf
+    held = rw (marked .own, count, inserted-path start end entries pool order room, flow-stored k start f moved (ok .inside) long entries)
+
+    rest : take (countsFrom (slotCount - suc k) (suc k) bits slots) (drop (start + countAt bits′ slots′ k) pool′)
+        ≡ take (countsFrom (slotCount - suc k) (suc k) bits slots) (drop (start + countAt bits slots k) pool)
+    rest =
+        let after : countsFrom (slotCount - suc k) (suc k) bits slots ≡ end - start = omega (arith, around) in
+        let same : start + countAt bits slots k ≡ start = omega (arith, free) in
+        rw (count, same, after) (inserted-rest start end entries pool order room)
+
+    pub inserted : slotsOf bits′ slots′ pool′ ≡ set (slotsOf bits slots pool) k (some (flowOf (fieldsOf f) (map hopAt entries)))
+    inserted =
+        slot-changed bits slots bits′ slots′ k (ok .inside) others pool pool′ (inserted-front start end entries pool order room) rest
+        ∙ ap (set (slotsOf bits slots pool) k) held
+
+    -- A start past the slot that counts is at most the pool's length, so that its sum doesn't wrap.
+    after : (i : ℕ) → k < i → i < slotCount → isSet bits i ≡ true → startAt slots′ i + countAt bits slots k ≡ startAt slots i + countAt bits′ slots′ k
+    after i gt h set =
+        omega (
+          arith,
+          stored-other k start f moved (ok .inside) long i 6 h (λ e. omega arith),
+          shift .moved i (omega arith) h,
+          free,
+          count,
+          ok .room,
+          ok .store .packed .starts i h set,
+          counts-around bits slots slotCount i h,
+        )
+
+    pub inserted-store : Store bits′ slots′ pool′
+    inserted-store =
+        record {
+          bits-long = marked .long ∙ ok .store .bits-long;
+          slots-long = stored-long k start f moved (ok .inside) long;
+          pool-long = inserted-long start end entries pool order room ∙ ok .store .pool-long;
+          packed = record {
+            fits = omega (arith, counts-changed bits slots bits′ slots′ k (ok .inside) others, count, free, ok .room);
+            starts = starts-changed bits slots bits′ slots′ k (ok .inside) others (ok .store .packed .starts)
+                (λ i lt. stored-other k start f moved (ok .inside) long i 6 (omega (arith, ok .inside)) (λ e. omega arith) ∙ shift .others (startPosition i) (omega arith))
+                (λ e. number-stored k start f moved (ok .inside) long 6 (omega arith))
+                after;
+          };
+        }

@@ -9,62 +9,54 @@ use native.Mathlib.Omega.{arith}
 use native.Mathlib.Numerals.{add-one}
 use native.Mathlib.Decide.{decLt}
 use native.Mathlib.Nat.{add-zero, zero-add}
-use borrow.Author.Tests.{eqb-true, ne-eqb}
-use lib.ListN.{getD, take, drop}
+use borrow.Author.Tests.{ne-eqb}
+use lib.ListN.{length, getD, take, drop}
 use lib.Seq.{drop-nil}
 use lib.Dec.{eqb}
 use Rattle.model.specs.Words.{firstIndex, isNone}
 use Rattle.model.specs.Sizes.{slotCount}
 use Rattle.model.specs.Orders.{Flow}
 use Rattle.model.specs.Reference.{Slot, holds}
-use Rattle.model.specs.Laws.Slot.{index-found}
-use Rattle.flow_store.specs.View.{hopsPosition, OthersFrom, numberAt, countAt, flowAt, slotOf, slotsFrom, slotsOf, countsFrom}
-use Rattle.flow_store.proofs.ViewLaws.{length-slots, slot-at}
+use Rattle.bit_words.specs.View.{isSet, LeastClear}
+use Rattle.flow_store.specs.View.{slotWords, OthersFrom, numberAt, countAt, flowAt, slotOf, slotsFrom, slotsOf}
 
 -- What the two tests say of slot i, whatever its entries.
-abbrev pub named : (number : ℕ) (slots : List ℕ) (i : ℕ) → Bool
-named number slots i = eqb (numberAt slots i) number && not (eqb (getD slots (hopsPosition i) 0) 0)
+abbrev pub named : (number : ℕ) (bits slots : List ℕ) (i : ℕ) → Bool
+named number bits slots i = eqb (numberAt slots i) number && isSet bits i
 
-abbrev pub free : (slots : List ℕ) (i : ℕ) → Bool
-free slots i = eqb (getD slots (hopsPosition i) 0) 0
-
-pub holds-named : (number : ℕ) (slots : List ℕ) (i : ℕ) (entries : List ℕ)
-    → holds number (slotOf (countAt slots i) (flowAt slots i entries)) ≡ named number slots i
-unfolding slotOf countAt flowAt holds
-holds-named number slots i entries = go (eqb (getD slots (hopsPosition i) 0) 0) (flowAt slots i entries)
+pub holds-named : (number : ℕ) (bits slots : List ℕ) (i : ℕ) (entries : List ℕ)
+    → holds number (slotOf (isSet bits i) (flowAt slots i entries)) ≡ named number bits slots i
+unfolding slotOf flowAt holds
+holds-named number bits slots i entries = go (isSet bits i) (flowAt slots i entries)
   where
-    go : (b : Bool) (f : Flow) → holds number (cond b none (some f)) ≡ (eqb (f .number) number && not b)
-    go true f = sym (and-false (eqb (f .number) number))
-    go false f = sym (and-true (eqb (f .number) number))
+    go : (b : Bool) (f : Flow) → holds number (cond b (some f) none) ≡ (eqb (f .number) number && b)
+    go true f = sym (and-true (eqb (f .number) number))
+    go false f = sym (and-false (eqb (f .number) number))
 
-none-slot : (count : ℕ) (f : Flow) → isNone (slotOf count f) ≡ eqb count 0
+none-free : (bits slots : List ℕ) (i : ℕ) (entries : List ℕ) → isNone (slotOf (isSet bits i) (flowAt slots i entries)) ≡ not (isSet bits i)
 unfolding slotOf isNone
-none-slot count f = go (eqb count 0)
+none-free bits slots i entries = go (isSet bits i) (flowAt slots i entries)
   where
-    go : (b : Bool) → isNone {A = Flow} (cond b none (some f)) ≡ b
-    go true = refl
-    go false = refl
+    go : (b : Bool) (f : Flow) → isNone (cond b (some f) none) ≡ not b
+    go true f = refl
+    go false f = refl
 
-pub none-free : (slots : List ℕ) (i : ℕ) (entries : List ℕ) → isNone (slotOf (countAt slots i) (flowAt slots i entries)) ≡ free slots i
-unfolding countAt
-none-free slots i entries = none-slot (countAt slots i) (flowAt slots i entries)
-
-module _ (test : Slot → Bool) (slots : List ℕ) where
+module _ (test : Slot → Bool) (bits slots : List ℕ) where
   -- The first index from slot i on that the test finds.
   abbrev pub found : ℕ → ℕ
-  found i = i + firstIndex test (slotsFrom (slotCount - i) i slots [])
+  found i = i + firstIndex test (slotsFrom (slotCount - i) i bits slots [])
 
-  module _ (seen : ℕ → Bool) (blind : (i : ℕ) (entries : List ℕ) → test (slotOf (countAt slots i) (flowAt slots i entries)) ≡ seen i) where
-    any-pool : (n i : ℕ) (p q : List ℕ) → firstIndex test (slotsFrom n i slots p) ≡ firstIndex test (slotsFrom n i slots q)
+  module _ (seen : ℕ → Bool) (blind : (i : ℕ) (entries : List ℕ) → test (slotOf (isSet bits i) (flowAt slots i entries)) ≡ seen i) where
+    any-pool : (n i : ℕ) (p q : List ℕ) → firstIndex test (slotsFrom n i bits slots p) ≡ firstIndex test (slotsFrom n i bits slots q)
     unfolding firstIndex slotsFrom
     any-pool zero i p q = refl
     any-pool (suc n) i p q =
-        let c = countAt slots i in
+        let c = countAt bits slots i in
         ap₂ (λ (b : Bool) (k : ℕ). cond b 0 (suc k)) (blind i (take c p) ∙ sym (blind i (take c q))) (any-pool n (suc i) (drop c p) (drop c q))
 
-    turn : (n i : ℕ) → firstIndex test (slotsFrom (suc n) i slots []) ≡ cond (seen i) 0 (suc (firstIndex test (slotsFrom n (suc i) slots [])))
+    turn : (n i : ℕ) → firstIndex test (slotsFrom (suc n) i bits slots []) ≡ cond (seen i) 0 (suc (firstIndex test (slotsFrom n (suc i) bits slots [])))
     unfolding firstIndex slotsFrom
-    turn n i = rw (blind i (take (countAt slots i) []), drop-nil (countAt slots i))
+    turn n i = rw (blind i (take (countAt bits slots i) []), drop-nil (countAt bits slots i))
 
     pub scan-found : (i : ℕ) → i < slotCount → seen i ≡ true → found i ≡ i
     scan-found i h e =
@@ -82,29 +74,36 @@ module _ (test : Slot → Bool) (slots : List ℕ) where
     unfolding firstIndex slotsFrom
     scan-end i e = rw e
 
-    pub scan-whole : (pool : List ℕ) → found 0 ≡ firstIndex test (slotsOf slots pool)
+    pub scan-whole : (pool : List ℕ) → found 0 ≡ firstIndex test (slotsOf bits slots pool)
     unfolding slotsOf
-    scan-whole pool = zero-add (firstIndex test (slotsFrom slotCount 0 slots [])) ∙ any-pool slotCount 0 [] pool
+    scan-whole pool = zero-add (firstIndex test (slotsFrom slotCount 0 bits slots [])) ∙ any-pool slotCount 0 [] pool
 
--- The lowest free slot has hop count 0.
-pub free-count : (slots pool : List ℕ) → firstIndex isNone (slotsOf slots pool) < slotCount → countAt slots (firstIndex isNone (slotsOf slots pool)) ≡ 0
-free-count slots pool h =
-    let k = firstIndex isNone (slotsOf slots pool) in
-    let count = countAt slots k in
-    let here = flowAt slots k (take count (drop (countsFrom k 0 slots) pool)) in
-    eqb-true count 0
-    (sym (none-slot count here)
-    ∙ ap isNone (sym (slot-at slots k pool h))
-    ∙ index-found isNone none (slotsOf slots pool) (omega (arith, length-slots slots pool)))
+    -- The slots before slot i have been passed.
+    pub scan-past : (i : ℕ) → i ≤ slotCount → ((j : ℕ) → j < i → seen j ≡ false) → found i ≡ found 0
+    scan-past zero h passed = refl
+    scan-past (suc i) h passed =
+        ap found (sym (add-one i)) ∙ sym (scan-on i (omega arith) (passed i (omega arith))) ∙ scan-past i (omega arith) (λ j lt. passed j (omega arith))
+
+-- The least clear bit is the lowest free slot.
+module _ (bits slots pool : List ℕ) (i : ℕ) (long : length bits ≡ slotWords) (least : LeastClear bits i) where
+  abbrev free : (j : ℕ) → Bool
+  free j = not (isSet bits j)
+
+  ends : Dec (i < slotCount) → found isNone bits slots i ≡ i
+  ends (yes lt) = scan-found isNone bits slots free (none-free bits slots) i lt (ap not (least .clear (omega (arith, long))))
+  ends (no end) = scan-end isNone bits slots free (none-free bits slots) i (omega (arith, least .inside, long))
+
+  pub lowest-free : i ≡ firstIndex isNone (slotsOf bits slots pool)
+  lowest-free =
+      sym (ends (decLt i slotCount))
+      ∙ scan-past isNone bits slots free (none-free bits slots) i (omega (arith, least .inside, long)) (λ j lt. ap not (least .set-before j lt))
+      ∙ scan-whole isNone bits slots free (none-free bits slots) pool
 
 -- Slots that have another flow number are passed.
-pub scan-skip : (number : ℕ) (slots : List ℕ) (i : ℕ) → i ≤ slotCount → OthersFrom number slots 0 i → found (holds number) slots i ≡ found (holds number) slots 0
-scan-skip number slots zero h others = refl
-scan-skip number slots (suc i) h others =
-    let not-here : named number slots i ≡ false = simp (ne-eqb (getD slots i 0) number (others i (omega arith) (omega arith))) in
-    ap (found (holds number) slots) (sym (add-one i))
-    ∙ sym (scan-on (holds number) slots (named number slots) (holds-named number slots) i (omega arith) not-here)
-    ∙ scan-skip number slots i (omega arith) (λ j low lt. others j low (omega arith))
+pub scan-skip : (number : ℕ) (bits slots : List ℕ) (i : ℕ) → i ≤ slotCount → OthersFrom number slots 0 i → found (holds number) bits slots i ≡ found (holds number) bits slots 0
+scan-skip number bits slots i h others =
+    scan-past (holds number) bits slots (named number bits slots) (holds-named number bits slots) i h
+    (λ j lt. simp (ne-eqb (getD slots j 0) number (others j (omega arith) lt)))
 
 module _ (number : ℕ) (slots : List ℕ) where
   pub others-join : {i m end : ℕ} → OthersFrom number slots i m → OthersFrom number slots m end → OthersFrom number slots i end

@@ -89,9 +89,10 @@ enum Hop {
     Malformed,
 }
 
+// The array stands first: behind a flag of one byte it would be copied at an odd address.
 struct Path {
-    whole: bool,
     hops: [u32; HOP_NUMBERS],
+    whole: bool,
 }
 
 // An order without hops.

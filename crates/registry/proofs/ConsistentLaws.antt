@@ -67,9 +67,9 @@ module _ (table : List ℕ) where
   unfolding linkAt
   speeds-of ok = record { each = λ i lt. speed-below t ok (i + 1) _ (link-found table i lt) }
 
-  module _ (slots pool : List ℕ) where
+  module _ (bits slots pool : List ℕ) where
     abbrev held : List Flow
-    held = heldFlows (slotsOf slots pool)
+    held = heldFlows (slotsOf bits slots pool)
 
     -- 14: the held flows are on queues of the table.
     pub alone-named : every (flowAlone t held) held ≡ true → All (λ g. All (Named t) (g .path)) held
@@ -81,21 +81,21 @@ module _ (table : List ℕ) where
             let causes = and-both (flowInRange g && leb (withNumber (g .number) held) 1) _ e .1 in
             named t [] (g .path) (none-applies (lineFindings t g ++ deadlineFinding t g ∷ []) (is-none _ causes) .1 .0)
 
-    pub kept : {sums : List ℕ} → WellFormed table → Store slots pool → tableConsistent t ≡ true → every (flowAlone t held) held ≡ true
+    pub kept : {sums : List ℕ} → WellFormed table → Store bits slots pool → tableConsistent t ≡ true → every (flowAlone t held) held ≡ true
         → Figures t held sums
         → ((link : ℕ) → LinkMeets t held link)
-        → Kept table slots pool sums
+        → Kept table bits slots pool sums
     kept formed store right alone figures meets =
-        record { formed = formed; store = store; is-consistent = rules-state (stateOf table slots pool) rules; figures = figures }
+        record { formed = formed; store = store; is-consistent = rules-state (stateOf table bits slots pool) rules; figures = figures }
       where
-        rules : StateRules (stateOf table slots pool)
+        rules : StateRules (stateOf table bits slots pool)
         rules =
             record {
               table = right;
-              size = length-slots slots pool;
+              size = length-slots bits slots pool;
               flows = record {
                 flows = all-imp held (alone-rules t held meets) (every-all (flowAlone t held) held alone);
-                slots = omega (arith, held-length (slotsOf slots pool), length-slots slots pool);
-                hops = omega (arith, held-hops slots pool store, store .fits);
+                slots = omega (arith, held-length (slotsOf bits slots pool), length-slots bits slots pool);
+                hops = omega (arith, held-hops bits slots pool store, store .packed .fits);
               };
             }

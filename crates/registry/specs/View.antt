@@ -8,7 +8,7 @@ use Rattle.model.specs.QueueTable.{readTable}
 use Rattle.model.specs.Orders.{Order, Kind}
 use Rattle.model.specs.Reference as model
 use Rattle.queue_table.specs.View.{tableNumbers, tableOf, textOf}
-use Rattle.flow_store.specs.View.{slotNumbers, slotsOf}
+use Rattle.flow_store.specs.View.{slotWords, slotNumbers, slotsOf}
 use Rattle.figures.specs.View.{sumNumbers, Figures}
 use Rattle.recount.specs.View.{OnQueues}
 use Rattle.admission.specs.declared.Answer.{Answer}
@@ -20,24 +20,25 @@ use Rattle.registry.specs.declared.Opened.{Opened}
 use Rattle.registry.specs.declared.Called.{Called}
 
 -- Arrays of the right sizes.
-pub record Sized (table slots pool sums : List ℕ) : Type 0 where
+pub record Sized (table bits slots pool sums : List ℕ) : Type 0 where
   pub table-long : length table ≡ tableNumbers
+  pub bits-long : length bits ≡ slotWords
   pub slots-long : length slots ≡ slotNumbers
   pub pool-long : length pool ≡ hopEntries
   pub sums-long : length sums ≡ sumNumbers
 
 -- 42 and nothing changed where the arrays aren't a consistent registry; else the order is done.
-pub record Guarded (o : Order) (table slots pool sums slots′ pool′ sums′ : List ℕ) (r : Answer) : Type 0 where
-  pub done : Kept table slots pool sums → Stepped o table slots pool slots′ pool′ sums′ r
-  pub kept-out : (Kept table slots pool sums → ⊥)
-      → (r ≡ Refused Inconsistent) × ((slots′ ≡ slots) × ((pool′ ≡ pool) × (sums′ ≡ sums)))
+pub record Guarded (o : Order) (table bits slots pool sums bits′ slots′ pool′ sums′ : List ℕ) (r : Answer) : Type 0 where
+  pub done : Kept table bits slots pool sums → Stepped o table bits slots pool bits′ slots′ pool′ sums′ r
+  pub kept-out : (Kept table bits slots pool sums → ⊥)
+      → (r ≡ Refused Inconsistent) × ((bits′ ≡ bits) × ((slots′ ≡ slots) × ((pool′ ≡ pool) × (sums′ ≡ sums))))
 
 -- The state that a registry holds, and that it is consistent.
 abbrev pub stateIn : Registry → model.State
-stateIn r = stateOf (r .table) (r .slots) (r .pool)
+stateIn r = stateOf (r .table) (r .bits) (r .slots) (r .pool)
 
 abbrev pub Consistent : Registry → Type 0
-Consistent r = Kept (r .table) (r .slots) (r .pool) (r .sums)
+Consistent r = Kept (r .table) (r .bits) (r .slots) (r .pool) (r .sums)
 
 -- An empty registry on the table of the text, 1 to 5 with the line where it is refused. Free: the table array's numbers past the table's links and
 -- levels; the other numbers of free slots; the hop entries.
@@ -47,8 +48,8 @@ pub record OpensOn (text : List ℕ) (r : Opened) : Type 0 where
   pub is-consistent : Consistent (r .registry)
 
 -- The figures aren't those of the held flows.
-abbrev pub OtherFigures : (table slots pool sums : List ℕ) → Type 0
-OtherFigures table slots pool sums = OnQueues table slots pool → Figures (tableOf table) (model.heldFlows (slotsOf slots pool)) sums → ⊥
+abbrev pub OtherFigures : (table bits slots pool sums : List ℕ) → Type 0
+OtherFigures table bits slots pool sums = OnQueues table bits slots pool → Figures (tableOf table) (model.heldFlows (slotsOf bits slots pool)) sums → ⊥
 
 -- A call of this kind, with the bytes that it is given.
 abbrev pub callOf : Kind → (bytes : List ℕ) → model.Call

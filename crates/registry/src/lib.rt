@@ -1,7 +1,7 @@
 // The registry (document 01, "The book"): opened on a table text, and direct calls on it, which take any registry and
 // answer 42 first. On arrays that are known to be consistent `admission` carries out an order without that check.
 //
-// The arrays are those of `queue_table` (table), `flow_store` (slots, pool) and `figures` (sums).
+// The arrays are those of `queue_table` (table), `flow_store` (bits, slots, pool) and `figures` (sums).
 ghost use mathlib.Core.Path.{_≡_};
 ghost use mathlib.Core.Bool.{true, false};
 ghost use lib.ListN.{length};
@@ -18,14 +18,15 @@ use causes::Cause;
 use figures::SUMS;
 use flow_store::POOL;
 use flow_store::SLOT_NUMBERS;
-use flow_store::SLOTS;
+use flow_store::SLOT_WORDS;
 use orders::Kind;
 use queue_table::TABLE_NUMBERS;
 use queue_table::Verdict;
 
-// The registry: the queue table, the slots with their pool of hop entries, and the figures of all queues.
+// The registry: the queue table, the slots with their bits and their pool of hop entries, and the figures of all queues.
 pub struct Registry {
     pub table: [u32; TABLE_NUMBERS],
+    pub bits: [u64; SLOT_WORDS],
     pub slots: [u32; SLOT_NUMBERS],
     pub pool: [u32; POOL],
     pub sums: [u64; SUMS],
@@ -44,32 +45,32 @@ pub struct Called {
 }
 
 // Whether the figures are those of the held flows.
-fn figures_right(table: &[u32], slots: &[u32], pool: &[u32], sums: &[u64]) -> bool
-    requires { ⌜ Countable (now table) (now slots) (now pool) × (length (now sums) ≡ sumNumbers) ⌝ }
-    ensures { λ r. ⌜ (r ≡ true → Recounted (now (table .entry)) (now (slots .entry)) (now (pool .entry)) (now (sums .entry))) ⌝ }
-    ensures { λ r. ⌜ (r ≡ false → OtherFigures (now (table .entry)) (now (slots .entry)) (now (pool .entry)) (now (sums .entry))) ⌝ }
+fn figures_right(table: &[u32], bits: &[u64], slots: &[u32], pool: &[u32], sums: &[u64]) -> bool
+    requires { ⌜ Countable (now table) (now bits) (now slots) (now pool) × (length (now sums) ≡ sumNumbers) ⌝ }
+    ensures { λ r. ⌜ (r ≡ true → Recounted (now (table .entry)) (now (bits .entry)) (now (slots .entry)) (now (pool .entry)) (now (sums .entry))) ⌝ }
+    ensures { λ r. ⌜ (r ≡ false → OtherFigures (now (table .entry)) (now (bits .entry)) (now (slots .entry)) (now (pool .entry)) (now (sums .entry))) ⌝ }
 {
     let mut fresh = [0u64; SUMS];
-    recount::recount(table, slots, pool, &mut fresh);
+    recount::recount(table, bits, slots, pool, &mut fresh);
     figures::same(&fresh, sums)
 }
 
 // Whether arrays of any content are a consistent registry (42).
-fn is_consistent(table: &[u32], slots: &[u32], pool: &[u32], sums: &[u64]) -> bool
-    requires { ⌜ Sized (now table) (now slots) (now pool) (now sums) ⌝ }
-    ensures { λ r. ⌜ (r ≡ true → Kept (now (table .entry)) (now (slots .entry)) (now (pool .entry)) (now (sums .entry))) ⌝ }
-    ensures { λ r. ⌜ (r ≡ false → Kept (now (table .entry)) (now (slots .entry)) (now (pool .entry)) (now (sums .entry)) → ⊥) ⌝ }
+fn is_consistent(table: &[u32], bits: &[u64], slots: &[u32], pool: &[u32], sums: &[u64]) -> bool
+    requires { ⌜ Sized (now table) (now bits) (now slots) (now pool) (now sums) ⌝ }
+    ensures { λ r. ⌜ (r ≡ true → Kept (now (table .entry)) (now (bits .entry)) (now (slots .entry)) (now (pool .entry)) (now (sums .entry))) ⌝ }
+    ensures { λ r. ⌜ (r ≡ false → Kept (now (table .entry)) (now (bits .entry)) (now (slots .entry)) (now (pool .entry)) (now (sums .entry)) → ⊥) ⌝ }
 {
-    if (POOL as u64) < flow_store::hop_sum(slots, SLOTS) {
+    if !flow_store::is_packed(bits, slots) {
         return false;
     }
     if !queue_table::consistent(table) {
         return false;
     }
-    if !flow_check::held_flows(table, slots, pool) {
+    if !flow_check::held_flows(table, bits, slots, pool) {
         return false;
     }
-    if !figures_right(table, slots, pool, sums) {
+    if !figures_right(table, bits, slots, pool, sums) {
         return false;
     }
     if !figures::bounded(sums) {
@@ -83,20 +84,21 @@ fn call_arrays(
     kind: Kind,
     bytes: &[u8],
     table: &[u32],
+    bits: &mut [u64],
     slots: &mut [u32],
     pool: &mut [u32],
     sums: &mut [u64],
 ) -> Answer
-    requires { ⌜ Sized (now table) (now slots) (now pool) (now sums) ⌝ }
-    ensures { λ r. ⌜ Guarded (onlyLine (kindNumber (kindOf kind)) (lines (now (bytes .entry)))) (now (table .entry)) (now (slots .entry)) (now (pool .entry)) (now (sums .entry)) (now (slots .exit)) (now (pool .exit)) (now (sums .exit)) r ⌝ }
+    requires { ⌜ Sized (now table) (now bits) (now slots) (now pool) (now sums) ⌝ }
+    ensures { λ r. ⌜ Guarded (onlyLine (kindNumber (kindOf kind)) (lines (now (bytes .entry)))) (now (table .entry)) (now (bits .entry)) (now (slots .entry)) (now (pool .entry)) (now (sums .entry)) (now (bits .exit)) (now (slots .exit)) (now (pool .exit)) (now (sums .exit)) r ⌝ }
 {
-    if !is_consistent(table, &slots[..], &pool[..], &sums[..]) {
+    if !is_consistent(table, &bits[..], &slots[..], &pool[..], &sums[..]) {
         return Answer::Refused(Cause::Inconsistent);
     }
     let line = orders::read_call(kind, bytes);
     let order = line.order;
     let hops = line.hops;
-    admission::perform(order, &hops, table, slots, pool, sums)
+    admission::perform(order, &hops, table, bits, slots, pool, sums)
 }
 
 // A direct call of any kind on any registry whatever.
@@ -104,12 +106,22 @@ fn call(registry: Registry, kind: Kind, bytes: &[u8]) -> Called
     ensures { λ r. ⌜ Performs registry (callOf (kindOf kind) (now (bytes .entry))) r ⌝ }
 {
     let table = registry.table;
+    let mut bits = registry.bits;
     let mut slots = registry.slots;
     let mut pool = registry.pool;
     let mut sums = registry.sums;
-    let answer = call_arrays(kind, bytes, &table, &mut slots, &mut pool, &mut sums);
+    let answer = call_arrays(
+        kind,
+        bytes,
+        &table,
+        &mut bits,
+        &mut slots,
+        &mut pool,
+        &mut sums,
+    );
     let after = Registry {
         table,
+        bits,
         slots,
         pool,
         sums,
@@ -161,6 +173,7 @@ pub fn open(text: &[u8]) -> Opened
     let table = read.numbers;
     let registry = Registry {
         table,
+        bits: [0; SLOT_WORDS],
         slots: [0; SLOT_NUMBERS],
         pool: [0; POOL],
         sums: [0; SUMS],

@@ -3,7 +3,7 @@
 //
 // What follows an r at a line's start is handed to `release`, what follows a c to `change`, every other line to `register`. A
 // line that starts with x isn't handed on: it sets one number of the registry. Array 2-3 (0 the table, 1 slots, 2 hop entries,
-// 3 figures), index 4-8, the number 9-17.
+// 3 figures, 4 the bits: one for each slot, clear for 0), index 4-8, the number 9-17.
 use admission::Answer;
 use columns::Field;
 use columns::NextLine;
@@ -41,8 +41,19 @@ fn set_figure(sums: &mut [u64], index: usize, n: u32) {
     }
 }
 
+fn set_bit(bits: &mut [u64], index: usize, n: u32) {
+    if bits.len() <= index / bit_words::WORD {
+        return;
+    }
+    match n {
+        0 => bit_words::clear_bit(index, bits),
+        _ => bit_words::set_bit(index, bits),
+    }
+}
+
 fn change(registry: Registry, array: u32, index: usize, n: u32) -> Registry {
     let mut table = registry.table;
+    let mut bits = registry.bits;
     let mut slots = registry.slots;
     let mut pool = registry.pool;
     let mut sums = registry.sums;
@@ -50,10 +61,12 @@ fn change(registry: Registry, array: u32, index: usize, n: u32) -> Registry {
         0 => set(&mut table, index, n),
         1 => set(&mut slots, index, n),
         2 => set(&mut pool, index, n),
-        _ => set_figure(&mut sums, index, n),
+        3 => set_figure(&mut sums, index, n),
+        _ => set_bit(&mut bits, index, n),
     }
     Registry {
         table,
+        bits,
         slots,
         pool,
         sums,

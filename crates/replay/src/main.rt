@@ -150,28 +150,26 @@ fn show_flow(slot: usize, flow: Flow, entries: &[u32])
     io::write_all(STDOUT_FILENO, &out[..next]);
 }
 
-// A slot's line where it is held: a path has 1 to MOST_HOPS hops.
-fn show_slot(slot: usize, slots: &[u32], pool: &[u32])
-    requires { ⌜ Store (now slots) (now pool) × (slot < slotCount) ⌝ }
+// A slot's line where it is held: a path has at most MOST_HOPS hops.
+fn show_slot(slot: usize, bits: &[u64], slots: &[u32], pool: &[u32])
+    requires { ⌜ Store (now bits) (now slots) (now pool) × (slot < slotCount) ⌝ }
 {
-    let hops = flow_store::hops_at(slot, slots);
-    if hops == 0 {
+    if !flow_store::is_held(slot, bits) {
         return;
     }
-    if MOST_HOPS < hops {
+    let path = flow_store::path_of(slot, slots, pool);
+    if MOST_HOPS < path.len() {
         return;
     }
-    let mut entries = [0u32; MOST_HOPS];
-    let n = flow_store::path_into(slot, slots, pool, &mut entries);
-    show_flow(slot, flow_store::flow_at(slot, slots), &entries[..n]);
+    show_flow(slot, flow_store::flow_at(slot, slots), path);
 }
 
-fn show_slots(slots: &[u32], pool: &[u32])
-    requires { ⌜ Store (now slots) (now pool) ⌝ }
+fn show_slots(bits: &[u64], slots: &[u32], pool: &[u32])
+    requires { ⌜ Store (now bits) (now slots) (now pool) ⌝ }
 {
     let mut slot = 0;
     while slot < SLOTS {
-        show_slot(slot, slots, pool);
+        show_slot(slot, bits, slots, pool);
         slot += 1;
     }
 }
@@ -180,11 +178,12 @@ fn show_registry(registry: Registry)
     requires { ⌜ Consistent registry ⌝ }
 {
     let table = registry.table;
+    let bits = registry.bits;
     let slots = registry.slots;
     let pool = registry.pool;
     let sums = registry.sums;
     show_queues(&table, &sums);
-    show_slots(&slots, &pool);
+    show_slots(&bits, &slots, &pool);
 }
 
 // Any argument asks for the calls in place; the first counted is the program's name.

@@ -20,43 +20,48 @@ use Rattle.flow_check.proofs.CauseLaws.{early-held, early-frame, early-
 use Rattle.flow_check.proofs.judge_flow.Statement.{statement}
 use Rattle.flow_check.proofs.judge_flow.Tie as tie
 
--- Whether the number is held is whether its slot was found.
-held : (c : tie.After-find) (pool : List ℕ) → leb 1 (withNumber (c .before .before .before .before .before .args .flow .number) (heldFlows (slotsOf (c .before .before .before .before .before .args .slots .now) pool))) ≡ ltb (c .find .result) slotCount
-held c pool =
-    let number = c .before .before .before .before .before .args .flow .number in
-    let slots = slotsOf (c .before .before .before .before .before .args .slots .now) pool in
-    number-index number slots
-    ∙ ap (ltb (firstIndex (holds number) slots)) (length-slots (c .before .before .before .before .before .args .slots .now) pool)
-    ∙ ap (λ (i : ℕ). ltb i slotCount) (sym (c .find .ensures pool))
-
 -- The table and the slots, with this pool.
 abbrev state : (c : tie.Start) (pool : List ℕ) → State
-state c pool = record { table = tableOf (c .args .table .now); slots = slotsOf (c .args .slots .now) pool }
+state c pool = record { table = tableOf (c .args .table .now); slots = slotsOf (c .args .bits .now) (c .args .slots .now) pool }
+
+-- Whether the number is held is whether its slot was found.
+module _ (c : tie.After-find) (pool : List ℕ) where
+  abbrev start : tie.Start
+  start = c .before .before .before .before .before .before
+
+  abbrev number : ℕ
+  number = start .args .flow .number
+
+  held : leb 1 (withNumber number (heldFlows (state start pool .slots))) ≡ ltb (c .find .result) slotCount
+  held =
+      number-index number (state start pool .slots)
+      ∙ ap (ltb (firstIndex (holds number) (state start pool .slots))) (length-slots (start .args .bits .now) (start .args .slots .now) pool)
+      ∙ ap (λ (i : ℕ). ltb i slotCount) (sym (c .find .ensures pool))
 
 returns : tie.Need-returns
 unfolding flowOf
 returns c =
-    let start = c .before .before .before .before .before .before in
+    let at = c .before .before .before .before .before .before .before in
     record {
-      first = λ pool. sym (early-held (state start pool) (lineFlow (start .args .flow) (start .args .hops .now)) (held (c .before) pool ∙ lt-ltb _ slotCount (c .if1 .taken)));
+      first = λ pool. sym (early-held (state at pool) (lineFlow (at .args .flow) (at .args .hops .now)) (held (c .before) pool ∙ lt-ltb _ slotCount (c .if1 .taken)));
       named = λ e. absurd (Option·none-ne-some _ (sym e));
     }
 
 returns-2 : tie.Need-returns-2
 unfolding flowOf
 returns-2 c =
-    let start = c .before .before .before .before .before .before .before in
+    let at = c .before .before .before .before .before .before .before .before in
     record {
-      first = λ pool. sym (early-frame (state start pool) (lineFlow (start .args .flow) (start .args .hops .now)) (held (c .before .before) pool ∙ le-ltb _ slotCount (c .before .if1 .left)) (lt-ltb _ _ (c .if2 .taken)));
+      first = λ pool. sym (early-frame (state at pool) (lineFlow (at .args .flow) (at .args .hops .now)) (held (c .before .before) pool ∙ le-ltb _ slotCount (c .before .if1 .left)) (lt-ltb _ _ (c .if2 .taken)));
       named = λ e. absurd (Option·none-ne-some _ (sym e));
     }
 
 returns-3 : tie.Need-returns-3
 unfolding flowOf
 returns-3 c =
-    let start = c .before .before .before .before .before .before .before .before in
+    let at = c .before .before .before .before .before .before .before .before .before in
     record {
-      first = λ pool. c .judge-path .ensures .first ∙ sym (early-path (state start pool) (lineFlow (start .args .flow) (start .args .hops .now)) (held (c .before .before .before) pool ∙ le-ltb _ slotCount (c .before .before .if1 .left)) (le-ltb _ _ (c .before .if2 .left)));
+      first = λ pool. c .judge-path .ensures .first ∙ sym (early-path (state at pool) (lineFlow (at .args .flow) (at .args .hops .now)) (held (c .before .before .before) pool ∙ le-ltb _ slotCount (c .before .before .if1 .left)) (le-ltb _ _ (c .before .if2 .left)));
       named = c .judge-path .ensures .named;
     }
 

@@ -5,30 +5,27 @@ use Prim.Native.Nat.{ℕ, suc, _+_, _-_, _*_, _<_}
 use mathlib.Core.Path.{_≡_, refl, sym, ap, _∙_}
 use mathlib.Core.Bool.{Bool, true, false, cond}
 use mathlib.Core.List.{List}
-use mathlib.Core.Option.{none, some}
+use mathlib.Core.Option.{none}
 use native.Mathlib.Omega.{arith}
 use lib.ListN.{length, getD, set, drop, take, length-set}
 use lib.Seq.{getD-set-same, getD-set-other}
-use lib.Dec.{eqb}
 use Rattle.model.specs.Sizes.{slotCount}
 use Rattle.model.specs.Orders.{Flow, Change}
 use Rattle.model.specs.Reference.{changed, changedSlot}
 use Rattle.orders.specs.View.{changeOf}
-use Rattle.flow_store.specs.View.{slotNumbers, ratePosition, burstPosition, framePosition, deadlinePosition, hopsPosition, countAt, flowAt, slotOf, slotsOf, countsFrom, Store, flowIn}
+use Rattle.bit_words.specs.View.{isSet}
+use Rattle.flow_store.specs.View.{slotNumbers, ratePosition, burstPosition, framePosition, deadlinePosition, hopsPosition, startPosition, startAt, countAt, flowAt, slotOf, slotsOf, countsFrom, Store, flowIn}
 use Rattle.flow_store.proofs.ViewLaws.{slot-at}
-use Rattle.flow_store.proofs.ChangeLaws.{counts-changed, slot-changed}
+use Rattle.flow_store.proofs.ChangeLaws.{SameAt, counts-changed, starts-changed, slot-changed}
 use Rattle.flow_store.proofs.change.Statement.{statement}
 use Rattle.flow_store.proofs.change.Tie as tie
 
-slot-of : (c : Change) (count : ℕ) (f : Flow) → slotOf count (changed c f) ≡ changedSlot c (slotOf count f)
+slot-of : (c : Change) (held : Bool) (f : Flow) → slotOf held (changed c f) ≡ changedSlot c (slotOf held f)
 unfolding slotOf changedSlot
-slot-of c count f = go (eqb count 0)
-  where
-    go : (b : Bool) → cond b none (some (changed c f)) ≡ changedSlot c (cond b none (some f))
-    go true = refl
-    go false = refl
+slot-of c true f = refl
+slot-of c false f = refl
 
-module _ (k : ℕ) (c : Change) (slots : List ℕ) (inside : k < slotCount) (long : length slots ≡ slotNumbers) where
+module _ (k : ℕ) (c : Change) (bits slots : List ℕ) (inside : k < slotCount) (long : length slots ≡ slotNumbers) where
   abbrev rated : List ℕ
   rated = set slots (ratePosition k) (c .rate)
 
@@ -39,12 +36,15 @@ module _ (k : ℕ) (c : Change) (slots : List ℕ) (inside : k < slotCount) (lon
   kept : (j : ℕ) → (j ≡ ratePosition k → ⊥) → (j ≡ burstPosition k → ⊥) → getD stored j 0 ≡ getD slots j 0
   kept j rate burst = getD-set-other rated (burstPosition k) j (c .burst) 0 burst ∙ getD-set-other slots (ratePosition k) j (c .rate) 0 rate
 
-  others : (i r : ℕ) → i < slotCount → (i ≡ k → ⊥) → getD stored (slotCount * r + i) 0 ≡ getD slots (slotCount * r + i) 0
-  others i r h other = kept (slotCount * r + i) (λ e. other (omega arith)) (λ e. other (omega arith))
+  others : (i : ℕ) → i < slotCount → (i ≡ k → ⊥) → SameAt bits slots bits stored i
+  others i h other = (refl, λ r few. kept (slotCount * r + i) (λ e. other (omega arith)) (λ e. other (omega arith)))
 
-  count : countAt stored k ≡ countAt slots k
+  start : (i : ℕ) → i < slotCount → startAt stored i ≡ startAt slots i
+  start i h = kept (startPosition i) (λ e. omega arith) (λ e. omega arith)
+
+  count : countAt bits stored k ≡ countAt bits slots k
   unfolding countAt
-  count = kept (hopsPosition k) (λ e. omega arith) (λ e. omega arith)
+  count = ap (λ n. cond (isSet bits k) n 0) (kept (hopsPosition k) (λ e. omega arith) (λ e. omega arith))
 
   flow : (entries : List ℕ) → flowAt stored k entries ≡ changed c (flowAt slots k entries)
   unfolding flowAt changed
@@ -59,20 +59,25 @@ module _ (k : ℕ) (c : Change) (slots : List ℕ) (inside : k < slotCount) (lon
         path = flowAt slots k entries .path;
       }
 
-  seen : (pool : List ℕ) → slotsOf stored pool ≡ set (slotsOf slots pool) k (changedSlot c (getD (slotsOf slots pool) k none))
+  seen : (pool : List ℕ) → slotsOf bits stored pool ≡ set (slotsOf bits slots pool) k (changedSlot c (getD (slotsOf bits slots pool) k none))
   seen pool =
-      let same : countsFrom k 0 slots + countAt stored k ≡ countsFrom k 0 slots + countAt slots k = omega (arith, count) in
-      slot-changed slots stored k inside others pool pool refl (ap (λ n. take (countsFrom (slotCount - suc k) (suc k) slots) (drop n pool)) same)
-      ∙ ap (set (slotsOf slots pool) k)
-      (rw count (ap (slotOf (countAt slots k)) (flow _) ∙ slot-of c (countAt slots k) (flowIn slots pool k))
-      ∙ ap (changedSlot c) (sym (slot-at slots k pool inside)))
+      let same : countsFrom k 0 bits slots + countAt bits stored k ≡ countsFrom k 0 bits slots + countAt bits slots k = omega (arith, count) in
+      slot-changed bits slots bits stored k inside others pool pool refl (ap (λ n. take (countsFrom (slotCount - suc k) (suc k) bits slots) (drop n pool)) same)
+      ∙ ap (set (slotsOf bits slots pool) k)
+      (rw count (ap (slotOf (isSet bits k)) (flow _) ∙ slot-of c (isSet bits k) (flowIn bits slots pool k))
+      ∙ ap (changedSlot c) (sym (slot-at bits slots k pool inside)))
 
-  store : (pool : List ℕ) → Store slots pool → Store stored pool
+  store : (pool : List ℕ) → Store bits slots pool → Store bits stored pool
   store pool s =
       record {
+        bits-long = s .bits-long;
         slots-long = length-set rated (burstPosition k) (c .burst) ∙ length-set slots (ratePosition k) (c .rate) ∙ s .slots-long;
         pool-long = s .pool-long;
-        fits = omega (arith, counts-changed slots stored k inside others, count, s .fits);
+        packed = record {
+          fits = omega (arith, counts-changed bits slots bits stored k inside others, count, s .packed .fits);
+          starts = starts-changed bits slots bits stored k inside others (s .packed .starts) (λ i lt. start i (omega (arith, inside)))
+              (λ held. start k inside ∙ s .packed .starts k inside held) (λ i gt h held. omega (arith, start i h, count));
+        };
       }
 
 slice-write-slots-2 : tie.Need-slice-write-slots-2
@@ -83,8 +88,8 @@ returns c =
     let args = c .before .before .args in
     let pre = c .before .before .pre in
     let given = changeOf (args .given) in (
-      λ pool. seen (args .slot) given (args .slots .now) (pre .0) (pre .1) pool,
-      λ pool s. store (args .slot) given (args .slots .now) (pre .0) (pre .1) pool s,
+      λ bits pool. seen (args .slot) given bits (args .slots .now) (pre .0) (pre .1) pool,
+      λ bits pool s. store (args .slot) given bits (args .slots .now) (pre .0) (pre .1) pool s,
     )
 
 pub change-spec : {M : Type 1} → statement M

@@ -3,7 +3,7 @@
 use borrow.Author.Needs.{needs}
 use mathlib.Core.Path.{refl}
 use native.Mathlib.Omega.{arith}
-use Rattle.flow_store.specs.View.{hopsPosition, countAt}
+use Rattle.flow_store.specs.View.{hopsPosition}
 use Rattle.flow_store.proofs.hops_at.Statement.{statement}
 use Rattle.flow_store.proofs.hops_at.Tie as tie
 
@@ -11,7 +11,6 @@ cast-result : tie.Need-cast-result
 cast-result c = omega (arith, c .shared-slice-known .given (hopsPosition (c .before .args .slot)))
 
 returns : tie.Need-returns
-unfolding countAt
 returns c = (refl, omega (arith, c .shared-slice-known .given (hopsPosition (c .before .args .slot))))
 
 pub hops-at-spec : {M : Type 1} → statement M

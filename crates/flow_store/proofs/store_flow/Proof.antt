@@ -23,6 +23,12 @@ slice-write-slots-5 c = simp length-set (omega arith)
 slice-write-slots-6 : tie.Need-slice-write-slots-6
 slice-write-slots-6 c = simp length-set (omega arith)
 
+slice-write-slots-7 : tie.Need-slice-write-slots-7
+slice-write-slots-7 c = simp length-set (omega arith)
+
+same-length : tie.Need-same-length
+same-length c = simp length-set
+
 returns : tie.Need-returns
 unfolding flowStored
 returns c = refl
@@ -30,7 +36,4 @@ returns c = refl
 pub store-flow-spec : {M : Type 1} → statement M
 store-flow-spec =
     tie.close
-    (tie.spec (λ c. search needs) (λ c. search needs) (λ c. search needs) (λ c. search needs) (λ c. search needs) (λ c. search needs)
-    (λ c. search needs) (λ c. search needs) slice-write-slots-2 (λ c. search needs) (λ c. search needs) slice-write-slots-3
-    (λ c. search needs) (λ c. search needs) slice-write-slots-4 (λ c. search needs) (λ c. search needs) slice-write-slots-5 (λ c. search needs)
-    (λ c. search needs) slice-write-slots-6 (λ c. search needs) returns)
+    (tie.spec (λ c. search needs) (λ c. search needs) (λ c. search needs) (λ c. search needs) (λ c. search needs) (λ c. search needs) (λ c. search needs) (λ c. search needs) slice-write-slots-2 (λ c. search needs) (λ c. search needs) slice-write-slots-3 (λ c. search needs) (λ c. search needs) slice-write-slots-4 (λ c. search needs) (λ c. search needs) slice-write-slots-5 (λ c. search needs) (λ c. search needs) slice-write-slots-6 (λ c. search needs) (λ c. search needs) slice-write-slots-7 same-length returns)

@@ -1,12 +1,14 @@
--- `recount::count_slot` meets its contract: the part of the pool from `at` on is the slot's path, and is counted in.
+-- `recount::count_slot` meets its contract: the path that a held slot names is its own, and is counted in.
 -- Assumes nothing.
 use borrow.Author.Needs.{needs}
-use Prim.Native.Nat.{_≤_}
 use mathlib.Core.Path.{_≡_, sym, subst, _∙_}
+use mathlib.Core.Bool.{true}
 use native.Mathlib.Omega.{arith}
+use borrow.Author.Tests.{not-true, not-false}
 use Rattle.units.specs.View.{AtSource}
-use Rattle.flow_store.specs.View.{countAt, entriesIn}
-use Rattle.flow_store.proofs.ViewLaws.{slot-fits, entries-taken}
+use Rattle.bit_words.specs.View.{isSet}
+use Rattle.flow_store.specs.View.{entriesIn}
+use Rattle.flow_store.proofs.ViewLaws.{path-inside, path-named}
 use Rattle.recount.specs.View.{Ranged}
 use Rattle.recount.proofs.RecountLaws.{counted-free, counted-held}
 use Rattle.recount.proofs.count_slot.Statement.{statement}
@@ -15,31 +17,32 @@ use Rattle.recount.proofs.count_slot.Tie as tie
 -- A slot that isn't free.
 module _ (c : tie.Else1) where
   abbrev start : tie.Start
-  start = c .before .before .before .before .before .before
+  start = c .before .before .before .before .before .before .before
 
-  held : 1 ≤ countAt (start .args .slots .now) (start .args .slot)
-  held = omega (arith, c .before .hops-at .ensures .0, c .if1 .left)
+  held : isSet (start .args .bits .now) (start .args .slot) ≡ true
+  held = sym (c .before .is-held .ensures) ∙ not-false _ (c .if1 .left)
 
-  ranged : Ranged (start .args .table .now) (start .args .slots .now) (start .args .pool .now) (start .args .slot)
+  ranged : Ranged (start .args .table .now) (start .args .bits .now) (start .args .slots .now) (start .args .pool .now) (start .args .slot)
   ranged = start .pre .0 .0 .each (start .args .slot) (start .pre .0 .1) held
 
 -- What is lent are the slot's entries.
-lent : (c : tie.After-path-at) → let args = start (c .before .before) .args in
-    c .path-at .result .now ≡ entriesIn (args .slots .now) (args .pool .now) (args .slot)
+lent : (c : tie.After-path-of) → let args = start (c .before .before) .args in
+    c .path-of .result .now ≡ entriesIn (args .bits .now) (args .slots .now) (args .pool .now) (args .slot)
 lent c =
     let at = start (c .before .before) in
-    c .path-at .ensures ∙ entries-taken (at .args .slots .now) (at .args .slot) (at .args .pool .now) (at .pre .0 .2) (c .before .before .before .hops-at .ensures .0)
+    c .path-of .ensures ∙ path-named (at .args .bits .now) (at .args .slots .now) (at .args .pool .now) (at .pre .0 .0 .store) (at .args .slot) (at .pre .0 .1) (held (c .before .before))
 
 returns : tie.Need-returns
 returns c =
-    let start = c .before .before .before .before .before .before in
-    counted-free (start .args .table .now) (start .args .slots .now) (start .args .pool .now) (start .args .slot) (start .pre .0 .1) (start .pre .1)
-    (sym (c .before .hops-at .ensures .0) ∙ c .if1 .taken)
+    let start = c .before .before .before .before .before .before .before in
+    counted-free (start .args .table .now) (start .args .bits .now) (start .args .slots .now) (start .args .pool .now) (start .args .slot) (start .pre .0 .1) (start .pre .1)
+    (sym (c .before .is-held .ensures) ∙ not-true _ (c .if1 .taken))
 
-path-at-requires : tie.Need-path-at-requires
-path-at-requires c κs =
+path-of-requires : tie.Need-path-of-requires
+path-of-requires c κs =
     let at = start (c .before) in
-    omega (arith, at .pre .0 .2, c .before .before .hops-at .ensures .0, slot-fits (at .args .slots .now) (at .args .slot) (at .args .pool .now) (at .pre .0 .1) (at .pre .0 .0 .store))
+    let store = at .pre .0 .0 .store in
+    (store .slots-long, at .pre .0 .1, path-inside (at .args .bits .now) (at .args .slots .now) (at .args .pool .now) store (at .args .slot) (at .pre .0 .1) (held (c .before)))
 
 add-path-requires : tie.Need-add-path-requires
 add-path-requires c κs =
@@ -53,8 +56,8 @@ returns-2 : tie.Need-returns-2
 returns-2 c =
     let at = c .before .before .before .before .before .before in
     let args = start at .args in
-    counted-held (args .table .now) (args .slots .now) (args .pool .now) (args .slot) (start at .pre .0 .1) (start at .pre .1) (held at)
+    counted-held (args .table .now) (args .bits .now) (args .slots .now) (args .pool .now) (args .slot) (start at .pre .0 .1) (start at .pre .1) (held at)
     (c .before .before .before .before .before .flow-at .ensures .1) (lent (c .before .before .before .before)) (c .before .before .add-path .ensures)
 
 pub count-slot-spec : {M : Type 1} → statement M
-count-slot-spec = tie.close (tie.spec (λ c κs. search needs) returns (λ c κs. search needs) path-at-requires add-path-requires (λ c. search needs) returns-2)
+count-slot-spec = tie.close (tie.spec (λ c κs. search needs) returns (λ c κs. search needs) path-of-requires add-path-requires (λ c. search needs) returns-2)

@@ -18,9 +18,9 @@ use Rattle.registry.proofs.call_arrays.Tie as tie
 -- The arrays are consistent.
 module _ (c : tie.Else1) where
   abbrev start : tie.Start
-  start = c .before .before .before .before .before .before .before .before .before .before
+  start = c .before .before .before .before .before .before .before .before .before .before .before .before
 
-  kept : Kept (start .args .table .now) (start .args .slots .now) (start .args .pool .now) (start .args .sums .now)
+  kept : Kept (start .args .table .now) (start .args .bits .now) (start .args .slots .now) (start .args .pool .now) (start .args .sums .now)
   kept = c .before .is-consistent .ensures .0 (not-false _ (c .if1 .left))
 
 -- What was read.
@@ -35,24 +35,24 @@ returns : tie.Need-returns
 returns c =
     record {
       done = λ k. absurd (c .before .is-consistent .ensures .1 (not-true _ (c .if1 .taken)) k);
-      kept-out = λ spoilt. (refl, (refl, (refl, refl)));
+      kept-out = λ spoilt. (refl, (refl, (refl, (refl, refl))));
     }
 
 perform-requires : tie.Need-perform-requires
 perform-requires c κs =
-    let at = c .before .before .before .before .before in
+    let at = c .before .before .before .before .before .before in
     let read = at .read-call .result in
     (order-read (read .hops) (read .order) (hops-long at) (at .read-call .ensures .1) (ranged at), kept (at .before))
 
 returns-2 : tie.Need-returns-2
 returns-2 c =
-    let at = c .before .before .before .before .before .before .before .before .before .before .before .before in
+    let at = c .before .before .before .before .before .before .before .before .before .before .before .before .before .before .before in
     record {
-      done = λ k. stepped-same (at .read-call .ensures .0) (c .before .before .before .before .before .before .perform .ensures);
+      done = λ k. stepped-same (at .read-call .ensures .0) (c .before .before .before .before .before .before .before .before .perform .ensures);
       kept-out = λ spoilt. absurd (spoilt (kept (at .before)));
     }
 
 pub call-arrays-spec : {M : Type 1} → statement M
 call-arrays-spec =
     tie.close
-    (tie.spec (λ c κs. search needs) (λ c. search needs) (λ c. search needs) (λ c. search needs) returns (λ c κs. search needs) (λ c. search needs) perform-requires (λ c. search needs) (λ c. search needs) (λ c. search needs) returns-2)
+    (tie.spec (λ c κs. search needs) (λ c. search needs) (λ c. search needs) (λ c. search needs) (λ c. search needs) returns (λ c κs. search needs) (λ c. search needs) perform-requires (λ c. search needs) (λ c. search needs) (λ c. search needs) (λ c. search needs) returns-2)

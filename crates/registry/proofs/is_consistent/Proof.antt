@@ -4,7 +4,6 @@ use borrow.Author.Needs.{needs}
 use mathlib.Core.Path.{_≡_, sym, _∙_}
 use mathlib.Core.Bool.{true, true≢false, false≢true}
 use mathlib.Core.List.{List}
-use native.Mathlib.Omega.{arith}
 use borrow.Author.Tests.{not-true, not-false}
 use Rattle.model.specs.Words.{every}
 use Rattle.model.specs.Orders.{Flow}
@@ -23,23 +22,24 @@ use Rattle.admission.proofs.HeldLaws.{on-queues, countable, kept-alone}
 use Rattle.registry.proofs.is_consistent.Statement.{statement}
 use Rattle.registry.proofs.is_consistent.Tie as tie
 
--- The counts fit the pool, and the table passes 2 to 4.
+-- The paths are packed, and the table passes 2 to 4.
 module _ (c : tie.Else2) where
   abbrev start : tie.Start
-  start = c .before .before .before .before .before .before .before .before
+  start = c .before .before .before .before .before .before .before .before .before
 
   abbrev held : List Flow
-  held = heldFlows (slotsOf (start .args .slots .now) (start .args .pool .now))
+  held = heldFlows (slotsOf (start .args .bits .now) (start .args .slots .now) (start .args .pool .now))
 
   right : tableConsistent (tableOf (start .args .table .now)) ≡ true
   right = sym (c .before .consistent .ensures) ∙ not-false _ (c .if2 .left)
 
-  store : Store (start .args .slots .now) (start .args .pool .now)
+  store : Store (start .args .bits .now) (start .args .slots .now) (start .args .pool .now)
   store =
       record {
+        bits-long = start .pre .bits-long;
         slots-long = start .pre .slots-long;
         pool-long = start .pre .pool-long;
-        fits = omega (arith, c .before .before .if1 .left, c .before .before .before .hop-sum .ensures);
+        packed = c .before .before .before .is-packed .ensures .0 (not-false _ (c .before .before .if1 .left));
       }
 
   formed : WellFormed (start .args .table .now)
@@ -53,8 +53,8 @@ module _ (c : tie.Else3) where
   alone : every (flowAlone (tableOf (start at .args .table .now)) (held at)) (held at) ≡ true
   alone = sym (c .before .held-flows .ensures) ∙ not-false _ (c .if3 .left)
 
-  on : OnQueues (start at .args .table .now) (start at .args .slots .now) (start at .args .pool .now)
-  on = on-queues _ _ _ (formed at) (store at) (right at) alone
+  on : OnQueues (start at .args .table .now) (start at .args .bits .now) (start at .args .slots .now) (start at .args .pool .now)
+  on = on-queues _ _ _ _ (formed at) (store at) (right at) alone
 
 -- The figures are those of the flows.
 figures : (c : tie.Else4) → let at = at (c .before .before) in
@@ -62,7 +62,7 @@ figures : (c : tie.Else4) → let at = at (c .before .before) in
 figures c = c .before .figures-right .ensures .0 (not-false _ (c .if4 .left)) .same (on (c .before .before))
 
 returns : tie.Need-returns
-returns c = (λ e. absurd (false≢true e), λ e k. omega (arith, k .store .fits, c .before .hop-sum .ensures, c .if1 .taken))
+returns c = (λ e. absurd (false≢true e), λ e k. c .before .is-packed .ensures .1 (not-true _ (c .if1 .taken)) (k .store .packed))
 
 returns-2 : tie.Need-returns-2
 returns-2 c =
@@ -79,7 +79,7 @@ returns-3 c = (
 
 figures-right-requires : tie.Need-figures-right-requires
 figures-right-requires c κs =
-    (countable _ _ _ (formed (at c)) (store (at c)) (right (at c)) (alone c), start (at c) .pre .sums-long)
+    (countable _ _ _ _ (formed (at c)) (store (at c)) (right (at c)) (alone c), start (at c) .pre .sums-long)
 
 returns-4 : tie.Need-returns-4
 returns-4 c = (
@@ -90,7 +90,7 @@ returns-4 c = (
 returns-5 : tie.Need-returns-5
 returns-5 c = (
   λ e. absurd (false≢true e),
-  λ e k. true≢false (sym (c .before .bounded .ensures .1 (bounded _ _ _ _ k)) ∙ not-true _ (c .if5 .taken)),
+  λ e k. true≢false (sym (c .before .bounded .ensures .1 (bounded _ _ _ _ _ k)) ∙ not-true _ (c .if5 .taken)),
 )
 
 links-meet-requires : tie.Need-links-meet-requires
@@ -103,9 +103,9 @@ returns-6 c =
     let f = c .before .before .before in
     let a = f .before .before in
     let j = at a in
-    let named = alone-named _ (start j .args .slots .now) (start j .args .pool .now) (alone a) in (
+    let named = alone-named _ (start j .args .bits .now) (start j .args .slots .now) (start j .args .pool .now) (alone a) in (
       λ e.
-          kept _ (start j .args .slots .now) (start j .args .pool .now) (formed j) (store j) (right j) (alone a) (figures f)
+          kept _ (start j .args .bits .now) (start j .args .slots .now) (start j .args .pool .now) (formed j) (store j) (right j) (alone a) (figures f)
           (c .links-meet .ensures .sound e (held j) (figures f) named),
       λ e k. c .links-meet .ensures .complete e (held j) (figures f) named (consistent-meets _ (state-rules _ (k .is-consistent))),
     )
@@ -113,5 +113,4 @@ returns-6 c =
 pub is-consistent-spec : {M : Type 1} → statement M
 is-consistent-spec =
     tie.close
-    (tie.spec (λ c κs. search needs) returns (λ c κs. search needs) returns-2 held-flows-requires returns-3 figures-right-requires returns-4
-    (λ c κs. search needs) returns-5 links-meet-requires returns-6)
+    (tie.spec (λ c κs. search needs) returns (λ c κs. search needs) returns-2 held-flows-requires returns-3 figures-right-requires returns-4 (λ c κs. search needs) returns-5 links-meet-requires returns-6)
