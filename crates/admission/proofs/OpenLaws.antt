@@ -6,7 +6,7 @@ use mathlib.Core.Bool.{true≢false}
 use mathlib.Core.List.{List, [], _∷_}
 use mathlib.Core.Option.{none}
 use native.Mathlib.Omega.{arith}
-use lib.ListN.{getD, replicate, length-replicate}
+use lib.ListN.{replicate, length-replicate}
 use Rattle.model.specs.Total.{total, largest}
 use Rattle.model.specs.QueueTable.{Table}
 use Rattle.model.specs.Aggregates as lookup
@@ -15,16 +15,11 @@ use Rattle.model.specs.Reference.{Slot, heldFlows, opened}
 use Rattle.model.specs.Laws.Reached.{opened-rules, rules-state, none-held}
 use Rattle.queue_table.specs.declared.Verdict.{Verdict}
 use Rattle.queue_table.specs.View.{tableOf, TableFilled, hopAt}
-use Rattle.bit_words.specs.Laws.{none-set}
+use Rattle.bit_words.specs.Laws.{zero-at, none-set}
 use Rattle.flow_store.specs.View.{slotWords, slotNumbers, slotsOf, slotsFrom, slotOf, countsFrom}
 use Rattle.flow_store.proofs.ViewLaws.{count-free}
 use Rattle.figures.specs.View.{sumNumbers, figureAt}
 use Rattle.admission.specs.View.{stateOf, Kept}
-
-zeros : (m j : ℕ) → getD {A = ℕ} (replicate m 0) j 0 ≡ 0
-zeros zero j = refl
-zeros (suc m) zero = refl
-zeros (suc m) (suc j) = zeros m j
 
 free-slots : (w n i : ℕ) (slots pool : List ℕ) → slotsFrom n i (replicate w 0) slots pool ≡ replicate n none
 unfolding slotsFrom slotOf
@@ -39,7 +34,7 @@ free-counts w (suc n) i slots = rw (count-free (replicate w 0) slots i (none-set
 
 no-figures : (m : ℕ) (t : Table) (e : ℕ) → figureAt (replicate m 0) e ≡ lookup.aggregateAt t [] (hopAt e)
 unfolding figureAt lookup.sharesAt lookup.aggregateAt lookup.allShares total largest
-no-figures m t e = λ i. record { rate = zeros m (3 * e) i; burst = zeros m (3 * e + 1) i; frame = zeros m (3 * e + 2) i }
+no-figures m t e = λ i. record { rate = zero-at m (3 * e) i; burst = zero-at m (3 * e + 1) i; frame = zero-at m (3 * e + 2) i }
 
 module _ (text table : List ℕ) (v : Verdict) (filled : TableFilled text v table)
     (bits slots pool sums : ℕ) (bits-are : bits ≡ slotWords) (slots-are : slots ≡ slotNumbers) (pool-is : pool ≡ hopEntries) (sums-are : sums ≡ sumNumbers) where

@@ -53,7 +53,7 @@ pub record Kept (table bits slots pool sums : List ℕ) : Type 0 where
   pub is-consistent : consistent (stateOf table bits slots pool) ≡ true
   pub figures : Figures (tableOf table) (model.heldFlows (slotsOf bits slots pool)) sums
 
--- The order was done as the reference model does it, and the registry is consistent after it. Free: the other numbers of free slots, unused hop entries.
+-- The order was done as the reference model does it, and the registry is consistent after it. Free: the numbers of free slots, unused hop entries.
 pub record Stepped (o : model-orders.Order) (table bits slots pool bits′ slots′ pool′ sums′ : List ℕ) (r : Answer) : Type 0 where
   pub answer : answerOf r ≡ model.apply (stateOf table bits slots pool) o .answer
   pub next : stateOf table bits′ slots′ pool′ ≡ model.apply (stateOf table bits slots pool) o .next

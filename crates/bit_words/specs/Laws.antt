@@ -1,6 +1,6 @@
--- What callers cite of the least clear bit: there is one, and it is past all bits just where all are set. And new words are clear.
--- Assumes nothing.
-use Prim.Native.Nat.{ℕ, zero, suc, _*_, _/_, _%_, _^_, _<_}
+-- The definitions fix what is found: there is one least clear bit, past all bits just where all are set, and one position past the
+-- greatest set bit. And new words are clear, which callers cite. Assumes nothing.
+use Prim.Native.Nat.{ℕ, zero, suc, _-_, _*_, _/_, _%_, _^_, _<_}
 use mathlib.Core.Path.{_≡_, refl, sym, ap, _∙_}
 use mathlib.Core.Bool.{true, false, true≢false}
 use mathlib.Core.List.{List}
@@ -8,7 +8,7 @@ use native.Mathlib.Nat.{zero-div}
 use native.Mathlib.Omega.{arith}
 use lib.Dec.{eqb}
 use lib.ListN.{length, getD, replicate}
-use Rattle.bit_words.specs.View.{bit, wordBits, isSet, LeastClear}
+use Rattle.bit_words.specs.View.{bit, wordBits, isSet, LeastClear, PastSet}
 
 module _ (words : List ℕ) where
   -- The bits before a least clear one are set, so none of them is another.
@@ -26,8 +26,16 @@ module _ (words : List ℕ) where
     λ all. let not-inside : r < wordBits * length words → ⊥ = λ lt. true≢false (sym (all r lt) ∙ least .clear lt) in omega (arith, least .inside),
   )
 
+  -- The bit before the greater of two such positions is set, and at the lesser one all are clear.
+  past-not-less : (r r′ : ℕ) → PastSet words r → PastSet words r′ → r < r′ → ⊥
+  past-not-less r r′ past past′ lt =
+      true≢false (sym (past′ .set (r′ - 1) (omega arith) (omega arith)) ∙ past .clear-after (r′ - 1) (omega arith) (omega (arith, past′ .inside)))
+
+  pub past-unique : (r r′ : ℕ) → PastSet words r → PastSet words r′ → r ≡ r′
+  past-unique r r′ past past′ = omega (arith, past-not-less r r′ past past′, past-not-less r′ r past′ past)
+
 -- Every word of new ones is 0, and what is read past them too.
-zero-at : (n i : ℕ) → _≡_ {A = ℕ} (getD (replicate n 0) i 0) 0
+pub zero-at : (n i : ℕ) → _≡_ {A = ℕ} (getD (replicate n 0) i 0) 0
 zero-at zero i = refl
 zero-at (suc n) zero = refl
 zero-at (suc n) (suc i) = zero-at n i

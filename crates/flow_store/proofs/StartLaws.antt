@@ -1,7 +1,7 @@
 -- Where paths start and end in the pool, read from a held slot's own start and hop count.
 -- Assumes nothing.
 use Prim.Native.Nat.{ℕ, zero, suc, _+_, _-_, _%_, _^_, _≤_, _<_}
-use mathlib.Core.Path.{_≡_, refl, sym, ap, subst, _∙_}
+use mathlib.Core.Path.{_≡_, refl, sym, ap, _∙_}
 use mathlib.Core.Bool.{true, false, true≢false}
 use mathlib.Core.List.{List}
 use native.Mathlib.Omega.{arith}
@@ -10,6 +10,7 @@ use native.Mathlib.Numerals.{add-one}
 use lib.ListN.{length, getD, set, length-set}
 use lib.Seq.{getD-set-same, getD-set-other}
 use Rattle.model.specs.Sizes.{slotCount, hopEntries}
+use Rattle.model.specs.Laws.List.{before-next}
 use Rattle.bit_words.specs.View.{isSet}
 use Rattle.flow_store.specs.View.{slotNumbers, startPosition, startAt, hopsAt, countsFrom, Packed, StartsMoved, endBefore}
 use Rattle.flow_store.proofs.ViewLaws.{counts-split, counts-one, counts-around, count-free, count-held}
@@ -54,21 +55,12 @@ module _ (bits slots : List ℕ) where
   unfolding countsFrom
   packed-first = record { counted = refl; fits = omega arith; starts = λ j lt. absurd (omega arith) }
 
-  one-more : {P : ℕ → Type 0} {i : ℕ} → ((j : ℕ) → j < i → P j) → P i → (j : ℕ) → j < i + 1 → P j
-  one-more {P} {i} before here j lt = go (decLt j i)
-    where
-      go : Dec (j < i) → P j
-      go (yes h) = before j h
-      go (no h) =
-          let same : i ≡ j = omega arith in
-          subst P same here
-
   pub packed-free : {i end : ℕ} → PackedTo i end → isSet bits i ≡ false → PackedTo (i + 1) end
   packed-free {i} {end} p free =
       record {
         counted = omega (arith, p .counted, counts-one bits slots i, count-free bits slots i free);
         fits = p .fits;
-        starts = one-more {P = λ j. isSet bits j ≡ true → startAt slots j ≡ countsFrom j 0 bits slots} (p .starts) (λ e. absurd (true≢false (sym e ∙ free)));
+        starts = before-next (λ j. isSet bits j ≡ true → startAt slots j ≡ countsFrom j 0 bits slots) i (p .starts) (λ e. absurd (true≢false (sym e ∙ free)));
       }
 
   pub packed-held : {i end : ℕ} → PackedTo i end → isSet bits i ≡ true → startAt slots i ≡ end → end + hopsAt slots i ≤ hopEntries → PackedTo (i + 1) (end + hopsAt slots i)
@@ -76,7 +68,7 @@ module _ (bits slots : List ℕ) where
       record {
         counted = omega (arith, p .counted, counts-one bits slots i, count-held bits slots i held);
         fits = room;
-        starts = one-more {P = λ j. isSet bits j ≡ true → startAt slots j ≡ countsFrom j 0 bits slots} (p .starts) (λ e. own ∙ p .counted);
+        starts = before-next (λ j. isSet bits j ≡ true → startAt slots j ≡ countsFrom j 0 bits slots) i (p .starts) (λ e. own ∙ p .counted);
       }
 
   pub packed-all : {end : ℕ} → PackedTo slotCount end → Packed bits slots

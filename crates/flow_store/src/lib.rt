@@ -28,13 +28,13 @@ use units::Bytes;
 use units::Micros;
 use units::Rate;
 
-// How many slots there are, a multiple of BLOCK, and how many hop entries for all of them together.
+// How many slots there are, a multiple of BLOCK and of a word's bits, and how many hop entries for all of them together.
 pub const SLOTS: usize = 256;
 
 pub const POOL: usize = 1024;
 
 // How many words say which slots are held: slot i at bit i % 64 of word i / 64.
-pub const SLOT_WORDS: usize = SLOTS / 64;
+pub const SLOT_WORDS: usize = SLOTS / bit_words::WORD;
 
 // How many numbers the array of the slots has, and where those of each kind start. The flow numbers stand first.
 pub const SLOT_NUMBERS: usize = 7 * SLOTS;

@@ -41,7 +41,7 @@ abbrev pub Consistent : Registry → Type 0
 Consistent r = Kept (r .table) (r .bits) (r .slots) (r .pool) (r .sums)
 
 -- An empty registry on the table of the text, 1 to 5 with the line where it is refused. Free: the table array's numbers past the table's links and
--- levels; the other numbers of free slots; the hop entries.
+-- levels; the numbers of the slots; the hop entries.
 pub record OpensOn (text : List ℕ) (r : Opened) : Type 0 where
   pub verdict : textOf (r .verdict) (tableOf (r .registry .table)) ≡ readTable text
   pub state : stateIn (r .registry) ≡ model.opened text
@@ -56,7 +56,7 @@ abbrev pub callOf : Kind → (bytes : List ℕ) → model.Call
 callOf kind bytes = record { kind = kind; bytes = bytes }
 
 -- A call: 42 and the registry as it was where that isn't consistent; else the step of the reference model, and consistent again. The table's array
--- stays in either case. Free: the other numbers of a free slot, and the hop entries past the held ones, which no flow has.
+-- stays in either case. Free: the numbers of a free slot, and the hop entries past the held ones, which no flow has.
 pub record Performs (before : Registry) (call : model.Call) (r : Called) : Type 0 where
   pub table : r .registry .table ≡ before .table
   pub answer : Consistent before → answerOf (r .answer) ≡ model.step (stateIn before) call .answer
