@@ -259,6 +259,11 @@ def changed(number, rate, burst):
     return "c" + change(number, rate, burst)
 
 
+def written(size, code, text=""):
+    """An area of so many dots lent to the writer: its code, how many bytes it filled, and what stands there then."""
+    return (f"w{size:4}\n", f"{code:3}{len(text):6}\n{text}{'.' * (size - len(text))}\n")
+
+
 def damaged(*changes):
     """Numbers wrong, (array, index, wrong, right) each: 42. Put right, the registry answers as before: flow 7 is held."""
     wrong = [put(array, index, n) for array, index, n, _ in changes]
@@ -288,6 +293,12 @@ first = (reg(number=7, deadline=1000), said(0, 1))
 second = reg(number=8, deadline=1000, path=[(1, 2)])
 both = [first, (second, said(0, 2))]
 exact = queues((371, 1573), (374, 1574))
+
+# Two flows as order lines, by hand.
+HELD = """\
+ 1 65535        1    1542 1542  132000  3   1 1   2 1   3 1
+ 1     9        2    1543 1542  132000  2   1 1   2 1
+"""
 
 # (table, [(line, what is printed)])
 registries = [
@@ -489,6 +500,42 @@ registries = [
     (behind(10, 2468, 1858), [(onward, said(0, 1))]),            # 68 µs less at 10 Mbit/s, the earlier link's speed: 1,842
     (behind(10, 2468, 1857), [(onward, said(23, 0, 2, 1))]),
     (behind(100, 6, 2000), [(onward, said(22, 0, 1, 1))]),       # a threshold below the shortest sending time
+    (chain(3, 11000), [                                          # the held flows as order lines
+        written(0, 0),                                           # none is held
+        written(5, 0),
+        (along(65535, 3), said(0, 1)),
+        (along(8, 1), said(0, 2)),
+        (along(9, 2), said(0, 3)),
+        (gone(8), said(0, 2)),
+        (changed(9, 2, 1543), said(0, 3)),
+        written(114, 0, HELD),                                   # an area just long enough
+        written(113, 43),                                        # one byte too short
+        written(0, 43),
+        written(115, 0, HELD),
+        written(300, 0, HELD),
+        put(SLOTS, slot(1, 0), 65535), put(SLOTS, slot(1, 5), 999999999),        # a free slot's numbers mean nothing
+        written(114, 0, HELD),
+        put(SUMS, 0, 4),                                         # a figure off by one
+        written(300, 42),
+        written(113, 42),                                        # 42 before 43
+        written(0, 42),
+        put(SUMS, 0, 3),
+        put(BITS, 1, 1),                                         # a slot held without a flow
+        written(300, 42),
+        put(BITS, 1, 0),
+        put(SLOTS, slot(2, 6), 2),                               # a path that starts elsewhere
+        written(300, 42),
+        put(SLOTS, slot(2, 6), 3),
+        written(114, 0, HELD),
+        (gone(9), said(0, 3)),
+        (gone(65535), said(0, 1)),
+        written(0, 0),
+    ]),
+    (row(1, 1, 2, 10000, 1, 100000, 16777215), [                 # the widest numbers
+        (reg(number=65535, rate=9999999, burst=1000000, frame=1542, deadline=10000000), said(0, 1)),
+        written(50, 0, " 1 65535  9999999 1000000 154210000000  1   1 1\n"),
+    ]),
+    (one[:-1], [written(3, 0)]),                                 # a refused table
 ]
 
 

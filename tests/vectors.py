@@ -2,12 +2,13 @@
 """Runs a program on the stored cases and compares what it prints with printed.txt, byte by byte; what it says on standard
 error too, where that is known.
 
-    tests/vectors.py PROGRAM admit|host|replay [ARGUMENT ..]
+    tests/vectors.py PROGRAM admit|host|replay|handover [ARGUMENT ..]
 
 A host has the cases of admit, and its standard error isn't compared.
 The arguments are passed on to the program, which must print the same with them.
 Each case runs in a folder of its own that holds just the case's input files. After the stored cases come some by hand: files
-that are missing, a folder, unended or far too long, and changes. The first difference ends the run; no case at all is a failure."""
+that are missing, a folder, unended or far too long, changes, and registries with gaps or full. The first difference ends
+the run; no case at all is a failure."""
 import shutil
 import subprocess
 import sys
@@ -16,7 +17,11 @@ from pathlib import Path
 
 ROOT = Path(__file__).resolve().parent.parent
 STORED = ROOT / "tests" / "vectors"
-EXAMPLES = [ROOT / "examples", ROOT / "examples" / "hall", ROOT / "examples" / "fragmented"]
+OF_CALLS = ["replay", "handover"]  # a stored case is of the one that its name holds, else of admit
+EXAMPLES = {"admit": [".", "hall", "fragmented"], "handover": ["handover"]}
+# What `handover` says of a stored case, where it says anything: `replay` prints it of the same table.txt and calls.txt. The one of 9
+# columns is a refused table's code and line; `end` has the length of the whole calls before what is none.
+SAID = {"handover05": b"end      2916\n", "handover08": b"end      3821\n", "handover09": b"  1     1\n"}
 FOLDER = object()  # stands for a folder in a file's place
 SECONDS = 60
 REFUSED_BYTES = 10  # a refused batch's line
@@ -36,6 +41,32 @@ REFUSED_CHANGES = [
     (b" 3     7     1000   1980\n", b" 10   0   0 0\n"),
 ]
 DONE = b"  0   1   0 0\n"
+CALL_BYTES = 200_000
+SLOTS = 256
+HOP_ENTRIES = 1_024
+
+
+def chain(links):
+    """A table of links one after the other, with much room."""
+    return b"".join(b"%4d%4d%4d 10000 1   1000   100000\n" % (link, link, link + 1) for link in range(1, links + 1))
+
+
+def flow(number, hops=1, rate=1, burst=84):
+    """A registration over a chain's first links."""
+    head = b" 1%6d%9d%8d%5d%8d%3d" % (number, rate, burst, 84, 12_000, hops)
+    return head + b"".join(b"%4d 1" % link for link in range(1, hops + 1)) + b"\n"
+
+
+def release(number):
+    return b" 2%6d\n" % number
+
+
+TWELVE = chain(12)
+FOUR = [flow(number, hops=number) for number in range(1, 5)]
+FULL = [flow(number) for number in range(1, SLOTS + 1)]
+LONG_PATHS = [flow(number, hops=12) for number in range(1, 86)] + [flow(86, hops=4)]
+ALL_ROOM = [flow(number, hops=HOP_ENTRIES // SLOTS) for number in range(1, SLOTS + 1)]
+WIDEST = b" 1 65535  9999999 1000000 154210000000  1   1 1\n"
 
 
 def answered(lines):
@@ -47,8 +78,25 @@ def call(kind, given):
     return b"%2d%6d\n%b" % (kind, len(given), given)
 
 
-NO_TABLE = b"admit: table.txt: can't be opened, counts as empty\n"
-NO_ORDERS = b"admit: orders.txt: can't be opened, counts as empty\n"
+def calls(*lines):
+    """Each line as the call that it is for."""
+    return b"".join(call(int(line[:2]), line) for line in lines)
+
+
+def unopened(program, name):
+    return f"{program}: {name}.txt: can't be opened, counts as empty\n".encode()
+
+
+def handed(lines, held, table=TWELVE, after=b"", said=b""):
+    """A case of handover: the calls for these lines, then whatever follows; the lines that are printed."""
+    return {"table.txt": table, "calls.txt": calls(*lines) + after}, b"".join(held), said
+
+
+# A call that is given no line, as long that just one of a registration is read behind it.
+FILLING = call(2, b"x" * (CALL_BYTES - len(call(2, b"")) - len(calls(REGISTER))))
+NO_TABLE = unopened("admit", "table")
+NO_ORDERS = unopened("admit", "orders")
+LONG_LIST = b"handover: calls.txt: only the first 200,000 bytes count\n"
 LONG_TABLE = b"admit: refused: the table is too long\n"
 
 # name: (files, printed, said); the expected lines are given by hand. What isn't given is nothing.
@@ -85,17 +133,52 @@ BY_HAND = {
         "a cut call": ({"table.txt": TABLE, "calls.txt": b" 2     9\n" + RELEASE[:-1]}, b"end         0\n" + FIGURES),
         "a table of 30 MB": ({"table.txt": TABLE * 810_811, "calls.txt": b" 2     9\n" + RELEASE}, b"  5     0\n 13   0   0 0\n"),
     },
+    "handover": {
+        "no files": ({}, b"", unopened("handover", "table") + unopened("handover", "calls")),
+        "no calls": ({"table.txt": TABLE}, b"", unopened("handover", "calls")),
+        "no table": ({"calls.txt": calls(REGISTER)}, b"", unopened("handover", "table")),
+        "folders": ({"table.txt": FOLDER, "calls.txt": FOLDER}, b""),
+        "a folder for a table": ({"table.txt": FOLDER, "calls.txt": calls(REGISTER)}, b""),
+        "a folder for calls": ({"table.txt": TABLE, "calls.txt": FOLDER}, b""),
+        "refused calls": handed([REGISTER, REGISTER, FOUR[1], RELEASE.replace(b"7", b"8")], [REGISTER], TABLE),
+        "gaps": handed([*FOUR, release(1), release(3)], [FOUR[1], FOUR[3]]),
+        "a later flow at a lower place": handed([*FOUR, release(2), flow(9)], [FOUR[0], flow(9), *FOUR[2:]]),
+        "a change": handed([REGISTER, CHANGE, *(line for line, _ in REFUSED_CHANGES)], [REGISTER.replace(b"1542 1542", b"1980 1542")], TABLE),
+        "a change of a path of twelve": handed([*FOUR, flow(9, 12), b" 3     9       50     300\n"], [*FOUR, flow(9, 12, 50, 300)]),
+        "all released": handed([*FOUR, *map(release, range(1, 5))], []),
+        "the widest numbers": handed([WIDEST], [WIDEST], b"   1   1   2 10000 1 100000 16777215\n"),
+        "256 flows": handed([*FULL, flow(300)], FULL),
+        "256 flows, one of them later": handed([*FULL, release(100), flow(300)], [*FULL[:99], flow(300), *FULL[100:]]),
+        "1,024 hop entries": handed([*LONG_PATHS, flow(87)], LONG_PATHS),
+        "1,024 hop entries and gaps": handed([*LONG_PATHS, release(1), flow(87, hops=11), release(2)], [flow(87, hops=11), *LONG_PATHS[2:]]),
+        "the longest text": handed(ALL_ROOM, ALL_ROOM),
+        "a refused table": handed(FOUR, [], TWELVE + b"x\n", said=b"  1    13\n"),
+        "an ended list": handed(FOUR, FOUR, after=calls(flow(9))[:-1], said=b"end%10d\n" % len(calls(*FOUR))),
+        "a call of kind 4": handed(FOUR, FOUR, after=call(4, flow(9)) + calls(release(1)), said=b"end%10d\n" % len(calls(*FOUR))),
+        "a refused table and an ended list": handed(FOUR, [], TWELVE[:-1], b"x", b"  1    12\nend%10d\n" % len(calls(*FOUR))),
+        "200,000 bytes of calls": ({"table.txt": TABLE, "calls.txt": FILLING + calls(REGISTER)}, REGISTER),
+        "a byte more": ({"table.txt": TABLE, "calls.txt": FILLING + calls(REGISTER) + b"x"}, REGISTER, LONG_LIST),
+        "calls past 200,000 bytes": ({"table.txt": TABLE, "calls.txt": FILLING + calls(REGISTER, RELEASE)}, REGISTER, LONG_LIST),
+        "a call cut at 200,000 bytes": ({"table.txt": TABLE, "calls.txt": b" 2     0\n" + FILLING + calls(REGISTER, RELEASE)}, b"",
+            LONG_LIST + b"end%10d\n" % (CALL_BYTES - len(calls(REGISTER)) + 9)),
+        "a table of 30 MB": ({"table.txt": TABLE * 810_811, "calls.txt": calls(REGISTER)}, b"", b"  5     0\n"),
+    },
 }
 
 
 def stored(kind):
-    """The stored cases of this kind, and for admit the examples: name, input files, printed.txt."""
-    found = [path for path in sorted(STORED.iterdir()) if path.is_dir() and ("replay" in path.name) == (kind == "replay")]
-    if found and kind == "admit":
-        found += EXAMPLES
+    """The stored cases of this kind, and examples: name, input files, printed.txt."""
+    found = [path for path in sorted(STORED.iterdir()) if path.is_dir() and kind == next((name for name in OF_CALLS if name in path.name), "admit")]
+    if found:
+        found += [ROOT / "examples" / name for name in EXAMPLES.get(kind, [])]
     for folder in found:
         inputs = [path for path in folder.glob("*.txt") if path.name != "printed.txt"]
         yield folder.name, {path.name: path.read_bytes() for path in inputs}, (folder / "printed.txt").read_bytes()
+
+
+def known_words(kind, name, expected):
+    """What a program says of a stored case; of a refused batch `admit` says more than is known here."""
+    return None if kind == "admit" and len(expected) == REFUSED_BYTES else SAID.get(name, b"")
 
 
 def fill(folder, files):
@@ -150,7 +233,7 @@ def judge_full(command):
 
 def main(arguments):
     if len(arguments) < 2 or arguments[1] not in [*BY_HAND, "host"]:
-        sys.exit("usage: tests/vectors.py PROGRAM admit|host|replay [ARGUMENT ..]")
+        sys.exit("usage: tests/vectors.py PROGRAM admit|host|replay|handover [ARGUMENT ..]")
     program, named, *passed = arguments
     kind, heard = ("admit", False) if named == "host" else (named, True)
     command = [str(Path(program).resolve()), *passed]
@@ -158,8 +241,7 @@ def main(arguments):
     if not cases:
         sys.exit(f"vectors: no case of {kind} in {STORED}")
     for name, files, expected in cases:
-        said = b"" if heard and len(expected) != REFUSED_BYTES else None
-        judge(command, name, files, expected, said)
+        judge(command, name, files, expected, known_words(kind, name, expected) if heard else None)
     by_hand = BY_HAND[kind]
     for name, (files, expected, *said) in by_hand.items():
         judge(command, name, files, expected, b"".join(said) if heard else None)

@@ -6,18 +6,19 @@ use crate::clock::children_time;
 use crate::compare::direct::{call_bytes, call_kind};
 use crate::fast;
 use crate::loads;
+use crate::process::{Folder, Program};
 use crate::rounds::{report, Bars, Limits, Measured, Round};
 use crate::versions::{BOOK, COUNTED, FAST, PROVED};
 use crate::views::Version;
 use halls::input;
 use halls::rng::Rng;
 use plain::columns::lines;
-use plain::programs::{put_calls, put_refusal, put_state, replay, write_call};
+use plain::handover::Printed;
+use plain::programs::{make_calls, put_calls, put_refusal, put_state, replay, write_call};
 use plain::registry::Answer;
-use std::fs;
+use plain::table::Refusal;
 use std::io;
-use std::path::{Path, PathBuf};
-use std::process::{Command, Stdio};
+use std::path::Path;
 
 /// The command word with which this program replays a list on a version's registry.
 pub const VERSION_REPLAY: &str = "version-replay";
@@ -26,23 +27,54 @@ pub const VERSION_REPLAY: &str = "version-replay";
 pub fn version_replay<R: Version>(table: &[u8], calls: &[u8]) -> Vec<u8> {
     let mut printed = Vec::new();
     let mut registry = Box::new(R::EMPTY);
-    let (code, line) = registry.open(table);
-    if code != 0 {
-        put_refusal(&mut printed, u64::from(code), u64::from(line));
+    if let Some(refusal) = opened(registry.as_mut(), table) {
+        put_refusal(&mut printed, refusal.code, refusal.line);
     }
     put_calls(&mut printed, calls, |kind, given| {
-        let answer = registry.call(kind as u32, given);
-        Answer {
-            code: u64::from(answer.code),
-            slot: u64::from(answer.slot),
-            link: u64::from(answer.link),
-            level: u64::from(answer.level),
-        }
+        called(registry.as_mut(), kind, given)
     });
     let seen = registry.view();
     put_state(&mut printed, &seen.queues, &seen.stored, &seen.slots);
     printed
 }
+
+/// A version's registry opened on a table, and the refusal where there is one.
+fn opened<R: Version>(registry: &mut R, table: &[u8]) -> Option<Refusal> {
+    let (code, line) = registry.open(table);
+    (code != 0).then(|| Refusal {
+        code: u64::from(code),
+        line: u64::from(line),
+    })
+}
+
+/// A version's answer to a call, as the plain one's.
+fn called<R: Version>(registry: &mut R, kind: u64, given: &[u8]) -> Answer {
+    let answer = registry.call(kind as u32, given);
+    Answer {
+        code: u64::from(answer.code),
+        slot: u64::from(answer.slot),
+        link: u64::from(answer.link),
+        level: u64::from(answer.level),
+    }
+}
+
+/// What `handover` leaves, from a version's registry.
+fn version_handover<R: Version>(table: &[u8], calls: &[u8]) -> Printed {
+    let mut registry = Box::new(R::EMPTY);
+    let refused = opened(registry.as_mut(), table);
+    let made = make_calls(calls, |kind, given| called(registry.as_mut(), kind, given));
+    Printed::of(calls, refused, &made, &registry.view().slots)
+}
+
+/// What `handover` leaves for a table and a list of calls.
+pub type Handover = fn(&[u8], &[u8]) -> Printed;
+
+/// What `handover` leaves, from each version's registry.
+pub const HANDOVERS: [(&str, Handover); 3] = [
+    (BOOK, version_handover::<book::Registry>),
+    (COUNTED, version_handover::<book::Registry<Counted>>),
+    (FAST, version_handover::<fast::Registry>),
+];
 
 /// What is printed for a table and a list of calls.
 pub type Replay = fn(&[u8], &[u8]) -> Vec<u8>;
@@ -54,58 +86,17 @@ pub const REPLAYS: [(&str, Replay); 3] = [
     (FAST, version_replay::<fast::Registry>),
 ];
 
-/// A folder of its own for a program's files; it goes when this does.
-struct Folder(PathBuf);
-
-impl Folder {
-    fn with(name: &str, table: &[u8], calls: &[u8]) -> io::Result<Folder> {
-        let path = std::env::temp_dir().join(format!("checker-{}-{name}", std::process::id()));
-        fs::create_dir_all(&path)?;
-        let folder = Folder(path);
-        fs::write(folder.0.join("table.txt"), table)?;
-        fs::write(folder.0.join("calls.txt"), calls)?;
-        Ok(folder)
-    }
-}
-
-impl Drop for Folder {
-    fn drop(&mut self) {
-        // A folder left behind in the temporary one does no harm.
-        let _ = fs::remove_dir_all(&self.0);
-    }
-}
-
-/// A program and the words it is started with.
-struct Program {
-    path: PathBuf,
-    words: Vec<&'static str>,
-}
-
-impl Program {
-    fn printed_in(&self, folder: &Path) -> io::Result<Vec<u8>> {
-        let done = Command::new(&self.path)
-            .args(&self.words)
-            .current_dir(folder)
-            .stdin(Stdio::null())
-            .output()?;
-        if !done.status.success() {
-            return Err(io::Error::other(format!("ended with {}", done.status)));
-        }
-        Ok(done.stdout)
-    }
-}
-
 /// The words that `replay` is started with: calls by value, and in place.
 const FORMS: [&[&str]; 2] = [&[], &["in-place"]];
 
 /// Runs so many lists of calls through the program, each by value and in place; the first
 /// difference from the plain version ends the run. Gives the number of calls.
 pub fn compare(program: &Path, seed: u64, count: u64) -> Result<u64, String> {
-    let path = program.canonicalize().map_err(|error| error.to_string())?;
-    let programs = FORMS.map(|words| Program {
-        path: path.clone(),
-        words: words.to_vec(),
-    });
+    let mut programs = Vec::new();
+    for words in FORMS {
+        let form = Program::at(program, words);
+        programs.push(form.map_err(|error| error.to_string())?);
+    }
     let mut made = 0;
     for index in 0..count {
         let mut rng = Rng::new(seed, index);
@@ -113,10 +104,10 @@ pub fn compare(program: &Path, seed: u64, count: u64) -> Result<u64, String> {
         let expected = replay(&table, &list);
         for program in &programs {
             let words = &program.words;
-            let printed = Folder::with("compare", &table, &list)
-                .and_then(|folder| program.printed_in(&folder.0))
+            let printed = Folder::with(&table, &list)
+                .and_then(|folder| program.run_in(&folder))
                 .map_err(|error| format!("seed {seed} list {index} {words:?}: {error}"))?;
-            if printed != expected {
+            if printed.out != expected {
                 return Err(format!(
                     "seed {seed} list {index} {words:?}: what is printed differs"
                 ));
@@ -127,9 +118,17 @@ pub fn compare(program: &Path, seed: u64, count: u64) -> Result<u64, String> {
     Ok(made)
 }
 
-/// A table and a batch's orders as calls, some of them to another call, cut or doubled; now and
-/// then the list itself is cut.
+/// A table and a list of calls; now and then the list is cut.
 fn random_list(rng: &mut Rng) -> (Vec<u8>, Vec<u8>, u64) {
+    let (table, mut list, calls) = whole_list(rng);
+    if rng.once_in(5) {
+        list.truncate(rng.index(list.len() + 1));
+    }
+    (table, list, calls)
+}
+
+/// A table and a batch's orders as calls, some of them to another call, cut or doubled.
+pub fn whole_list(rng: &mut Rng) -> (Vec<u8>, Vec<u8>, u64) {
     let given = input(rng, false);
     let faulty = rng.once_in(2);
     let mut list = Vec::new();
@@ -138,9 +137,6 @@ fn random_list(rng: &mut Rng) -> (Vec<u8>, Vec<u8>, u64) {
         let kind = call_kind(rng, line.bytes, faulty);
         list.extend(write_call(kind, &call_bytes(rng, line.bytes, faulty)));
         calls += 1;
-    }
-    if rng.once_in(5) {
-        list.truncate(rng.index(list.len() + 1));
     }
     (given.table, list, calls)
 }
@@ -156,10 +152,10 @@ pub fn bench(program: &Path, limits: Limits, bars: &mut Bars) -> io::Result<bool
     for load in loads::call_lists(1) {
         let title = format!("direct calls by processes, {}, 42 checked", load.name);
         let cuts = Cuts::of(&load)?;
-        let whole = &cuts.folders[cuts.folders.len() - 1].0;
-        let expected = programs[0].1.printed_in(whole)?;
+        let whole = &cuts.folders[cuts.folders.len() - 1];
+        let expected = programs[0].1.run_in(whole)?;
         for (_, program) in &programs[1..] {
-            if program.printed_in(whole)? != expected {
+            if program.run_in(whole)? != expected {
                 println!("{title}: answers differ");
                 return Ok(false);
             }
@@ -184,17 +180,10 @@ pub fn bench(program: &Path, limits: Limits, bars: &mut Bars) -> io::Result<bool
 
 /// The program named, and this one for each version.
 fn programs(program: &Path) -> io::Result<Vec<(&'static str, Program)>> {
-    let named = Program {
-        path: program.canonicalize()?,
-        words: Vec::new(),
-    };
-    let mut programs = vec![(PROVED, named)];
+    let mut programs = vec![(PROVED, Program::at(program, &[])?)];
+    let own = std::env::current_exe()?;
     for (name, _) in REPLAYS {
-        let version = Program {
-            path: std::env::current_exe()?,
-            words: vec![VERSION_REPLAY, name],
-        };
-        programs.push((name, version));
+        programs.push((name, Program::at(&own, &[VERSION_REPLAY, name])?));
     }
     Ok(programs)
 }
@@ -212,8 +201,7 @@ impl Cuts {
         let tenth = load.steady.len() / 10;
         let mut folders = Vec::new();
         for calls in [start, start + tenth, end - tenth, end] {
-            let name = format!("cut-{calls}");
-            folders.push(Folder::with(&name, &load.table, &load.text(calls))?);
+            folders.push(Folder::with(&load.table, &load.text(calls))?);
         }
         Ok(Cuts {
             calls: load.steady.len(),
@@ -228,7 +216,7 @@ impl Cuts {
         for (cut, folder) in self.folders.iter().enumerate() {
             for ((_, program), times) in programs.iter().zip(&mut times) {
                 let before = children_time();
-                program.printed_in(&folder.0)?;
+                program.run_in(folder)?;
                 times[cut] = children_time() - before;
             }
         }

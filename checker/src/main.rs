@@ -1,9 +1,12 @@
 //! The checker's commands.
 
+use checker::process::Program;
 use checker::sequences::{only_the_first_grows, Judges};
 use checker::sim::Fault;
-use checker::{bench, compare, lists, search, sequences, simulate, vectors};
+use checker::{bench, compare, handover, lists, search, sequences, simulate, vectors};
 use halls::tables::{Bounds, Count};
+use plain::handover::Printed;
+use std::fmt::Debug;
 use std::io::Write;
 use std::path::Path;
 use std::process::ExitCode;
@@ -11,12 +14,14 @@ use std::process::ExitCode;
 const USAGE: &str = "usage:
   checker admit                     (table.txt and orders.txt of the current folder)
   checker replay                    (table.txt and calls.txt)
+  checker handover                  (table.txt and calls.txt)
   checker vectors DIR
   checker compare --seed S --count N [--long]
   checker words --seed S --count N
   checker sequences --seed S --count N
   checker simulate --seed S --count N
   checker compare-replay PROGRAM --seed S --count N
+  checker compare-handover PROGRAM --seed S --count N
   checker bench [--seconds S] [--replay PROGRAM] [--bars]";
 
 fn main() -> ExitCode {
@@ -25,10 +30,12 @@ fn main() -> ExitCode {
     let passed = match words.as_slice() {
         ["admit"] => Some(print(&vectors::admit_in(Path::new(".")))),
         ["replay"] => Some(print(&vectors::replay_in(Path::new(".")))),
+        ["handover"] => Some(print_both(&vectors::handover_in(Path::new(".")))),
         ["vectors", folder] => Some(report(folder, vectors::run(Path::new(folder)))),
         [lists::VERSION_REPLAY, version] => version_replay(version),
         ["compare", options @ ..] => run_compare(options),
         ["compare-replay", program, options @ ..] => run_compare_replay(program, options),
+        ["compare-handover", program, options @ ..] => run_compare_handover(program, options),
         ["words", options @ ..] => run_words(options),
         ["sequences", options @ ..] => run_sequences(options),
         ["simulate", options @ ..] => run_simulate(options),
@@ -76,6 +83,10 @@ fn print(text: &[u8]) -> bool {
     std::io::stdout().write_all(text).is_ok()
 }
 
+fn print_both(printed: &Printed) -> bool {
+    print(&printed.out) && std::io::stderr().write_all(&printed.said).is_ok()
+}
+
 /// What a version's registry makes of the current folder's list of calls.
 fn version_replay(version: &str) -> Option<bool> {
     let (_, replay) = lists::REPLAYS.iter().find(|(name, _)| *name == version)?;
@@ -100,6 +111,26 @@ fn run_compare_replay(program: &str, options: &[&str]) -> Option<bool> {
             Some(calls > 0)
         }
     }
+}
+
+fn run_compare_handover(program: &str, options: &[&str]) -> Option<bool> {
+    let (seed, count) = seed_and_count(options)?;
+    let program = Program::at(Path::new(program), &[]).map_err(|error| error.to_string());
+    match program.and_then(|program| handover::compare(&program, seed, count)) {
+        Err(what) => Some(differs(&what)),
+        Ok(met) => {
+            met.print();
+            Some(none_missing(&met.missing()))
+        }
+    }
+}
+
+/// Shows what a run should have met and didn't.
+fn none_missing(missing: &[impl Debug]) -> bool {
+    if !missing.is_empty() {
+        println!("never met: {missing:?}");
+    }
+    missing.is_empty()
 }
 
 fn run_compare(options: &[&str]) -> Option<bool> {
@@ -127,11 +158,7 @@ fn run_words(options: &[&str]) -> Option<bool> {
             let names: Vec<&str> = searches.iter().map(|(name, _)| *name).collect();
             println!("searches: {}", names.join(", "));
             met.print();
-            let missing = met.missing();
-            if !missing.is_empty() {
-                println!("never met: {missing:?}");
-            }
-            Some(missing.is_empty())
+            Some(none_missing(&met.missing()))
         }
     }
 }

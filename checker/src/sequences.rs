@@ -1,14 +1,14 @@
 //! W-205: lists of registrations that are admitted whole, and parts of them, in one order after the other: the same answers,
 //! figures, bounds and flows. Beside them lists with refusals, where another order may let in other flows, or more.
 
-use crate::versions::{versions, Batch};
+use crate::versions::{admitted_in_turn, versions, Batch};
 use halls::input;
 use halls::rng::Rng;
 use plain::causes::DONE;
 use plain::columns::Line;
 use plain::formula::Aggregate;
 use plain::orders::{read_order, write_registration, Flow, Order};
-use plain::programs::{answer_line, begin};
+use plain::programs::begin;
 use plain::registry::{aggregate, aggregate_by, Answer, Registry};
 use plain::slips::{Growth, Slips};
 use plain::table::Queue;
@@ -184,23 +184,9 @@ impl Hall<'_> {
                 return Err(format!("plain: line {}: {answer:?}", index + 1));
             }
         }
-        self.answered(flows)?;
-        Ok(self.left(&registry))
-    }
-
-    /// Whether each version's batch gives just the answers 0 with slots as they come.
-    fn answered(&self, flows: &[Flow]) -> Result<(), String> {
         let orders: Vec<u8> = flows.iter().flat_map(write_registration).collect();
-        let done = (0..flows.len()).flat_map(|index| answer_line(index + 1, &Answer::done(index)));
-        let known: Vec<u8> = done.collect();
-        for (name, batch) in &self.judges.batches {
-            let mut answers = vec![0; known.len()];
-            let outcome = batch(self.table, &orders, &mut answers);
-            if outcome != (0, flows.len() as u32) || answers != known {
-                return Err(format!("{name}: {outcome:?}, or another answer than 0"));
-            }
-        }
-        Ok(())
+        admitted_in_turn(&self.judges.batches, self.table, &orders, flows.len())?;
+        Ok(self.left(&registry))
     }
 
     fn left(&self, registry: &Registry) -> Left {

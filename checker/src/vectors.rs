@@ -1,7 +1,8 @@
 //! Runs stored cases and compares what would be printed, byte by byte.
 
-use crate::lists::REPLAYS;
+use crate::lists::{HANDOVERS, REPLAYS};
 use crate::versions::versions;
+use plain::handover::{handover, Printed};
 use plain::programs::{admit, admit_by, replay};
 use std::fs;
 use std::io;
@@ -22,6 +23,11 @@ pub fn replay_in(folder: &Path) -> Vec<u8> {
     replay(&text(folder, "table.txt"), &text(folder, "calls.txt"))
 }
 
+/// What `handover` leaves in this folder.
+pub fn handover_in(folder: &Path) -> Printed {
+    handover(&text(folder, "table.txt"), &text(folder, "calls.txt"))
+}
+
 /// The folders below `folder` that hold a printed.txt, by name.
 fn cases(folder: &Path) -> io::Result<Vec<PathBuf>> {
     let mut found = Vec::new();
@@ -35,9 +41,10 @@ fn cases(folder: &Path) -> io::Result<Vec<PathBuf>> {
     Ok(found)
 }
 
-fn is_replay(case: &Path) -> bool {
+/// Whether a case is of this program; one of neither list program is of `admit`.
+fn is_of(case: &Path, program: &str) -> bool {
     let name = case.file_name().unwrap_or_default();
-    name.to_string_lossy().contains("replay")
+    name.to_string_lossy().contains(program)
 }
 
 fn differing_line(one: &[u8], other: &[u8]) -> usize {
@@ -49,10 +56,16 @@ fn differing_line(one: &[u8], other: &[u8]) -> usize {
 fn printed_in(case: &Path) -> Vec<(&'static str, Vec<u8>)> {
     let mut found = Vec::new();
     let table = text(case, "table.txt");
-    if is_replay(case) {
+    let calls = text(case, "calls.txt");
+    if is_of(case, "replay") {
         found.push(("plain", replay_in(case)));
         for (name, replay) in REPLAYS {
-            found.push((name, replay(&table, &text(case, "calls.txt"))));
+            found.push((name, replay(&table, &calls)));
+        }
+    } else if is_of(case, "handover") {
+        found.push(("plain", handover_in(case).out));
+        for (name, handover) in HANDOVERS {
+            found.push((name, handover(&table, &calls).out));
         }
     } else {
         found.push(("plain", admit_in(case)));

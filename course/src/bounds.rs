@@ -4,7 +4,7 @@ use crate::arguments::{Arguments, Choice, Command};
 use crate::folder::Folder;
 use crate::numbers::{commas, counted, per_cent};
 use crate::session::{remark, Session};
-use crate::status::{Outcome, Status};
+use crate::status::Outcome;
 use crate::titles::{blocking_by, link_title};
 use plain::formula::Sums;
 use plain::orders::Flow;
@@ -34,16 +34,8 @@ Exit status: 0; 1 a refused batch or an unreadable file; 2 usage.",
 fn bounds(arguments: &Arguments) -> Result<Outcome, Outcome> {
     let after = arguments.number("--after")?;
     let folder = Folder::read(&arguments.words[0])?;
-    let session = Session::run_to(&folder, after.map(|after| after as usize))?;
-    let orders = session.steps.len();
-    if let Some(after) = after.filter(|&after| after > orders as u64) {
-        let words = format!(
-            "course: --after {after}: orders.txt has {} lines",
-            commas(orders)
-        );
-        return Err(Outcome::failed(Status::Usage, words));
-    }
-    let printed = report(&session.registry, orders);
+    let session = Session::run_after(&folder, after)?;
+    let printed = report(&session.registry, session.steps.len());
     Ok(Outcome::fine(printed).with_remark(remark()))
 }
 

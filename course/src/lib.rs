@@ -1,5 +1,5 @@
 //! The course's tool: what is wrong with a hall's two files, why each order is answered as it is, every queue's bounds,
-//! a trainee's answers marked.
+//! the held flows as order lines, a trainee's answers marked.
 
 pub mod arguments;
 pub mod bounds;
@@ -7,6 +7,7 @@ pub mod check;
 pub mod explain;
 pub mod folder;
 pub mod hall;
+pub mod handover;
 pub mod mark;
 pub mod numbers;
 pub mod rows;
@@ -23,6 +24,7 @@ pub const COMMANDS: &[&Command] = &[
     &check::COMMAND,
     &explain::COMMAND,
     &bounds::COMMAND,
+    &handover::COMMAND,
     &mark::COMMAND,
     &hall::COMMAND,
     &traffic::COMMAND,

@@ -91,6 +91,22 @@ impl Session {
         Session::run_to(folder, None)
     }
 
+    /// The batch up to the order that `--after` names; one past the last is a mistake of the command line.
+    pub fn run_after(folder: &Folder, after: Option<u64>) -> Result<Session, Outcome> {
+        let session = Session::run_to(folder, after.map(|after| after as usize))?;
+        let orders = session.steps.len();
+        match after.filter(|&after| after > orders as u64) {
+            None => Ok(session),
+            Some(after) => Err(Outcome::failed(
+                Status::Usage,
+                format!(
+                    "course: --after {after}: orders.txt has {} lines",
+                    commas(orders)
+                ),
+            )),
+        }
+    }
+
     /// The batch up to this order; what comes after it is answered and compared, but not kept.
     pub fn run_to(folder: &Folder, last: Option<usize>) -> Result<Session, Outcome> {
         let (empty, _) = Registry::open(&folder.table);

@@ -2,7 +2,7 @@
 
 mod common;
 
-use common::{course, hall, hall_folder, root, Temporary};
+use common::{course, hall, hall_folder, honest, root, Temporary};
 use course::session::walk_beside;
 use course::status::Status;
 use course::COMMANDS;
@@ -35,7 +35,7 @@ fn help_and_version_on_every_command() {
 fn usage() {
     let hall = hall();
     let sheet = format!("{hall}/printed.txt");
-    let wrong: [&[&str]; 16] = [
+    let wrong: [&[&str]; 19] = [
         &[],
         &["nothing"],
         &["check"],
@@ -45,6 +45,9 @@ fn usage() {
         &["explain", &hall, "--line", "x"],
         &["explain", &hall, "--line", "37"],
         &["bounds", &hall, "--after", "37"],
+        &["handover"],
+        &["handover", &hall, "--after", "37"],
+        &["handover", &hall, "--line", "1"],
         &["mark", &hall],
         &["mark", &hall, "x", "--lines", "1"],
         &["mark", &hall, &sheet, "--lines", "5-3"],
@@ -66,7 +69,7 @@ fn usage() {
 #[test]
 fn unreadable_files() {
     let folder = Temporary::new();
-    for command in ["explain", "bounds", "check"] {
+    for command in ["explain", "bounds", "handover", "check"] {
         let outcome = course(&[command, &folder.word()]);
         assert_eq!(outcome.status, Status::Wrong);
         let told = outcome.errors + &outcome.printed;
@@ -127,10 +130,6 @@ fn the_plain_version_alone_says_so() {
 /// An answer on which the library and the plain version differ is an error.
 #[test]
 fn a_difference_is_an_error() {
-    fn honest(table: &[u8], orders: &[u8], answers: &mut [u8]) -> (u32, u32) {
-        let (code, line) = plain::programs::batch(table, orders, answers);
-        (code as u32, line as u32)
-    }
     fn other(table: &[u8], orders: &[u8], answers: &mut [u8]) -> (u32, u32) {
         let outcome = honest(table, orders, answers);
         if let Some(last) = answers.iter_mut().rev().nth(1) {

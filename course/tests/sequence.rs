@@ -2,29 +2,16 @@
 
 mod common;
 
-use common::{course, example, hall_folder, Temporary};
+use common::{course, example_text, hall_folder, hall_lines, Temporary};
 use course::session::Session;
 use course::status::Status;
 use plain::registry::Answer;
-use std::fs;
 
 /// The sheets' film of the labeller.
 const FILM: &str = " 1   502    80000   12336 1542    9000  1   3 3\n";
 
-fn text(path: &str) -> String {
-    fs::read_to_string(example(path)).unwrap()
-}
-
-/// These lines of the example hall's orders.
-fn hall_lines(numbers: &[usize]) -> String {
-    let orders = text("hall/orders.txt");
-    let lines: Vec<&str> = orders.lines().collect();
-    let line = |&number: &usize| format!("{}\n", lines[number - 1]);
-    numbers.iter().map(line).collect()
-}
-
 fn folder(orders: &str) -> Temporary {
-    Temporary::with(text("hall/table.txt").as_bytes(), orders.as_bytes())
+    Temporary::with(example_text("hall/table.txt").as_bytes(), orders.as_bytes())
 }
 
 /// What `explain` says after the last line's explanation.
@@ -125,7 +112,7 @@ fn nothing_with_a_line_asked_for() {
 
 /// The answers, and the flow at each held place.
 fn answered(orders: &str) -> (Vec<Answer>, Vec<u64>) {
-    let folder = hall_folder(text("hall/table.txt").as_bytes(), orders.as_bytes());
+    let folder = hall_folder(example_text("hall/table.txt").as_bytes(), orders.as_bytes());
     let session = Session::run(&folder).unwrap_or_else(|failed| panic!("{}", failed.errors));
     let held = session.registry.held();
     let numbers = held.iter().map(|flow| flow.number).collect();

@@ -38,6 +38,7 @@ fn the_example_hall() {
         &["bounds", &hall, "--after", "20"],
         Status::Fine,
     );
+    compare("handover-hall.txt", &["handover", &hall], Status::Fine);
     compare("mark-hall.txt", &["mark", &hall, &printed], Status::Fine);
 }
 

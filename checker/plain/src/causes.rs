@@ -32,6 +32,7 @@ codes! {
     NO_HOPS = 31, "too few hop entries";
     AREA = 40, "the answer area is too short";
     ORDER_SIZE = 41, "too many orders";
+    TEXT_AREA = 43, "the area is too short for the text";
 }
 
 /// A line's own causes, before its order is judged.

@@ -106,19 +106,44 @@ pub fn replay(table: &[u8], calls: &[u8]) -> Vec<u8> {
     printed
 }
 
-/// The answers to a list of calls, up to the first that isn't one.
-pub fn put_calls(out: &mut Vec<u8>, calls: &[u8], mut call: impl FnMut(u64, &[u8]) -> Answer) {
+/// The calls of a list that were made.
+pub struct Made {
+    /// Each one's kind and answer.
+    pub answers: Vec<(u64, Answer)>,
+    /// Where the list doesn't close with a whole call: the offset of what follows the last one.
+    pub end: Option<usize>,
+}
+
+/// Makes the calls of a list, up to the first that isn't one.
+pub fn make_calls(calls: &[u8], mut call: impl FnMut(u64, &[u8]) -> Answer) -> Made {
     let calls = &calls[..calls.len().min(MOST_CALL_BYTES)];
+    let mut answers = Vec::new();
     let mut at = 0;
     while at < calls.len() {
         let Some((kind, given)) = next_call(&calls[at..]) else {
-            out.extend_from_slice(b"end");
-            put(out, at as u64, 10);
-            out.push(b'\n');
-            break;
+            let end = Some(at);
+            return Made { answers, end };
         };
-        put_answer(out, &call(kind, given));
+        answers.push((kind, call(kind, given)));
         at += CALL_HEADER + given.len();
+    }
+    Made { answers, end: None }
+}
+
+/// The answers to a list of calls, and where it ends if not with a whole call.
+pub fn put_calls(out: &mut Vec<u8>, calls: &[u8], call: impl FnMut(u64, &[u8]) -> Answer) {
+    let made = make_calls(calls, call);
+    for (_, answer) in &made.answers {
+        put_answer(out, answer);
+    }
+    put_end(out, made.end);
+}
+
+pub fn put_end(out: &mut Vec<u8>, end: Option<usize>) {
+    if let Some(at) = end {
+        out.extend_from_slice(b"end");
+        put(out, at as u64, 10);
+        out.push(b'\n');
     }
 }
 

@@ -43,6 +43,25 @@ pub fn example(path: &str) -> String {
     root().join("examples").join(path).display().to_string()
 }
 
+/// A file of the examples.
+pub fn example_text(path: &str) -> String {
+    fs::read_to_string(example(path)).unwrap()
+}
+
+/// These lines of the example hall's orders.
+pub fn hall_lines(numbers: &[usize]) -> String {
+    let orders = example_text("hall/orders.txt");
+    let lines: Vec<&str> = orders.lines().collect();
+    let line = |&number: &usize| format!("{}\n", lines[number - 1]);
+    numbers.iter().map(line).collect()
+}
+
+/// The plain version in the place of the proved library.
+pub fn honest(table: &[u8], orders: &[u8], answers: &mut [u8]) -> (u32, u32) {
+    let (code, line) = plain::programs::batch(table, orders, answers);
+    (code as u32, line as u32)
+}
+
 pub fn hall_folder(table: &[u8], orders: &[u8]) -> Folder {
     Folder {
         path: PathBuf::from("hall"),

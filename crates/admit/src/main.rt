@@ -2,7 +2,6 @@
 // code in 3 columns, line in 6. A file that can't be opened counts as empty. What stands past the bytes read here makes no
 // difference: a text that fills its area is one byte above its limit, and refused for its size. Standard error says in words
 // what went wrong with a file, the batch or the output.
-ghost use Rattle.io.specs.Counts.{Counts};
 use batch::ANSWER_BYTES;
 use batch::ORDER_BYTES;
 use batch::ORDER_LINES;
@@ -19,22 +18,6 @@ const ANSWERS: usize = ANSWER_BYTES * ORDER_LINES;
 
 fn tell(words: &[u8]) {
     io::write_all(STDERR_FILENO, words);
-}
-
-// How many bytes of the file stand at the start of `text`.
-fn read_file(name: &[u8], text: &mut [u8]) -> usize
-    ensures { λ r. ⌜ Counts r (now (text .exit)) ⌝ }
-{
-    let fd = os::open_read(name);
-    if fd < 0 {
-        tell(b"admit: ");
-        tell(name);
-        tell(b": can't be opened, counts as empty\n");
-        return 0;
-    }
-    let n = io::read_full(fd, text);
-    libc::close(fd);
-    n
 }
 
 fn print(text: &[u8]) {
@@ -89,7 +72,7 @@ fn run(table: &[u8], orders: &[u8]) {
 fn main() {
     let mut table = [0u8; TABLE];
     let mut orders = [0u8; ORDERS];
-    let table_size = read_file(b"table.txt", &mut table);
-    let orders_size = read_file(b"orders.txt", &mut orders);
+    let table_size = text_files::read_or_tell(b"admit", b"table.txt", &mut table);
+    let orders_size = text_files::read_or_tell(b"admit", b"orders.txt", &mut orders);
     run(&table[..table_size], &orders[..orders_size]);
 }

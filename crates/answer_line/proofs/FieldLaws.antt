@@ -5,22 +5,13 @@ use mathlib.Core.Path.{_≡_, refl, sym, ap, ap₂, _∙_}
 use mathlib.Core.List.{List, [], _∷_, _++_, append-assoc}
 use native.Mathlib.Omega.{arith}
 use lib.ListN.{length, take, drop, set, length-append, length-drop, length-set}
-use lib.Seq.{take-at, drop-at, drop-append-add, drop-drop}
+use lib.Seq.{take-at, drop-at, drop-drop}
 use Rattle.model.specs.Columns.{justified, writtenAt}
 use Rattle.model.specs.Reference.{Answer}
 use Rattle.model.specs.Answers.{answerColumns, answerLine}
 use Rattle.model.specs.Laws.Answers.{justified-length, line-length}
 use Rattle.model.specs.Laws.List.{drop-set}
-
--- A field more, after columns already written; what stands after it stays.
-field-next : (done l : List ℕ) (s w n : ℕ) → length done ≡ s → writtenAt (s + 1) (s + w) n (done ++ drop s l) ≡ (done ++ justified w n) ++ drop (s + w) l
-unfolding writtenAt
-field-next done l s w n long =
-    let before : s + 1 - 1 ≡ s = omega arith in
-    let width : s + w - s ≡ w = omega arith in
-    let rest : drop (s + w) (done ++ drop s l) ≡ drop (s + w) l =
-    ap (λ (k : ℕ). drop (k + w) (done ++ drop s l)) (sym long) ∙ drop-append-add done (drop s l) w ∙ drop-drop w s l in
-    rw (before, width) (ap₂ (λ (a b : List ℕ). a ++ (justified w n ++ b)) (take-at done (drop s l) s long) rest ∙ sym (append-assoc done (justified w n) (drop (s + w) l)))
+use Rattle.columns.proofs.PartLaws.{field-next}
 
 -- A part with the columns of an answer written one after the other.
 pub answer-written : (l : List ℕ) (a : Answer)

@@ -2,12 +2,10 @@
 -- Assumes nothing.
 use Prim.Native.Nat.{ℕ, suc, _+_, _-_, _*_, _≤_, _<_}
 use mathlib.Core.Path.{_≡_, refl, sym, ap, ap₂, _∙_}
-use mathlib.Core.List.{List, _∷_, _++_, append-assoc}
+use mathlib.Core.List.{List, _∷_, _++_}
 use native.Mathlib.Omega.{arith}
-use lib.ListN.{length, take, drop, length-append, length-take, length-drop, take-append-drop}
-use lib.Seq.{length-take-le, take-at, drop-append-add, drop-drop}
-use borrow.Rule.Slice.PartMut.{putMid}
-use Rattle.columns.proofs.PartLaws.{part-written}
+use lib.ListN.{length, take, drop, take-append-drop}
+use Rattle.columns.proofs.PartLaws.{text-length, text-next}
 use Rattle.model.specs.Sizes.{orderLines, answerBytes}
 use Rattle.model.specs.Columns.{Line, lines}
 use Rattle.model.specs.Orders.{orderLine}
@@ -54,45 +52,9 @@ pub record Answering (whole orders : List ℕ) (table bits slots pool sums : Lis
       ++ drop (answerBytes * (number + length (lines (drop at orders)))) area)
       ≡ whole
 
--- A line written at a position, with a text to follow and the rest untouched.
-written : (area line more : List ℕ) (offset end : ℕ) → length line ≡ answerBytes → offset + answerBytes ≤ end → end ≤ length area
-    → take (offset + answerBytes) (take offset area ++ (line ++ drop (offset + answerBytes) area)) ++ (more ++ drop end (take offset area ++ (line ++ drop (offset + answerBytes) area)))
-    ≡ take offset area ++ ((line ++ more) ++ drop end area)
-written area line more offset end long low high =
-    let before = take offset area ++ line in
-    let after = drop (offset + answerBytes) area in
-    let size : length before ≡ offset + answerBytes = length-append (take offset area) line ∙ ap₂ (λ (a b : ℕ). a + b) (length-take-le offset area (omega arith)) long in
-    let all : take offset area ++ (line ++ after) ≡ before ++ after = sym (append-assoc (take offset area) line after) in
-    let to : offset + answerBytes + (end - (offset + answerBytes)) ≡ end = omega arith in
-    let front : take (offset + answerBytes) (take offset area ++ (line ++ after)) ≡ before = ap (take (offset + answerBytes)) all ∙ take-at before after (offset + answerBytes) size in
-    let rest : drop end (take offset area ++ (line ++ after)) ≡ drop end area =
-    ap₂ (λ (k : ℕ) (t : List ℕ). drop k t) (sym to ∙ ap (λ (k : ℕ). k + (end - (offset + answerBytes))) (sym size)) all
-    ∙ drop-append-add before after (end - (offset + answerBytes))
-    ∙ drop-drop (end - (offset + answerBytes)) (offset + answerBytes) area
-    ∙ ap (λ (k : ℕ). drop k area) to in
-    ap₂ (λ (a b : List ℕ). a ++ (more ++ b)) front rest
-    ∙ append-assoc (take offset area) line (more ++ drop end area)
-    ∙ ap (λ (t : List ℕ). take offset area ++ t) (sym (append-assoc line more (drop end area)))
-
--- The same of a part lent on.
-pub line-put : (area line : List ℕ) (offset : ℕ) → offset + answerBytes ≤ length area
-    → putMid offset (length area - offset) area (line ++ drop answerBytes (take (length area - offset) (drop offset area)))
-    ≡ take offset area ++ (line ++ drop (offset + answerBytes) area)
-line-put area line offset room =
-    let width : offset + answerBytes - offset ≡ answerBytes = omega arith in
-    ap (λ (k : ℕ). putMid offset (length area - offset) area (line ++ drop k (take (length area - offset) (drop offset area)))) (sym width)
-    ∙ part-written area offset (offset + answerBytes) line (omega arith) room
-
-pub part-long : (area : List ℕ) (offset : ℕ) → offset + answerBytes ≤ length area → answerBytes ≤ length (take (length area - offset) (drop offset area))
-part-long area offset room = simp (length-take, length-drop) (omega (arith, room))
-
-written-length : (area line : List ℕ) (offset : ℕ) → length line ≡ answerBytes → offset + answerBytes ≤ length area
-    → length (take offset area ++ (line ++ drop (offset + answerBytes) area)) ≡ length area
-written-length area line offset long room = simp (length-append, length-take, length-drop, long) (omega (arith, room))
-
-text-next : (number : ℕ) (a : reference.Answer) (more : List reference.Answer) → answerText number (a ∷ more) ≡ answerLine number a ++ answerText (number + 1) more
+answer-next : (number : ℕ) (a : reference.Answer) (more : List reference.Answer) → answerText number (a ∷ more) ≡ answerLine number a ++ answerText (number + 1) more
 unfolding answerText
-text-next number a more =
+answer-next number a more =
     let e : suc number ≡ number + 1 = omega arith in
     ap (λ (k : ℕ). answerLine number a ++ answerText k more) e
 
@@ -128,7 +90,7 @@ module _ {whole orders : List ℕ} {table bits slots pool sums : List ℕ} {size
       let m = length (lines (drop (r .next) orders)) in
       let long = line-length (number + 1) a in
       let ends : number + length (lines (drop at orders)) ≡ number + 1 + m = omega (arith, done .counted) in
-      let size-same : length area′ ≡ length area = ap length is ∙ written-length area line offset long (room-left done .0) in
+      let size-same : length area′ ≡ length area = ap length is ∙ text-length area line offset answerBytes (room-left done .0) long in
       let end-in : answerBytes * (number + 1 + m) ≤ length area = omega (arith, now .room, done .counted) in
       let end-after : offset + answerBytes ≤ answerBytes * (number + 1 + m) = omega (arith, now .placed) in
       record {
@@ -140,8 +102,8 @@ module _ {whole orders : List ℕ} {table bits slots pool sums : List ℕ} {size
         room = rw size-same end-in;
         left =
             ap (λ (l : List ℕ). take (offset + answerBytes) l ++ (answerText (number + 1 + 1) rest ++ drop (answerBytes * (number + 1 + m)) l)) is
-            ∙ written area line (answerText (number + 1 + 1) rest) offset (answerBytes * (number + 1 + m)) long end-after end-in
-            ∙ ap (λ (t : List ℕ). take offset area ++ (t ++ drop (answerBytes * (number + 1 + m)) area)) (sym (text-next (number + 1) a rest))
+            ∙ text-next area line offset answerBytes (room-left done .0) long (answerText (number + 1 + 1) rest) (answerBytes * (number + 1 + m)) end-after
+            ∙ ap (λ (t : List ℕ). take offset area ++ (t ++ drop (answerBytes * (number + 1 + m)) area)) (sym (answer-next (number + 1) a rest))
             ∙ ap₂ (λ (as′ : List reference.Answer) (k : ℕ). take offset area ++ (answerText (number + 1) as′ ++ drop (answerBytes * k) area)) (sym (done .same)) (sym ends)
             ∙ now .left;
       }

@@ -3,7 +3,7 @@ use Prim.Native.Nat.{ℕ}
 use mathlib.Core.Option.{Option, none, some}
 use Rattle.model.specs.Reference as model
 use Rattle.causes.specs.declared.Cause.{Cause}
-use Rattle.causes.specs.declared.Cause.the-variants.{Malformed, OutOfRange, NumberHeld, NumberNotHeld, NoQueue, StartsElsewhere, MetEarlier, FrameAboveBurst, OverDeadline, OverRate, OverDelay, OverBacklog, NoSlot, NoEntries, Inconsistent}
+use Rattle.causes.specs.declared.Cause.the-variants.{Malformed, OutOfRange, NumberHeld, NumberNotHeld, NoQueue, StartsElsewhere, MetEarlier, FrameAboveBurst, OverDeadline, OverRate, OverDelay, OverBacklog, NoSlot, NoEntries, Inconsistent, AreaTooShort}
 use Rattle.causes.specs.declared.Finding.{Finding}
 use Rattle.causes.specs.declared.Finding.the-variants.{Nothing, Against}
 use Rattle.causes.specs.declared.Numbers.{Numbers}
@@ -28,6 +28,7 @@ causeOf (OverBacklog link level) = record { code = 23; link = link; level = leve
 causeOf NoSlot = bare 30
 causeOf NoEntries = bare 31
 causeOf Inconsistent = bare 42
+causeOf AreaTooShort = bare 43
 
 abbrev pub findingOf : Finding → Option model.Cause
 findingOf Nothing = none

@@ -1,5 +1,5 @@
-// What an order line or a direct call can be refused for (document 01, "Who can cause which refusal"), each cause with what an
-// answer line names beside its code.
+// What an order line, a direct call or a writer of texts can be refused for (document 01, "Who can cause which refusal"), each
+// cause with what an answer line names beside its code.
 ghost use mathlib.Core.Path.{_≡_};
 ghost use Rattle.causes.specs.View.{causeOf, numbersIn};
 
@@ -34,6 +34,8 @@ pub enum Cause {
     NoEntries,
     // 42: a registry that isn't consistent.
     Inconsistent,
+    // 43: a lent area too short for a text.
+    AreaTooShort,
 }
 
 // What a check finds.
@@ -86,5 +88,6 @@ pub fn numbers_of(cause: Cause) -> Numbers
         Cause::NoSlot => bare(30),
         Cause::NoEntries => bare(31),
         Cause::Inconsistent => bare(42),
+        Cause::AreaTooShort => bare(43),
     }
 }

@@ -48,9 +48,19 @@ causeCodes = lineCodes ++ heldCodes ++ burstCodes ++ registerCodes ++ hopCodes +
 abbrev pub orderCodes : List ℕ
 orderCodes = 0 ∷ causeCodes
 
--- A direct call: an answer line's, and 42.
+-- A registry that isn't consistent; a direct call.
+abbrev pub registryCodes : List ℕ
+registryCodes = 42 ∷ []
+
 abbrev pub callCodes : List ℕ
-callCodes = 42 ∷ orderCodes
+callCodes = registryCodes ++ orderCodes
+
+-- A lent area that is too short; a writer of texts (W-204).
+abbrev pub areaCodes : List ℕ
+areaCodes = 43 ∷ []
+
+abbrev pub writerCodes : List ℕ
+writerCodes = 0 ∷ (registryCodes ++ areaCodes)
 
 -- Causes against a line of the table; a table text.
 abbrev pub rowCodes : List ℕ

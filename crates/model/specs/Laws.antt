@@ -8,6 +8,7 @@ pub mod Formula
 pub mod HandSums
 pub mod Columns
 pub mod Answers
+pub mod Fields
 pub mod LinkCheck
 pub mod LinkSteps
 pub mod Aggregates
@@ -22,6 +23,7 @@ pub mod Reference
 pub mod Room
 pub mod Reached
 pub mod AnyOrder
+pub mod Handover
 pub mod WholeThresholds
 pub mod Schedulable
 pub mod Carries

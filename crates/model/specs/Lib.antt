@@ -21,6 +21,7 @@ pub mod Outcomes
 pub mod WholeThresholds
 pub mod Part
 pub mod AnyOrder
+pub mod Handover
 pub mod Run
 pub mod Punctual
 pub mod Delivery

@@ -1,33 +1,36 @@
 -- The headline facts in a page: what one call on the reference model (document 01: the plain book) does, when a registration and a change are admitted, when room lacks, that no frame is late or lost and every one arrives,
--- that the order of registrations that are all admitted doesn't matter, and that nothing admitted by whole thresholds is lost.
+-- that the order of registrations that are all admitted doesn't matter, that nothing admitted by whole thresholds is lost, and that held flows written as order lines are all admitted again.
 -- Each is a fact of another file, said again in the paper's terms. Assumes nothing.
-use Prim.Native.Nat.{ℕ}
+use Prim.Native.Nat.{ℕ, _≤_}
 use mathlib.Core.Path.{_≡_, refl, ap, sym, subst, _∙_}
 use mathlib.Core.Bool.{true}
 use mathlib.Core.Logic.{_↔_}
 use mathlib.Core.List.{List, map}
 use mathlib.Core.Option.{none, some, Option·some-injective}
-use lib.ListN.{getD}
+use lib.ListN.{length, getD}
 use Rattle.model.specs.Words.{All}
+use Rattle.model.specs.Sizes.{handoverMost}
 use Rattle.model.specs.Columns.{Line}
-use Rattle.model.specs.QueueTable.{Table, readTable}
-use Rattle.model.specs.Orders.{Flow, Change, Order, register, release, change, changeInRange, changing, kindNumber, orderLine}
+use Rattle.model.specs.QueueTable.{Table, TableText, accepted, readTable}
+use Rattle.model.specs.Orders.{Flow, Change, Order, register, release, change, changeInRange, registering, changing, kindNumber, orderLine}
 use Rattle.model.specs.Timely.{Timely}
 use Rattle.model.specs.Laws.Run.Punctual.{punctual}
 use Rattle.model.specs.Laws.Run.Delivery.{in-time, none-lost, arrives}
-use Rattle.model.specs.Reference.{State, Call, heldFlows, changed, callOrder, apply, step, opened, orderAnswers, final}
+use Rattle.model.specs.Reference.{State, Call, heldFlows, changed, callOrder, apply, step, tableOf, opened, orderAnswers, final}
 use Rattle.model.specs.Codes.{Listed, TextListed, BatchListed}
 use Rattle.model.specs.Batch.{lineAnswers, batch}
 use Rattle.model.specs.Consistent.{flowInRange, flowsConsistent, consistent}
 use Rattle.model.specs.Part.{Part}
 use Rattle.model.specs.AnyOrder.{AdmittedWhole, AnyOrder}
+use Rattle.model.specs.Handover.{flowLine, handoverText, handoverBytes, HandsOver}
 use Rattle.model.specs.Outcomes.{NoneApplies, withSlot, Decided, earlyFindings, NoRoom, Full}
 use Rattle.model.specs.WholeThresholds as before
 use Rattle.model.specs.Laws.Reference.{registered-zero}
 use Rattle.model.specs.Laws.Order.{call-readable, line-readable, ranged}
-use Rattle.model.specs.Laws.Consistent.{flows-rules, rules-flows, flows-part}
+use Rattle.model.specs.Laws.Consistent.{FlowsRules, flows-rules, rules-flows, flows-part}
 use Rattle.model.specs.Laws.Reached.{StateRules, state-rules, rules-state, one-slot, registered-again, changed-ranged, released-from, apply-keeps, reached}
 use Rattle.model.specs.Laws.AnyOrder.{registered-exactly, in-any-order}
+use Rattle.model.specs.Laws.Handover.{text-long, bytes-most, hands-over, calls-read}
 use Rattle.model.specs.Laws.WholeThresholds.{flows-less, order-same, lines-same}
 use Rattle.model.specs.Laws.Schedulable.{schedulable}
 use Rattle.model.specs.Laws.Decided.{decided, listed}
@@ -143,6 +146,34 @@ whole-order = order-same
 -- Order lines that were all carried out by them, one after the other, are answered just the same.
 pub whole-lines : (s : State) (ls : List Line) → All (λ a. a .code ≡ 0) (before.lineAnswers s ls) → lineAnswers s ls ≡ before.lineAnswers s ls
 whole-lines = lines-same
+
+-- W-204. Flows that are consistent on the table of a text, written as order lines: read as a batch's orders over it, all of them are admitted, and the same flows
+-- stand in slots 1, 2, 3, ..
+pub handover : (table : List ℕ) (fs : List Flow) → flowsConsistent (opened table .table) fs ≡ true → HandsOver table fs
+handover table fs e = hands-over table fs (flows-rules (opened table .table) fs e)
+
+-- So it is with the flows of every consistent state, whether calls led to it or not, over every table text that reads as its table.
+pub handover-state : (s : State) → consistent s ≡ true → (table : List ℕ) → readTable table ≡ accepted (s .table) → HandsOver table (heldFlows (s .slots))
+unfolding opened tableOf
+handover-state s ok table e =
+    let fs = heldFlows (s .slots) in
+    hands-over table fs (subst (λ (t : TableText). FlowsRules (tableOf t) fs) (sym e) (state-rules s ok .flows))
+
+-- The text has 42 + 6 × hops bytes, summed over the flows, and never more than room allows.
+pub handover-bytes : (fs : List Flow) → length (handoverText fs) ≡ handoverBytes fs
+handover-bytes = text-long
+
+pub handover-most : (s : State) → consistent s ≡ true → handoverBytes (heldFlows (s .slots)) ≤ handoverMost
+handover-most s ok = bytes-most (s .table) (heldFlows (s .slots)) (state-rules s ok .flows)
+
+-- And with flows that were consistent by whole thresholds, before W-208.
+pub handover-whole : (table : List ℕ) (fs : List Flow) → before.flowsConsistent (opened table .table) fs ≡ true → HandsOver table fs
+handover-whole table fs e = handover table fs (whole-consistent (opened table .table) fs e)
+
+-- A direct call with one line of the text registers its flow.
+pub handover-call : (table : List ℕ) (fs : List Flow) → flowsConsistent (opened table .table) fs ≡ true
+    → All (λ f. callOrder (record { kind = registering; bytes = flowLine f }) ≡ register f) fs
+handover-call table fs e = calls-read table fs (flows-rules (opened table .table) fs e)
 
 -- Mission, line 1: what a table text is refused for, what a batch returns, and that a refused one writes nothing.
 pub text-listed : (text : List ℕ) → TextListed text (readTable text)

@@ -63,3 +63,7 @@ orderLines = 2000
 -- Bytes of an answer line, with its LF.
 abbrev pub answerBytes : ℕ
 answerBytes = 20
+
+-- Bytes of the longest handover text (W-204): a line for each slot with its LF, and the columns of all hop entries: 16,896.
+abbrev pub handoverMost : ℕ
+handoverMost = (headColumns + 1) * slotCount + hopColumns * hopEntries

@@ -1,7 +1,7 @@
 -- General words over lists and options.
 use Prim.Native.Nat.{ℕ, zero, suc}
 use mathlib.Core.Bool.{Bool, true, false, cond, _&&_}
-use mathlib.Core.List.{List, [], _∷_}
+use mathlib.Core.List.{List, [], _∷_, _++_}
 use mathlib.Core.Option.{Option, none, some}
 use lib.ListN.{getElem?}
 
@@ -42,3 +42,8 @@ andThen (some a) f = f a
 unfoldable pub nth : {A : Type 0} → List A → ℕ → Option A
 nth l zero = none
 nth l (suc i) = getElem? l i
+
+-- What is written for each element, one after the other.
+unfoldable pub joined : {A : Type 0} → (A → List ℕ) → List A → List ℕ
+joined text [] = []
+joined text (x ∷ xs) = text x ++ joined text xs

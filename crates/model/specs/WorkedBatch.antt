@@ -1,4 +1,4 @@
--- Document 01, "Whole batch", worked out from the definitions; batches that show what counts as a line, which refusal comes first, and how bursts grow; what the order of registrations decides;
+-- Document 01, "Whole batch", worked out from the definitions; batches that show what counts as a line, which refusal comes first, and how bursts grow; what the order of registrations decides; a handover text;
 -- lines of another kind in direct calls; and links that 42 judges.
 -- By computation. Assumes nothing.
 use Prim.Native.Nat.{ℕ, zero, suc}
@@ -7,7 +7,7 @@ use Prim.Native.String.{String, len, charAt}
 use mathlib.Core.Path.{_≡_, refl}
 use mathlib.Core.Bool.{true, false}
 use mathlib.Core.List.{List, [], _∷_, map, flatten}
-use Rattle.model.specs.Words.{every, firstIndex, isNone, nth}
+use Rattle.model.specs.Words.{every, firstIndex, isNone, nth, joined}
 use Rattle.model.specs.Columns.{isDigit, digits, number, field, fieldAt, padded, justified, between, prepend, Line, lines}
 use Rattle.model.specs.QueueTable.{isRowLength, laterField, rowFields, row, bestEffortInRange, rowInRange, continues, begins, rowInTurn, sameLink, rowAgrees, rowCause, queueOf, newLink, addLevel, addRow, rowStep, lineStep, readLines, readTable}
 use Rattle.model.specs.Orders.{Flow, Order, rejected, registering, releasing, changing, headFields, hopField, hopFields, pathFields, numberInRange, hopsInRange, headInRange, flowOf, withPath, registrationOf, registration, releaseOf, releaseLine, changeFields, changeInRange, changeOf, changeLine, kindNumber, kindOfNumber, kindOrder, orderOfKind, readOrder, orderLine}
@@ -16,8 +16,9 @@ use Rattle.model.specs.Formula.{ceilDiv, shortestSending, hopGrowth, bur
 use Rattle.model.specs.LinkCheck.{isEmpty, levelCode, orElse, levelsFinding, rateCode, linkFinding}
 use Rattle.model.specs.Aggregates.{linkAt, queueAt, thresholdOf, speedOf, fixedDelayOf, shares, allShares, sameHop, addsAt, sharesAt, aggregateAt, levelAggregates}
 use Rattle.model.specs.Reference.{heldFlows, heldHops, withNumber, crosses, pathDelay, firstCause, whole, atHop, start, end, noQueue, metEarlier, startsElsewhere, numberFinding, lineFindings, deadlineFinding, isHeld, roomFindings, linkCause, causeAt, linkFindings, registerFindings, changed, changedSlot, changeFindings, findings, holds, refuse, fill, perform, decide, apply, orderAnswers, afterOrders, lineOfKind, onlyLine, callOrder, tableOf, opened}
-use Rattle.model.specs.Consistent.{rowOf, linkConsistent, headOf, flowInRange}
+use Rattle.model.specs.Consistent.{rowOf, linkConsistent, headOf, flowInRange, flowConsistent, flowsConsistent}
 use Rattle.model.specs.AnyOrder.{AdmittedWhole}
+use Rattle.model.specs.Handover.{headText, hopText, flowColumns, flowLine, handoverText, refusedWriting, doneWriting, writing}
 use Rattle.model.specs.Outcomes.{earlyFindings}
 use Rattle.model.specs.WholeThresholds as before
 use Rattle.model.specs.Answers.{answerColumns, answerLine}
@@ -78,6 +79,27 @@ pub fourHops : List String
 fourHops =
     " 1   101      800     200  200    1000  4   1 1   2 1   3 1   5 1\n"
     ∷ " 1   201    20000    6168 1542    5000  4   1 2   2 2   3 2   5 2\n"
+    ∷ []
+
+-- Their flows.
+pub fourHopFlows : List Flow
+fourHopFlows =
+    record {
+      number = 101;
+      rate = 800;
+      burst = 200;
+      frame = 200;
+      deadline = 1000;
+      path = map (λ n. record { link = n; level = 1 }) (1 ∷ 2 ∷ 3 ∷ 5 ∷ []);
+    }
+    ∷ record {
+      number = 201;
+      rate = 20000;
+      burst = 6168;
+      frame = 1542;
+      deadline = 5000;
+      path = map (λ n. record { link = n; level = 2 }) (1 ∷ 2 ∷ 3 ∷ 5 ∷ []);
+    }
     ∷ []
 
 -- A link of 100 Mbit/s; a film of 80 Mbit/s and two cameras of 20.
@@ -196,6 +218,8 @@ workedBatches =
 -- The second and third part, by whole thresholds, before W-208: the codes of the last batch, and whether its flow, ending on link 5 or 2, is consistent beside another.
 -- The fourth, W-205: where not all are admitted the order decides who is held, 301 or 302, and how many, a film or two cameras; where all are, it decides their slots.
 -- The fifth: flows that are admitted whole, so that `any-order-lines` speaks of something.
+-- The sixth to eighth, W-204: those flows are consistent, so that `handover` speaks of something; its text is the lines that they were read from; and a text
+-- of two bytes is written in areas that are too short, just long enough and longer.
 pub worked-batches : (map (λ w. w .worked) workedBatches ≡ map (λ w. w .given) workedBatches)
     × (map (λ a. a .code) (before.lineAnswers (opened (bytes growthTable)) (lines (bytes growthOrders))) ≡ 0 ∷ 0 ∷ 22 ∷ 22 ∷ 22 ∷ [])
     × (map (λ n. before.flowsConsistent (opened (bytes growthTable) .table) (growthFlows n)) (5 ∷ 2 ∷ []) ≡ true ∷ false ∷ [])
@@ -216,8 +240,15 @@ pub worked-batches : (map (λ w. w .worked) workedBatches ≡ map (λ w. w .give
     ∷ []
     )
     × AdmittedWhole orderLine (opened (bytes hallTable)) (linesOf fourHops)
-unfolding linesOf fourHops hallTable gate pictures filmTable film camera secondCamera sorted flatten workedBatches worked growthTable growthOrders bytes bytesFrom isDigit digits number field fieldAt padded justified between prepend lines isRowLength laterField rowFields row bestEffortInRange rowInRange continues begins rowInTurn sameLink rowAgrees rowCause queueOf newLink addLevel addRow rowStep lineStep readLines readTable headFields hopField hopFields pathFields numberInRange hopsInRange headInRange flowOf withPath registrationOf registration releaseOf releaseLine changeFields changeInRange changeOf changeLine kindNumber kindOfNumber kindOrder orderOfKind readOrder orderLine total largest ceilDiv shortestSending hopGrowth burstAtHop residual withinRate delayBound backlogBound blocking interference levelResidual delay backlog isEmpty levelCode orElse levelsFinding rateCode linkFinding nth linkAt queueAt thresholdOf speedOf fixedDelayOf shares allShares sameHop addsAt sharesAt aggregateAt levelAggregates heldFlows heldHops withNumber crosses pathDelay firstCause whole atHop isNone start end noQueue metEarlier startsElsewhere numberFinding lineFindings deadlineFinding every isHeld roomFindings linkCause causeAt linkFindings registerFindings changed changedSlot changeFindings findings firstIndex holds refuse fill perform decide apply tableOf opened answerColumns answerLine lineAnswers orderAnswers afterOrders answerText refusedBatch doneBatch tooLong tooShort afterTable batch earlyFindings before.shares before.allShares before.levelAggregates before.causeAt before.linkFindings before.changeFindings before.findings before.apply before.lineAnswers before.flowConsistent before.flowsConsistent growthFlows flowInRange headOf
-worked-batches = (refl, refl, refl, refl, record { registrations = ((_, refl), ((_, refl), tt)); admitted = (refl, (refl, tt)) })
+    × (flowsConsistent (opened (bytes hallTable) .table) fourHopFlows ≡ true)
+    × (handoverText fourHopFlows ≡ flatten (map bytes fourHops))
+    × (map (writing (bytes "ab")) (bytes "." ∷ bytes ".." ∷ bytes "..." ∷ [])
+    ≡ record { code = 43; bytes = 0; area = bytes "." }
+    ∷ record { code = 0; bytes = 2; area = bytes "ab" }
+    ∷ record { code = 0; bytes = 2; area = bytes "ab." }
+    ∷ [])
+unfolding linesOf fourHops fourHopFlows hallTable gate pictures filmTable film camera secondCamera sorted flatten workedBatches worked growthTable growthOrders bytes bytesFrom isDigit digits number field fieldAt padded justified between prepend lines isRowLength laterField rowFields row bestEffortInRange rowInRange continues begins rowInTurn sameLink rowAgrees rowCause queueOf newLink addLevel addRow rowStep lineStep readLines readTable headFields hopField hopFields pathFields numberInRange hopsInRange headInRange flowOf withPath registrationOf registration releaseOf releaseLine changeFields changeInRange changeOf changeLine kindNumber kindOfNumber kindOrder orderOfKind readOrder orderLine total largest ceilDiv shortestSending hopGrowth burstAtHop residual withinRate delayBound backlogBound blocking interference levelResidual delay backlog isEmpty levelCode orElse levelsFinding rateCode linkFinding nth linkAt queueAt thresholdOf speedOf fixedDelayOf shares allShares sameHop addsAt sharesAt aggregateAt levelAggregates heldFlows heldHops withNumber crosses pathDelay firstCause whole atHop isNone start end noQueue metEarlier startsElsewhere numberFinding lineFindings deadlineFinding every isHeld roomFindings linkCause causeAt linkFindings registerFindings changed changedSlot changeFindings findings firstIndex holds refuse fill perform decide apply tableOf opened answerColumns answerLine lineAnswers orderAnswers afterOrders answerText refusedBatch doneBatch tooLong tooShort afterTable batch earlyFindings before.shares before.allShares before.levelAggregates before.causeAt before.linkFindings before.changeFindings before.findings before.apply before.lineAnswers before.flowConsistent before.flowsConsistent growthFlows flowInRange headOf flowConsistent flowsConsistent joined headText hopText flowColumns flowLine handoverText refusedWriting doneWriting writing
+worked-batches = (refl, refl, refl, refl, record { registrations = ((_, refl), ((_, refl), tt)); admitted = (refl, (refl, tt)) }, refl, refl, refl)
 
 -- W-206: lines with a kind alone, in the three direct calls: the rest lacks in a line of the call's own kind (10), and isn't read in one of another (11); a
 -- malformed kind (10).

@@ -1,10 +1,10 @@
 -- The table stays through all calls, so that the registry left behind still holds the one that the verdict speaks of. Assumes nothing.
 use Prim.Native.Nat.{ℕ, zero, suc, _+_, _*_, _/_, _≤_}
-use mathlib.Core.Path.{_≡_, refl, sym, ap, _∙_}
+use mathlib.Core.Path.{_≡_, refl, sym, ap, subst, _∙_}
 use mathlib.Core.List.{List, [], _∷_}
 use mathlib.Core.Option.{Option, none, some}
 use native.Mathlib.Omega.{arith}
-use lib.ListN.{length, drop}
+use lib.ListN.{length, drop, replicate, length-replicate}
 use Rattle.model.specs.QueueTable.{Table, readTable, accepted}
 use Rattle.model.specs.Reference as model
 use Rattle.model.specs.Reference.{State, Call, callOrder, step, opened, afterOrders, final}
@@ -45,3 +45,7 @@ few-made (suc n) bytes = few-listed n (firstCall bytes) _ (λ c. few-made n (dro
 pub count-fits : {table calls area area′ : List ℕ} {r : Replayed} → Replays table calls area area′ r → callAnswerBytes * r .count ≤ length area
 unfolding madeCalls
 count-fits {calls = calls} {area = area} p = omega (arith, p .count, few-made (length area / callAnswerBytes) calls)
+
+-- What lies in an area of so many zeros, for the programs' areas: their size isn't worked out.
+pub under-zeros : (n k : ℕ) → k ≤ length {A = ℕ} (replicate n 0) → k ≤ n
+under-zeros n k h = subst (λ (m : ℕ). k ≤ m) (length-replicate {A = ℕ} n 0) h

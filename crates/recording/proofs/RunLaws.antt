@@ -5,8 +5,8 @@ use mathlib.Core.List.{List, [], _∷_, _++_, map, append-nil, append-assoc}
 use mathlib.Core.Option.{Option, none}
 use native.Mathlib.Omega.{arith}
 use native.Mathlib.Nat.{sub-zero}
-use lib.ListN.{length, take, drop, set, length-append, length-drop, drop-of-length-le}
-use lib.Seq.{take-all, length-take-le, drop-drop, drop-cons, set-at, take-at, drop-at, append-snoc}
+use lib.ListN.{length, take, drop, length-append, length-drop, drop-of-length-le}
+use lib.Seq.{take-all, length-take-le, drop-drop, take-at, drop-at, append-snoc}
 use borrow.Rule.Slice.PartMut.{putMid}
 use Rattle.model.specs.Answers.{answerColumns}
 use Rattle.model.specs.Laws.Answers.{columns-length}
@@ -28,11 +28,6 @@ use Rattle.recording.specs.Calls.{headerBytes, firstCall, bytesOf, liste
 use Rattle.recording.specs.View.{FirstCall}
 use Rattle.recording.specs.Replay.{callAnswerBytes, answerLines, madeCalls, answered, Runs}
 use Rattle.recording.specs.declared.Recorded.the-variants as recorded
-
--- The LF after the columns.
-pub line-ended : (columns part : List ℕ) → length columns ≡ 13 → callAnswerBytes ≤ length part → set (columns ++ drop 13 part) 13 10 ≡ columns ++ (10 ∷ drop callAnswerBytes part)
-line-ended columns part e room =
-    ap (λ (t : List ℕ). set (columns ++ t) 13 10) (drop-cons part 13 0 (omega arith)) ∙ set-at columns _ (drop callAnswerBytes part) 10 13 e
 
 -- One line more of answers.
 lines-next : (given : List model.Answer) (a : model.Answer) → answerLines (given ++ (a ∷ [])) ≡ answerLines given ++ (answerColumns a ++ (10 ∷ []))

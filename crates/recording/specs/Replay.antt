@@ -3,6 +3,7 @@ use Prim.Native.Nat.{ℕ, _*_, _/_}
 use mathlib.Core.Path.{_≡_}
 use mathlib.Core.List.{List, [], _∷_, _++_, map}
 use lib.ListN.{length, drop}
+use Rattle.model.specs.Columns.{justified}
 use Rattle.model.specs.Answers.{answerColumns}
 use Rattle.model.specs.QueueTable.{readTable}
 use Rattle.model.specs.Reference as model
@@ -20,10 +21,21 @@ use Rattle.recording.specs.declared.Replayed.{Replayed}
 abbrev pub callAnswerBytes : ℕ
 callAnswerBytes = 14
 
+-- Room to answer every call of the 200,000 bytes that the programs read: none takes less than 9 of them.
+abbrev pub answersMost : ℕ
+answersMost = callAnswerBytes * 22223
+
 -- The text of the answers, a line each: code 3 columns, place 4, link 4, level 2.
 unfoldable pub answerLines : List model.Answer → List ℕ
 answerLines [] = []
 answerLines (a ∷ more) = answerColumns a ++ (10 ∷ answerLines more)
+
+-- What is said of a refused table: code 3 columns, line 6; and of a list that breaks off: `end`, and in 10 columns where its last whole call ends.
+unfoldable pub refusalLine : (code line : ℕ) → List ℕ
+refusalLine code line = justified 3 code ++ (justified 6 line ++ (10 ∷ []))
+
+unfoldable pub endLine : (offset : ℕ) → List ℕ
+endLine offset = 101 ∷ 110 ∷ 100 ∷ (justified 10 offset ++ (10 ∷ []))
 
 -- The calls that are made: those of the list, as many as the area has room to answer.
 unfoldable pub madeCalls : (calls area : List ℕ) → List Call

@@ -8,15 +8,18 @@ ghost use Rattle.model.specs.Columns.{fieldAt};
 ghost use Rattle.model.specs.Orders.{kindOfNumber};
 ghost use Rattle.model.specs.Answers.{answerColumns};
 ghost use Rattle.orders.specs.View.{kindOf, kindIn};
+ghost use Rattle.queue_table.specs.View.{faultCode};
 ghost use Rattle.admission.specs.View.{answerOf};
 ghost use Rattle.registry.specs.View.{callOf, Performs};
 ghost use Rattle.recording.specs.Calls.{header};
 ghost use Rattle.recording.specs.View.{headerOf, FirstCall};
-ghost use Rattle.recording.specs.Replay.{callAnswerBytes, Runs, Replays};
+ghost use Rattle.recording.specs.Replay.{callAnswerBytes, refusalLine, endLine, Runs, Replays};
 use columns::Field;
 use columns::LF;
 use orders::Kind;
 use orders::KindRead;
+use queue_table::Fault;
+use queue_table::TABLE_BYTES;
 use queue_table::Verdict;
 use registry::Called;
 use registry::Registry;
@@ -26,6 +29,16 @@ const HEADER: usize = 9;
 
 // The bytes of an answer line with its LF.
 pub const ANSWER: usize = 14;
+
+// The areas of the programs that replay a list from files. The table has one byte above the longest text: such a text is refused
+// for its length alone.
+pub const TABLE: usize = TABLE_BYTES + 1;
+
+// Only so many bytes of a list count.
+pub const CALLS: usize = 200_000;
+
+// An answer line to each of 22,223 calls: none takes less than 9 bytes of the list.
+pub const ANSWERS: usize = ANSWER * 22_223;
 
 // How the calls are made: on a registry by value, or on one that is held and lent. The answers are the same.
 pub enum Form {
@@ -174,4 +187,28 @@ pub fn replay(form: Form, table: &[u8], calls: &[u8], answers: &mut [u8]) -> Rep
         count: ran.count,
         end: ran.end,
     }
+}
+
+// What is said of a refused table: its code in 3 columns and line in 6.
+pub fn refusal_line(fault: Fault, line: u32) -> [u8; 10]
+    ensures { λ r. ⌜ r ≡ refusalLine (faultCode fault) line ⌝ }
+{
+    let mut out = *b"         \n";
+    columns::write_at(
+        &mut out,
+        1,
+        3,
+        columns::wide(queue_table::fault_code(fault)),
+    );
+    columns::write_at(&mut out, 4, 9, columns::wide(line));
+    out
+}
+
+// What is said of a list that doesn't close with a whole call: the offset of what follows the last one, in 10 columns.
+pub fn end_line(offset: usize) -> [u8; 14]
+    ensures { λ r. ⌜ r ≡ endLine offset ⌝ }
+{
+    let mut out = *b"end          \n";
+    columns::write_at(&mut out, 4, 13, offset as u64);
+    out
 }

@@ -56,7 +56,7 @@ fn figures_right(table: &[u32], bits: &[u64], slots: &[u32], pool: &[u32], sums:
 }
 
 // Whether arrays of any content are a consistent registry (42).
-fn is_consistent(table: &[u32], bits: &[u64], slots: &[u32], pool: &[u32], sums: &[u64]) -> bool
+pub fn is_consistent(table: &[u32], bits: &[u64], slots: &[u32], pool: &[u32], sums: &[u64]) -> bool
     requires { ⌜ Sized (now table) (now bits) (now slots) (now pool) (now sums) ⌝ }
     ensures { λ r. ⌜ (r ≡ true → Kept (now (table .entry)) (now (bits .entry)) (now (slots .entry)) (now (pool .entry)) (now (sums .entry))) ⌝ }
     ensures { λ r. ⌜ (r ≡ false → Kept (now (table .entry)) (now (bits .entry)) (now (slots .entry)) (now (pool .entry)) (now (sums .entry)) → ⊥) ⌝ }

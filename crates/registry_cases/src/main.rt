@@ -3,8 +3,10 @@
 //
 // What follows an r at a line's start is handed to `release`, what follows a c to `change`, every other line to `register`. A
 // line that starts with x isn't handed on: it sets one number of the registry. Array 2-3 (0 the table, 1 slots, 2 hop entries,
-// 3 figures, 4 the bits: one for each slot, clear for 0), index 4-8, the number 9-17.
+// 3 figures, 4 the bits: one for each slot, clear for 0), index 4-8, the number 9-17. A w lends an area of so many dots, 2-5, to
+// the writer of order lines: code in 3 columns, bytes in 6, then the whole area and LF.
 use admission::Answer;
+use causes::Finding;
 use columns::Field;
 use columns::NextLine;
 use libc::STDOUT_FILENO;
@@ -14,6 +16,9 @@ use registry::Registry;
 
 // One byte above the longest table text.
 const TABLE: usize = TABLE_BYTES + 1;
+
+// The longest area that is lent to the writer.
+const AREA: usize = 300;
 
 fn show(answer: Answer) {
     let mut out = *b"             \n";
@@ -80,6 +85,35 @@ fn call(registry: Registry, kind: Kind, line: &[u8]) -> Registry {
     called.registry
 }
 
+fn code_of(finding: Finding) -> u32 {
+    match finding {
+        Finding::Nothing => 0,
+        Finding::Against(cause) => causes::numbers_of(cause).code,
+    }
+}
+
+// What the writer says of an area, and what stands in the area then.
+fn show_text(registry: Registry, area: &mut [u8]) {
+    let written = order_text::write(registry, area);
+    let finding = written.finding;
+    let mut out = *b"         \n";
+    columns::write_at(&mut out, 1, 3, columns::wide(code_of(finding)));
+    columns::write_at(&mut out, 4, 9, written.bytes as u64);
+    io::write_all(STDOUT_FILENO, &out);
+    io::write_all(STDOUT_FILENO, &area[..]);
+    io::write_all(STDOUT_FILENO, b"\n");
+}
+
+// An area of at most AREA bytes.
+fn hand_over(registry: Registry, size: usize) {
+    let mut area = [b'.'; AREA];
+    if AREA < size {
+        return;
+    }
+    let start = AREA - size;
+    show_text(registry, &mut area[start..]);
+}
+
 fn step(registry: Registry, line: &[u8]) -> Registry {
     if line.len() == 0 {
         return call(registry, Kind::Register, line);
@@ -89,6 +123,10 @@ fn step(registry: Registry, line: &[u8]) -> Registry {
     }
     if line[0] == b'c' {
         return call(registry, Kind::Change, &line[1..]);
+    }
+    if line[0] == b'w' {
+        hand_over(registry, number(columns::read_at(line, 2, 5)) as usize);
+        return registry;
     }
     if line[0] != b'x' {
         return call(registry, Kind::Register, line);

@@ -5,10 +5,11 @@
 // - where the list doesn't close with a whole call, `end` and the offset of what follows the last one in 10 columns;
 // - each queue of the table: link in 4, level in 2, rate sum in 12, burst sum in 15 and largest frame in 5;
 // - each held slot: place in 4 columns, then the columns of its order line from the third on.
-ghost use Prim.Native.Nat.{_+_, _≤_, _<_};
+ghost use Prim.Native.Nat.{_+_, _*_, _≤_, _<_};
+ghost use Rattle.io.specs.Counts.{Counts};
 ghost use mathlib.Core.Path.{_≡_};
 ghost use lib.ListN.{length};
-ghost use Rattle.model.specs.Sizes.{queuesMost, hopsMost, orderColumns, slotCount};
+ghost use Rattle.model.specs.Sizes.{queuesMost, hopsMost, headColumns, hopColumns, slotCount};
 ghost use Rattle.queue_table.specs.View.{WellFormed};
 ghost use Rattle.flow_store.specs.View.{Store};
 ghost use Rattle.figures.specs.View.{sumNumbers};
@@ -20,39 +21,19 @@ use orders::HEAD_COLUMNS;
 use orders::HOP_COLUMNS;
 use orders::MOST_HOPS;
 use queue_table::QUEUES;
-use queue_table::TABLE_BYTES;
 use queue_table::Verdict;
 use recording::ANSWER;
+use recording::ANSWERS;
+use recording::CALLS;
 use recording::Form;
+use recording::TABLE;
 use registry::Registry;
 
-// One byte above the longest table text: such a text is refused for its length alone.
-const TABLE: usize = TABLE_BYTES + 1;
-
-// Only so many bytes of calls.txt count.
-const CALLS: usize = 200_000;
-
-// An answer line to each of 22,223 calls: none takes less than 9 bytes of the file.
-const ANSWERS: usize = ANSWER * 22_223;
-
-// Columns of a slot's line before its hops: 4 in the place of an order line's first 2.
-const HEAD: usize = HEAD_COLUMNS + 2;
+// How many columns more a slot's line has than an order line.
+const PLACE: usize = 2;
 
 // The bytes of a slot's line with the most hops, and LF.
-const SLOT_LINE: usize = HEAD + HOP_COLUMNS * MOST_HOPS + 1;
-
-// How many bytes of the file were read; none where it can't be opened.
-fn read_file(name: &[u8], text: &mut [u8]) -> usize
-    ensures { λ r. ⌜ r ≤ length (now (text .exit)) ⌝ }
-{
-    let fd = os::open_read(name);
-    if fd < 0 {
-        return 0;
-    }
-    let n = io::read_full(fd, text);
-    libc::close(fd);
-    n
-}
+const SLOT_LINE: usize = PLACE + HEAD_COLUMNS + HOP_COLUMNS * MOST_HOPS + 1;
 
 fn put(line: &mut [u8], first: usize, last: usize, n: u32)
     requires { ⌜ (1 ≤ first) × ((first ≤ last) × (last ≤ length (now line))) ⌝ }
@@ -64,17 +45,14 @@ fn show_verdict(verdict: Verdict) {
     match verdict {
         Verdict::Accepted => {}
         Verdict::Refused(fault, line) => {
-            let mut out = *b"         \n";
-            put(&mut out, 1, 3, queue_table::fault_code(fault));
-            put(&mut out, 4, 9, line);
+            let out = recording::refusal_line(fault, line);
             io::write_all(STDOUT_FILENO, &out);
         }
     }
 }
 
 fn show_end(offset: usize) {
-    let mut out = *b"end          \n";
-    columns::write_at(&mut out, 4, 13, offset as u64);
+    let out = recording::end_line(offset);
     io::write_all(STDOUT_FILENO, &out);
 }
 
@@ -109,45 +87,22 @@ fn show_queues(table: &[u32], sums: &[u64])
     }
 }
 
-// The columns of a flow before its hops, from column 5 on.
-fn write_flow(flow: Flow, out: &mut [u8])
-    requires { ⌜ length (now out) ≡ orderColumns + 3 ⌝ }
+// A held slot's line: that of its flow, with the place in 4 columns instead of the kind in 2. How many bytes it has.
+fn write_flow(slot: usize, flow: Flow, entries: &[u32], out: &mut [u8]) -> usize
+    requires { ⌜ (slot < slotCount) × (flow .hops ≡ length (now entries)) × (2 + headColumns + 1 + hopColumns * length (now entries) ≤ length (now out)) ⌝ }
+    ensures { λ r. ⌜ Counts r (now (out .exit)) ⌝ }
 {
-    let share = flow.share;
-    put(out, 5, 10, flow.number);
-    columns::write_at(out, 11, 19, share.rate.0);
-    columns::write_at(out, 20, 27, share.burst.0);
-    columns::write_at(out, 28, 32, share.frame.0);
-    columns::write_at(out, 33, 40, flow.deadline.0);
-    put(out, 41, 43, flow.hops);
+    let bytes = order_text::write_line(flow, entries, &mut out[PLACE..]);
+    columns::write_at(out, 1, 4, (slot + 1) as u64);
+    PLACE + bytes
 }
 
-// Its hops.
-fn write_hops(entries: &[u32], out: &mut [u8])
-    requires { ⌜ (length (now entries) ≤ hopsMost) × (length (now out) ≡ orderColumns + 3) ⌝ }
-{
-    let mut k = 0;
-    while k < entries.len() {
-        let hop = queue_table::hop_at(entries[k]);
-        let at = HEAD + HOP_COLUMNS * k + 1;
-        put(out, at, at + 3, hop.link);
-        put(out, at + 4, at + 5, hop.level);
-        k += 1;
-    }
-}
-
-// A held slot's line.
 fn show_flow(slot: usize, flow: Flow, entries: &[u32])
-    requires { ⌜ (slot < slotCount) × (length (now entries) ≤ hopsMost) ⌝ }
+    requires { ⌜ (slot < slotCount) × (flow .hops ≡ length (now entries)) × (length (now entries) ≤ hopsMost) ⌝ }
 {
     let mut out = [b' '; SLOT_LINE];
-    columns::write_at(&mut out, 1, 4, (slot + 1) as u64);
-    write_flow(flow, &mut out);
-    write_hops(entries, &mut out);
-    let end = HEAD + HOP_COLUMNS * entries.len();
-    out[end] = b'\n';
-    let next = end + 1;
-    io::write_all(STDOUT_FILENO, &out[..next]);
+    let bytes = write_flow(slot, flow, entries, &mut out);
+    io::write_all(STDOUT_FILENO, &out[..bytes]);
 }
 
 // A slot's line where it is held: a path has at most MOST_HOPS hops.
@@ -212,7 +167,7 @@ fn main() {
     let form = form_asked();
     let mut table = [0u8; TABLE];
     let mut calls = [0u8; CALLS];
-    let n = read_file(b"table.txt", &mut table);
-    let m = read_file(b"calls.txt", &mut calls);
+    let n = text_files::read(b"table.txt", &mut table);
+    let m = text_files::read(b"calls.txt", &mut calls);
     replay(form, &table[..n], &calls[..m]);
 }

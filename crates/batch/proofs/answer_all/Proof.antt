@@ -11,7 +11,8 @@ use Rattle.model.specs.Columns.{lines}
 use Rattle.model.specs.Answers.{answerLine}
 use Rattle.model.specs.Batch.{doneBatch}
 use Rattle.admission.specs.View.{stateOf, answerOf}
-use Rattle.batch.proofs.AnswerLaws.{Answering, line-put, part-long, answering-first, room-left, answering-next, answering-last}
+use Rattle.columns.proofs.PartLaws.{part-long, text-put}
+use Rattle.batch.proofs.AnswerLaws.{Answering, answering-first, room-left, answering-next, answering-last}
 use Rattle.batch.proofs.answer_all.Statement.{statement}
 use Rattle.batch.proofs.answer_all.Tie as tie
 
@@ -45,7 +46,7 @@ part-write-line-start : tie.Need-part-write-line-start Inv-loop μ-loop
 part-write-line-start c = omega (arith, room (c .before .before .before .before .before .before .before .before) .0)
 
 write-line-requires : tie.Need-write-line-requires Inv-loop μ-loop
-write-line-requires c κs = let at = c .before .before .before .before .before .before .before .before .before .before .before .before .before .before .before .loop in part-long (at .answers) (at .offset) (room (c .before .before .before .before .before .before .before .before .before) .0)
+write-line-requires c κs = let at = c .before .before .before .before .before .before .before .before .before .before .before .before .before .before .before .loop in part-long (at .answers) (at .offset) answerBytes (room (c .before .before .before .before .before .before .before .before .before) .0)
 
 add-offset : tie.Need-add-offset Inv-loop μ-loop
 add-offset c = omega (arith, room (c .before .before .before .before .before .before .before .before .before .before .before .before) .0, c .before .before .before .before .before .before .before .before .before .before .before .before .before .before .before .before .before .before .loop .inv .same-size, c .before .before .before .before .before .before .before .before .before .before .before .before .before .before .before .before .before .before .before .before .before .before .before .before .before .before .good)
@@ -59,7 +60,7 @@ loop-again c =
     let next = c .before .before .before .before .before .before .before .before .before .before .before .before in
     let line = answerLine (at .number + 1) (answerOf (next .answer-next .result .answer)) in
     answering-next (at .inv) (next .answer-next .ensures) _
-    (ap (putMid (at .offset) (length (at .answers) - at .offset) (at .answers)) (c .before .before .write-line .ensures) ∙ line-put (at .answers) line (at .offset) (room next .0))
+    (ap (putMid (at .offset) (length (at .answers) - at .offset) (at .answers)) (c .before .before .write-line .ensures) ∙ text-put (at .answers) line (at .offset) answerBytes (room next .0))
 
 same-length : tie.Need-same-length Inv-loop μ-loop
 same-length c = c .before .loop .inv .kept .store .bits-long ∙ sym (c .before .before .before .before .before .before .before .before .before .pre .0 .store .bits-long)

@@ -13,4 +13,4 @@ told : {cause case : Cause} {n : model.Cause} → cause ≡ case → n ≡ cause
 told e same = same ∙ sym (ap causeOf e)
 
 pub numbers-of-spec : {M : Type 1} → statement M
-numbers-of-spec = tie.close (tie.spec (λ c. search needs) (λ c κs. search needs) (λ c. search needs) (λ c κs. search needs) (λ c. search needs) (λ c κs. search needs) (λ c. search needs) (λ c κs. search needs) (λ c. search needs) (λ c κs. search needs) (λ c. search needs) (λ c κs. search needs) (λ c. search needs) (λ c κs. search needs) (λ c. search needs) (λ c κs. search needs) (λ c. search needs) (λ c κs. search needs) (λ c. search needs) (λ c κs. search needs) (λ c. search needs) (λ c κs. search needs) (λ c. search needs) (λ c κs. search needs) (λ c. search needs) (λ c κs. search needs) (λ c. search needs) (λ c κs. search needs) (λ c. search needs) (λ c κs. search needs) (λ c. search (needs, told)) (λ c. search (needs, told)) (λ c. search (needs, told)) (λ c. search (needs, told)) (λ c. search (needs, told)) (λ c. search (needs, told)) (λ c. search (needs, told)) (λ c. search (needs, told)) (λ c. search (needs, told)) (λ c. search (needs, told)) (λ c. search (needs, told)) (λ c. search (needs, told)) (λ c. search (needs, told)) (λ c. search (needs, told)) (λ c. search (needs, told)))
+numbers-of-spec = tie.close (tie.spec (λ c. search needs) (λ c κs. search needs) (λ c. search needs) (λ c κs. search needs) (λ c. search needs) (λ c κs. search needs) (λ c. search needs) (λ c κs. search needs) (λ c. search needs) (λ c κs. search needs) (λ c. search needs) (λ c κs. search needs) (λ c. search needs) (λ c κs. search needs) (λ c. search needs) (λ c κs. search needs) (λ c. search needs) (λ c κs. search needs) (λ c. search needs) (λ c κs. search needs) (λ c. search needs) (λ c κs. search needs) (λ c. search needs) (λ c κs. search needs) (λ c. search needs) (λ c κs. search needs) (λ c. search needs) (λ c κs. search needs) (λ c. search needs) (λ c κs. search needs) (λ c. search needs) (λ c κs. search needs) (λ c. search (needs, told)) (λ c. search (needs, told)) (λ c. search (needs, told)) (λ c. search (needs, told)) (λ c. search (needs, told)) (λ c. search (needs, told)) (λ c. search (needs, told)) (λ c. search (needs, told)) (λ c. search (needs, told)) (λ c. search (needs, told)) (λ c. search (needs, told)) (λ c. search (needs, told)) (λ c. search (needs, told)) (λ c. search (needs, told)) (λ c. search (needs, told)) (λ c. search (needs, told)))

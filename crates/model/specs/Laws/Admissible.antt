@@ -7,13 +7,15 @@ use mathlib.Core.Logic.{_↔_}
 use mathlib.Core.List.{List, _∷_, List·Memᴰ}
 use mathlib.Core.Option.{none, some, Option·some-injective}
 use native.Mathlib.Omega.{arith}
+use lib.ListN.{length}
 use borrow.Author.Tests.{ltb-false, le-ltb}
 use Rattle.model.specs.Words.{All}
+use Rattle.model.specs.Sizes.{hopsMost}
 use Rattle.model.specs.Columns.{between}
 use Rattle.model.specs.Laws.Columns.{between-true}
 use Rattle.model.specs.Laws.Test.{and-both}
 use Rattle.model.specs.QueueTable.{Link, Table}
-use Rattle.model.specs.Orders.{Hop, Flow, register, headInRange, numberInRange}
+use Rattle.model.specs.Orders.{Hop, Flow, register, headInRange, numberInRange, rateInRange, burstInRange, hopsInRange}
 use Rattle.model.specs.LinkCheck.{linkFinding}
 use Rattle.model.specs.Laws.LinkCheck.{link-meets, meets-link}
 use Rattle.model.specs.Laws.Levels.{level-admits, admits-level}
@@ -47,13 +49,31 @@ module _ (t : Table) (fs : List Flow) (frames : All (λ f. 1 ≤ f .frame) fs) (
             (admits-level t fs n k (λ p q e h. a .levels p q e (frame-carries t _ fs h))));
       }
 
--- 11: the largest frame.
-pub frame-range : (f : Flow) → flowInRange f ≡ true → (84 ≤ f .frame) × (f .frame ≤ 1542)
-unfolding flowInRange headInRange headOf
-frame-range f e =
-    let head = and-both (headInRange (headOf f)) _ e .0 in
-    let (e₁, deadline) = and-both (numberInRange (f .number) && between 1 10000000 (f .rate) && between 84 1000000 (f .burst) && between 84 1542 (f .frame)) _ head in
-    between-true 84 1542 (f .frame) (and-both (numberInRange (f .number) && between 1 10000000 (f .rate) && between 84 1000000 (f .burst)) _ e₁ .1)
+-- What the ranges of a registration (11) say.
+pub record FlowBounds (f : Flow) : Type 0 where
+  pub number : f .number ≤ 65535
+  pub rate : f .rate ≤ 10000000
+  pub burst : f .burst ≤ 1000000
+  pub frame : (84 ≤ f .frame) × (f .frame ≤ 1542)
+  pub deadline : f .deadline ≤ 10000000
+  pub hops : length (f .path) ≤ hopsMost
+
+pub flow-bounds : (f : Flow) → flowInRange f ≡ true → FlowBounds f
+unfolding flowInRange headInRange headOf numberInRange hopsInRange
+flow-bounds f e =
+    let (head, hops) = and-both (headInRange (headOf f)) _ e in
+    let (e₁, deadline) = and-both (numberInRange (f .number) && rateInRange (f .rate) && burstInRange (f .burst) && between 84 1542 (f .frame)) _ head in
+    let (e₂, frame) = and-both (numberInRange (f .number) && rateInRange (f .rate) && burstInRange (f .burst)) _ e₁ in
+    let (e₃, burst) = and-both (numberInRange (f .number) && rateInRange (f .rate)) _ e₂ in
+    let (number, rate) = and-both (numberInRange (f .number)) _ e₃ in
+    record {
+      number = between-true 1 65535 (f .number) number .1;
+      rate = between-true 1 10000000 (f .rate) rate .1;
+      burst = between-true 84 1000000 (f .burst) burst .1;
+      frame = between-true 84 1542 (f .frame) frame;
+      deadline = between-true 1 10000000 (f .deadline) deadline .1;
+      hops = between-true 1 hopsMost (length (f .path)) hops .1;
+    }
 
 -- The deadline's finding and eq. 14.
 pub deadline-met : (t : Table) (f : Flow) → (deadlineFinding t f ≡ none) ↔ (pathDelay t (f .path) ≤ f .deadline)
@@ -66,8 +86,8 @@ module _ (s : State) (f : Flow) (ok : StateRules s) (range : flowInRange f ≡ t
 
   frames : All (λ g. 1 ≤ g .frame) with-new
   frames = (
-    omega (arith, frame-range f range .0),
-    all-imp (heldFlows (s .slots)) (λ g r. omega (arith, frame-range g (r .range) .0)) (ok .flows .flows),
+    omega (arith, flow-bounds f range .frame .0),
+    all-imp (heldFlows (s .slots)) (λ g r. omega (arith, flow-bounds g (r .range) .frame .0)) (ok .flows .flows),
   )
 
   -- 0 if and only if none of 12, 14 to 17, 30 and 31 is against it and it is admissible.

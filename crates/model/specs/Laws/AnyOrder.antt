@@ -52,7 +52,7 @@ filled-before : (fs : List Flow) (free : ℕ) (f : Flow)
 filled-before [] free f = refl
 filled-before (g ∷ fs) free f = ap (λ (l : List Slot). some g ∷ l) (filled-before fs free f)
 
-held-turn : (fs : List Flow) → heldFlows (inTurn fs) ≡ fs
+pub held-turn : (fs : List Flow) → heldFlows (inTurn fs) ≡ fs
 unfolding inTurn
 held-turn fs = held-before fs (slotCount - length fs)
 
@@ -172,11 +172,11 @@ module _ (text : List ℕ) where
     λ r. subst (All (λ a. a .code ≡ 0)) (sym (consistent-in-turn table [] fs r .0)) (zeros 1 (length (map register fs))),
   )
 
-  left-in-turn : (fs : List Flow) → FlowsRules table fs → afterOrders (opened text) (map register fs) ≡ holding table fs
+  pub left-in-turn : (fs : List Flow) → FlowsRules table fs → afterOrders (opened text) (map register fs) ≡ holding table fs
   unfolding opened inTurn
   left-in-turn fs r = consistent-in-turn table [] fs r .1
 
-  held-in-turn : (fs : List Flow) → FlowsRules table fs
+  pub held-in-turn : (fs : List Flow) → FlowsRules table fs
       → HeldInTurn (map register fs) (orderAnswers (opened text) (map register fs)) (afterOrders (opened text) (map register fs))
   unfolding opened inTurn
   held-in-turn fs r =

@@ -26,7 +26,7 @@ use Rattle.model.specs.Laws.Columns.{between-true}
 use Rattle.model.specs.Laws.LinkCheck.{link-meets}
 use Rattle.model.specs.Laws.Levels.{level-admits}
 use Rattle.model.specs.Laws.Carries.{frame-carries}
-use Rattle.model.specs.Laws.Admissible.{frame-range}
+use Rattle.model.specs.Laws.Admissible.{flow-bounds}
 use Rattle.model.specs.Laws.Reached.{StateRules}
 use Rattle.model.specs.Laws.Schedulable.{RowBounds, link-bounds, queue-bounds, schedulable}
 
@@ -93,7 +93,7 @@ module _ (s : State) (r : StateRules s) (h : Hop) where
   frames : All (λ e. (84 ≤ e .adds .frame) × (e .adds .frame ≤ 1542)) (allShares (s .table) (heldFlows (s .slots)))
   frames =
       entry-frames (s .table) (λ n. (84 ≤ n) × (n ≤ 1542)) (heldFlows (s .slots))
-      (all-imp (heldFlows (s .slots)) (λ f m. frame-range f (m .range)) (r .flows .flows))
+      (all-imp (heldFlows (s .slots)) (λ f m. flow-bounds f (m .range) .frame) (r .flows .flows))
 
   frame-small : figures .frame ≤ 1542
   unfolding sharesAt aggregateAt addsAt

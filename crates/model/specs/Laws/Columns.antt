@@ -15,7 +15,7 @@ use Rattle.model.specs.Laws.List.{drop-set}
 use Rattle.model.specs.Laws.Test.{and-both}
 use Rattle.model.specs.Columns.{isDigit, digits, number, field, padded, justified, between, Line, ended, unended, prepend, lines}
 
-of-other : (b : ℕ) (l : List ℕ) → (b ≡ 48 → ⊥) → number b l ≡ digits 0 (b ∷ l)
+pub of-other : (b : ℕ) (l : List ℕ) → (b ≡ 48 → ⊥) → number b l ≡ digits 0 (b ∷ l)
 unfolding number
 of-other b [] e = refl
 of-other b (c ∷ cs) e = simp (ne-eqb b 48 e)

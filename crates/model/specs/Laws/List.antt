@@ -7,7 +7,7 @@ use native.Mathlib.Omega.{arith}
 use native.Mathlib.Decide.{decLt}
 use lib.Dec.{eqb, eqb·suc-suc, eqb·zero-suc}
 use borrow.Author.Tests.{eq-eqb}
-use Rattle.model.specs.Words.{isNone}
+use Rattle.model.specs.Words.{isNone, nth}
 use lib.ListN.{length, set, drop, getElem?}
 use lib.Seq.{drop-cons, drop-set-lt, getD-set-same, lt-length-set}
 
@@ -16,6 +16,12 @@ module _ {A : Type 0} where
   index-below [] i x e = absurd (Option·none-ne-some x e)
   index-below (y ∷ l) zero x e = omega arith
   index-below (y ∷ l) (suc i) x e = omega (arith, index-below l i x e)
+
+  -- The same by a number, counted from 1.
+  pub number-within : (l : List A) (n : ℕ) (x : A) → nth l n ≡ some x → (1 ≤ n) × (n ≤ length l)
+  unfolding nth
+  number-within l zero x e = absurd (Option·none-ne-some x e)
+  number-within l (suc i) x e = (omega arith, index-below l i x e)
 
   -- Whether there is none, at an index of the list or just past it.
   pub none-past : (l : List A) (i : ℕ) → i ≤ length l → isNone (getElem? l i) ≡ eqb i (length l)

@@ -1,27 +1,20 @@
 -- `replay::replay` is safe: there are at most as many answers as the area has room for, and the registry left behind is consistent.
 -- Assumes nothing.
 use borrow.Author.Needs.{needs}
-use Prim.Native.Nat.{ℕ, _*_, _≤_}
-use mathlib.Core.Path.{_≡_, sym, subst}
+use Prim.Native.Nat.{_*_, _≤_}
+use mathlib.Core.Path.{_≡_, sym}
 use native.Mathlib.Omega.{arith}
-use lib.ListN.{length, replicate, length-replicate}
+use lib.ListN.{length}
 use lib.Seq.{length-take-le}
-use Rattle.recording.specs.Replay.{callAnswerBytes}
-use Rattle.recording.proofs.ReplayLaws.{count-fits}
+use Rattle.recording.specs.Replay.{callAnswerBytes, answersMost}
+use Rattle.recording.proofs.ReplayLaws.{count-fits, under-zeros}
 use Rattle.replay.proofs.replay.Statement.{statement}
 use Rattle.replay.proofs.replay.Tie as tie
 
--- The bytes of the area for the answers.
-abbrev area : ℕ
-area = callAnswerBytes * 22223
+few : (c : tie.After-replay) → callAnswerBytes * c .replay .result .count ≤ answersMost
+few c = under-zeros answersMost (callAnswerBytes * c .replay .result .count) (count-fits (c .replay .ensures))
 
-under : (n k : ℕ) → k ≤ length {A = ℕ} (replicate n 0) → k ≤ n
-under n k h = subst (λ (m : ℕ). k ≤ m) (length-replicate {A = ℕ} n 0) h
-
-few : (c : tie.After-replay) → callAnswerBytes * c .replay .result .count ≤ area
-few c = under area (callAnswerBytes * c .replay .result .count) (count-fits (c .replay .ensures))
-
-long : (c : tie.After-show-verdict) → length (c .before .before .before .before .replay .last .1 .1 .1 .0) ≡ area
+long : (c : tie.After-show-verdict) → length (c .before .before .before .before .replay .last .1 .1 .1 .0) ≡ answersMost
 long c = search needs
 
 mul-end : tie.Need-mul-end

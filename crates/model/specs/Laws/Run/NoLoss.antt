@@ -4,7 +4,7 @@ use Prim.Native.Nat.{ℕ, zero, suc, _+_, _≤_}
 use mathlib.Core.Path.{_≡_, refl, sym, ap, subst, _∙_}
 use mathlib.Core.Bool.{Bool, true, false, cond}
 use mathlib.Core.List.{List, [], _∷_}
-use mathlib.Core.Option.{Option, none, some, Option·none-ne-some}
+use mathlib.Core.Option.{Option, none, some}
 use native.Mathlib.Nat.{le-trans}
 use native.Mathlib.Omega.{arith}
 use lib.ListN.{length, getElem?}
@@ -21,7 +21,7 @@ use Rattle.model.specs.Delivery.{delivered, ofFlow, atHop, onCable, fram
 use Rattle.model.specs.Laws.All.{all-imp}
 use Rattle.model.specs.Laws.Total.{total-append, total-filter, total-each, total-below, total-same, total-cond}
 use Rattle.model.specs.Laws.Test.{cond-le, cond-same, and-then}
-use Rattle.model.specs.Laws.List.{index-below, none-past}
+use Rattle.model.specs.Laws.List.{index-below, number-within, none-past}
 use Rattle.model.specs.Laws.Run.Windows.{window-ext, window-at, window-has}
 use Rattle.model.specs.Laws.Run.OneLink.{held, held-each, held-le}
 use Rattle.model.specs.Laws.Run.InQueue.{queue-weight}
@@ -34,11 +34,6 @@ record Within (t : Table) (h : Hop) : Type 0 where
   link-high : h .link ≤ length t
   level-low : 1 ≤ h .level
   level-high : h .level ≤ length (emptyLink (linkAt t (h .link)) .levels)
-
-number-within : {A : Type 0} (l : List A) (n : ℕ) (x : A) → nth l n ≡ some x → (1 ≤ n) × (n ≤ length l)
-unfolding nth
-number-within l zero x e = absurd (Option·none-ne-some x e)
-number-within l (suc i) x e = (omega arith, index-below l i x e)
 
 empty-count : (qs : List Queue) → length (emptyLevels qs) ≡ length qs
 unfolding emptyLevels
