@@ -49,10 +49,6 @@ headColumns = 41
 abbrev pub hopColumns : ℕ
 hopColumns = 6
 
--- Columns of the longest order line.
-abbrev pub orderColumns : ℕ
-orderColumns = headColumns + hopColumns * hopsMost
-
 -- Bytes and lines of an order text.
 abbrev pub orderBytes : ℕ
 orderBytes = 60000

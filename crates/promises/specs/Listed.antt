@@ -1,5 +1,6 @@
 -- The mission's first line over what the contracts promise: every input ends in an answer that document 01 lists, and what is refused changes
 -- nothing. The lists stand in `model`'s `Codes`. That it holds is `open-listed`, `call-listed` and `batch-listed` in `ListedLaws`.
+-- The writer's part stands in `Handover`.
 use Prim.Native.Nat.{ℕ, _*_, _<_}
 use mathlib.Core.Path.{_≡_}
 use mathlib.Core.List.{List, [], _∷_, _++_, List·Memᴰ}
