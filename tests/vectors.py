@@ -2,13 +2,13 @@
 """Runs a program on the stored cases and compares what it prints with printed.txt, byte by byte; what it says on standard
 error too, where that is known.
 
-    tests/vectors.py PROGRAM admit|host|replay|handover [ARGUMENT ..]
+    tests/vectors.py PROGRAM admit|host|replay|handover|offers [ARGUMENT ..]
 
 A host has the cases of admit, and its standard error isn't compared.
 The arguments are passed on to the program, which must print the same with them.
 Each case runs in a folder of its own that holds just the case's input files. After the stored cases come some by hand: files
-that are missing, a folder, unended or far too long, changes, and registries with gaps or full. The first difference ends
-the run; no case at all is a failure."""
+that are missing, a folder, unended or far too long, changes, registries with gaps or full, and gates. The first difference
+ends the run; no case at all is a failure."""
 import shutil
 import subprocess
 import sys
@@ -17,8 +17,8 @@ from pathlib import Path
 
 ROOT = Path(__file__).resolve().parent.parent
 STORED = ROOT / "tests" / "vectors"
-OF_CALLS = ["replay", "handover"]  # a stored case is of the one that its name holds, else of admit
-EXAMPLES = {"admit": [".", "hall", "fragmented"], "handover": ["handover"]}
+OF_LISTS = ["replay", "handover", "offers"]  # a stored case is of the one that its name holds, else of admit
+EXAMPLES = {"admit": [".", "hall", "fragmented"], "handover": ["handover"], "offers": ["gate"]}
 # What `handover` says of a stored case, where it says anything: `replay` prints it of the same table.txt and calls.txt. The one of 9
 # columns is a refused table's code and line; `end` has the length of the whole calls before what is none.
 SAID = {"handover05": b"end      2916\n", "handover08": b"end      3821\n", "handover09": b"  1     1\n"}
@@ -41,7 +41,7 @@ REFUSED_CHANGES = [
     (b" 3     7     1000   1980\n", b" 10   0   0 0\n"),
 ]
 DONE = b"  0   1   0 0\n"
-CALL_BYTES = 200_000
+LIST_BYTES = 200_000  # so many of calls.txt and of offers.txt count
 SLOTS = 256
 HOP_ENTRIES = 1_024
 
@@ -92,10 +92,42 @@ def handed(lines, held, table=TWELVE, after=b"", said=b""):
     return {"table.txt": table, "calls.txt": calls(*lines) + after}, b"".join(held), said
 
 
+def opening(rate=1_000, burst=168, frame=84, reading=0):
+    """By default 84 bytes take 672 us, and two frames are the burst."""
+    return b"%9d%8d%5d%9d\n" % (rate, burst, frame, reading)
+
+
+def offer(length, wait=0):
+    return b"%5d%9d\n" % (length, wait)
+
+
+def gate(code, tokens):
+    """A line of what offers prints."""
+    return b"%3d%14d\n" % (code, tokens)
+
+
+def end(line):
+    return b"end%10d\n" % line
+
+
+def offered(*steps, first=opening(), after=b"", printed=b"", said=b""):
+    """A case of offers: the first line opens a full gate; each step is an offer and what is printed of it; then whatever follows."""
+    rows = b"".join(row for row, _ in steps)
+    return {"offers.txt": first + rows + after}, gate(0, FULL_GATE) + b"".join(line for _, line in steps) + printed, said
+
+
+FULL_GATE = 8_000 * 168
+EMPTIED = [(offer(84), gate(0, 672_000)), (offer(84), gate(0, 0))]
+FIFTH = 858_993_459  # us; five of them are 1 less than a turn of the clock
+# The longest list of whole lines; 3 bytes more count, so every longer list is cut within a line.
+WHOLE_OFFERS = (LIST_BYTES - len(opening())) // len(offer(84))
+LONGEST = EMPTIED + [(offer(84), gate(1, 0))] * (WHOLE_OFFERS - 2)
+
 # A call that is given no line, as long that just one of a registration is read behind it.
-FILLING = call(2, b"x" * (CALL_BYTES - len(call(2, b"")) - len(calls(REGISTER))))
+FILLING = call(2, b"x" * (LIST_BYTES - len(call(2, b"")) - len(calls(REGISTER))))
 NO_TABLE = unopened("admit", "table")
 NO_ORDERS = unopened("admit", "orders")
+LONG_OFFERS = b"offers: offers.txt: only the first 200,000 bytes count\n"
 LONG_LIST = b"handover: calls.txt: only the first 200,000 bytes count\n"
 LONG_TABLE = b"admit: refused: the table is too long\n"
 
@@ -160,15 +192,64 @@ BY_HAND = {
         "a byte more": ({"table.txt": TABLE, "calls.txt": FILLING + calls(REGISTER) + b"x"}, REGISTER, LONG_LIST),
         "calls past 200,000 bytes": ({"table.txt": TABLE, "calls.txt": FILLING + calls(REGISTER, RELEASE)}, REGISTER, LONG_LIST),
         "a call cut at 200,000 bytes": ({"table.txt": TABLE, "calls.txt": b" 2     0\n" + FILLING + calls(REGISTER, RELEASE)}, b"",
-            LONG_LIST + b"end%10d\n" % (CALL_BYTES - len(calls(REGISTER)) + 9)),
+            LONG_LIST + b"end%10d\n" % (LIST_BYTES - len(calls(REGISTER)) + 9)),
         "a table of 30 MB": ({"table.txt": TABLE * 810_811, "calls.txt": calls(REGISTER)}, b"", b"  5     0\n"),
+    },
+    "offers": {
+        "no file": ({}, b"", unopened("offers", "offers")),
+        "a folder": ({"offers.txt": FOLDER}, b""),
+        "an empty file": ({"offers.txt": b""}, b""),
+        "an opening alone": offered(),
+        "the widest opening": ({"offers.txt": opening(10_000_000, 1_000_000, 1_542, 999_999_999)}, gate(0, 8_000_000_000)),
+        "an unended opening": ({"offers.txt": opening()[:-1]}, end(1)),
+        "one byte": ({"offers.txt": b"1"}, end(1)),
+        "an empty line": ({"offers.txt": b"\n" + opening()}, end(1)),
+        "an opening a column too long": ({"offers.txt": b" " + opening() + offer(84)}, end(1)),
+        "an opening a column too short": ({"offers.txt": opening()[1:] + offer(84)}, end(1)),
+        "an opening with a blank after it": ({"offers.txt": opening()[:-1] + b" \n"}, end(1)),
+        "an opening with CR LF": ({"offers.txt": opening()[:-1] + b"\r\n"}, end(1)),
+        "an opening with a leading zero": ({"offers.txt": opening().replace(b" 1000", b"01000")}, end(1)),
+        "an opening without a reading": ({"offers.txt": opening()[:22] + b" " * 9 + b"\n"}, end(1)),
+        "a refused opening": ({"offers.txt": opening(rate=0)}, gate(61, 0)),
+        "a refused opening, lines after it": ({"offers.txt": opening(frame=169) + offer(84) + b"x"}, gate(61, 0)),
+        "a rate out of range": ({"offers.txt": opening(rate=10_000_001)}, gate(61, 0)),
+        "a burst out of range": ({"offers.txt": opening(burst=1_000_001)}, gate(61, 0)),
+        "a burst below a frame": ({"offers.txt": opening(burst=83)}, gate(61, 0)),
+        "a largest frame out of range": ({"offers.txt": opening(burst=2_000, frame=1_543)}, gate(61, 0)),
+        "a largest frame below the smallest": ({"offers.txt": opening(frame=83)}, gate(61, 0)),
+        "an unended offer": offered(*EMPTIED, after=offer(84)[:-1], printed=end(4)),
+        "an offer a column too long": offered(*EMPTIED, after=b" " + offer(84) + offer(84), printed=end(4)),
+        "an offer a column too short": offered(*EMPTIED, after=offer(84)[1:] + offer(84), printed=end(4)),
+        "an offer that isn't right-justified": offered(after=b"84   " + offer(84)[5:], printed=end(2)),
+        "an offer with a leading zero": offered(after=b"   84       00\n", printed=end(2)),
+        "an offer with a NUL": offered(after=b"   84       \x000\n", printed=end(2)),
+        "an empty line later": offered(*EMPTIED, after=b"\n", printed=end(4)),
+        "one byte later": offered(*EMPTIED, after=b" ", printed=end(4)),
+        "just in time": offered(*EMPTIED, (offer(84, 672), gate(0, 0))),
+        "1 us too soon, then in time": offered(*EMPTIED, (offer(84, 671), gate(1, 671_000)), (offer(84, 1), gate(0, 0))),
+        "never above full": offered((offer(84, 999_999_999), gate(0, 672_000)), (offer(84, 671), gate(0, 671_000)), (offer(84, 999_999_999), gate(0, 672_000))),
+        "frames refused, then in time": offered(*EMPTIED, (offer(83, 600), gate(60, 0)), (offer(85, 71), gate(60, 0)), (offer(84), gate(1, 671_000)),
+            (offer(0, 1), gate(60, 671_000)), (offer(84), gate(0, 0)), (offer(99_999), gate(60, 0))),
+        "round the corner": offered((offer(84, 999_999_999), gate(0, 672_000)), (offer(84), gate(0, 0)),
+            *[(offer(83, 999_999_999), gate(60, 0))] * 3, (offer(83, 294_967_299), gate(60, 0)), (offer(84, 671), gate(0, 672_000))),
+        "within a turn": offered(*EMPTIED, *[(offer(83, FIFTH), gate(60, 0))] * 5, (offer(84), gate(0, 672_000))),
+        "a whole turn unseen": offered(*EMPTIED, *[(offer(83, FIFTH), gate(60, 0))] * 5, (offer(84, 1), gate(1, 0)), (offer(84, 672), gate(0, 0))),
+        "past the corner between two offers": offered(*[(offer(84, 999_999_999), gate(0, 672_000))] * 4, (offer(84), gate(0, 0)),
+            (offer(84, 671), gate(1, 671_000)), (offer(84, 1), gate(0, 0)), first=opening(reading=294_967_299)),
+        "the longest list": offered(*LONGEST),
+        "200,000 bytes": offered(*LONGEST, after=b"   ", printed=end(WHOLE_OFFERS + 2)),
+        "a byte more": offered(*LONGEST, after=b"   8", printed=end(WHOLE_OFFERS + 2), said=LONG_OFFERS),
+        "an offer cut at 200,000 bytes": offered(*LONGEST, after=offer(84) * 2, printed=end(WHOLE_OFFERS + 2), said=LONG_OFFERS),
+        "a long list that ends early": offered(after=b"x\n" * LIST_BYTES, printed=end(2), said=LONG_OFFERS),
+        "a long list, its opening refused": ({"offers.txt": opening(rate=0) + offer(84) * WHOLE_OFFERS + b"   8"}, gate(61, 0), LONG_OFFERS),
+        "30 MB": offered(*LONGEST, after=offer(84) * 2_000_000, printed=end(WHOLE_OFFERS + 2), said=LONG_OFFERS),
     },
 }
 
 
 def stored(kind):
     """The stored cases of this kind, and examples: name, input files, printed.txt."""
-    found = [path for path in sorted(STORED.iterdir()) if path.is_dir() and kind == next((name for name in OF_CALLS if name in path.name), "admit")]
+    found = [path for path in sorted(STORED.iterdir()) if path.is_dir() and kind == next((name for name in OF_LISTS if name in path.name), "admit")]
     if found:
         found += [ROOT / "examples" / name for name in EXAMPLES.get(kind, [])]
     for folder in found:
@@ -233,7 +314,7 @@ def judge_full(command):
 
 def main(arguments):
     if len(arguments) < 2 or arguments[1] not in [*BY_HAND, "host"]:
-        sys.exit("usage: tests/vectors.py PROGRAM admit|host|replay|handover [ARGUMENT ..]")
+        sys.exit("usage: tests/vectors.py PROGRAM admit|host|replay|handover|offers [ARGUMENT ..]")
     program, named, *passed = arguments
     kind, heard = ("admit", False) if named == "host" else (named, True)
     command = [str(Path(program).resolve()), *passed]

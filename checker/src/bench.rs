@@ -1,9 +1,10 @@
 //! The benchmark: each version of the batch on the same loads, in turn in the same run; the search for a
-//! free slot by itself; direct calls with and without the 42 check; and the stack that a batch needs.
+//! free slot by itself; an offer to a gate; direct calls with and without the 42 check; and the stack that a batch needs.
 
 use crate::book::{self, Counted};
 use crate::clock::micros;
 use crate::fast;
+use crate::gates;
 use crate::lists;
 use crate::loads::{kind_of, loads, Load};
 use crate::rounds::{report, Bars, Limits, Measured, Round};
@@ -160,6 +161,7 @@ pub fn run(seconds: u64, replay: Option<&Path>, with_bars: bool) -> bool {
         report(load.name, "order", &found, limits(load), &mut bars);
     }
     same &= search::bench(&mut bars);
+    same &= gates::bench(&mut bars);
     direct_calls(&mut bars);
     if let Some(program) = replay {
         same &= lists::bench(program, CALLS, &mut bars).unwrap_or_else(|error| {

@@ -1,9 +1,12 @@
 //! The checker's commands.
 
+use checker::gates::Version;
 use checker::process::Program;
 use checker::sequences::{only_the_first_grows, Judges};
 use checker::sim::Fault;
-use checker::{bench, compare, handover, lists, search, sequences, simulate, vectors};
+use checker::{
+    bench, compare, gates, handover, lists, offers, search, sequences, simulate, vectors,
+};
 use halls::tables::{Bounds, Count};
 use plain::handover::Printed;
 use std::fmt::Debug;
@@ -15,13 +18,16 @@ const USAGE: &str = "usage:
   checker admit                     (table.txt and orders.txt of the current folder)
   checker replay                    (table.txt and calls.txt)
   checker handover                  (table.txt and calls.txt)
+  checker offers                    (offers.txt)
   checker vectors DIR
   checker compare --seed S --count N [--long]
   checker words --seed S --count N
+  checker gates --seed S --count N
   checker sequences --seed S --count N
   checker simulate --seed S --count N
   checker compare-replay PROGRAM --seed S --count N
   checker compare-handover PROGRAM --seed S --count N
+  checker compare-offers PROGRAM --seed S --count N
   checker bench [--seconds S] [--replay PROGRAM] [--bars]";
 
 fn main() -> ExitCode {
@@ -31,12 +37,15 @@ fn main() -> ExitCode {
         ["admit"] => Some(print(&vectors::admit_in(Path::new(".")))),
         ["replay"] => Some(print(&vectors::replay_in(Path::new(".")))),
         ["handover"] => Some(print_both(&vectors::handover_in(Path::new(".")))),
+        ["offers"] => Some(print_both(&vectors::offers_in(Path::new(".")))),
         ["vectors", folder] => Some(report(folder, vectors::run(Path::new(folder)))),
         [lists::VERSION_REPLAY, version] => version_replay(version),
         ["compare", options @ ..] => run_compare(options),
         ["compare-replay", program, options @ ..] => run_compare_replay(program, options),
         ["compare-handover", program, options @ ..] => run_compare_handover(program, options),
+        ["compare-offers", program, options @ ..] => run_compare_offers(program, options),
         ["words", options @ ..] => run_words(options),
+        ["gates", options @ ..] => run_gates(options),
         ["sequences", options @ ..] => run_sequences(options),
         ["simulate", options @ ..] => run_simulate(options),
         ["bench", options @ ..] => Some(run_bench(options)),
@@ -113,16 +122,34 @@ fn run_compare_replay(program: &str, options: &[&str]) -> Option<bool> {
     }
 }
 
-fn run_compare_handover(program: &str, options: &[&str]) -> Option<bool> {
+/// Runs a program beside the plain version; `compare` shows what was met and gives what should have been and wasn't.
+fn run_beside(
+    program: &str,
+    options: &[&str],
+    compare: impl Fn(&Program, u64, u64) -> Result<Vec<&'static str>, String>,
+) -> Option<bool> {
     let (seed, count) = seed_and_count(options)?;
     let program = Program::at(Path::new(program), &[]).map_err(|error| error.to_string());
-    match program.and_then(|program| handover::compare(&program, seed, count)) {
+    match program.and_then(|program| compare(&program, seed, count)) {
         Err(what) => Some(differs(&what)),
-        Ok(met) => {
-            met.print();
-            Some(none_missing(&met.missing()))
-        }
+        Ok(missing) => Some(none_missing(&missing)),
     }
+}
+
+fn run_compare_handover(program: &str, options: &[&str]) -> Option<bool> {
+    run_beside(program, options, |program, seed, count| {
+        let met = handover::compare(program, seed, count)?;
+        met.print();
+        Ok(met.missing())
+    })
+}
+
+fn run_compare_offers(program: &str, options: &[&str]) -> Option<bool> {
+    run_beside(program, options, |program, seed, count| {
+        let met = offers::compare(program, seed, count)?;
+        met.print();
+        Ok(met.missing())
+    })
 }
 
 /// Shows what a run should have met and didn't.
@@ -157,6 +184,21 @@ fn run_words(options: &[&str]) -> Option<bool> {
         Ok(met) => {
             let names: Vec<&str> = searches.iter().map(|(name, _)| *name).collect();
             println!("searches: {}", names.join(", "));
+            met.print();
+            Some(none_missing(&met.missing()))
+        }
+    }
+}
+
+fn run_gates(options: &[&str]) -> Option<bool> {
+    let (seed, count) = seed_and_count(options)?;
+    let (plain, linked) = (Version::plain(), Version::linked());
+    match gates::compare(seed, count, &plain, &linked) {
+        Err(what) => Some(differs(&what)),
+        Ok(met) => {
+            let others = linked.iter().map(|version| version.name);
+            let names: Vec<&str> = [plain.name].into_iter().chain(others).collect();
+            println!("gates: {}", names.join(", "));
             met.print();
             Some(none_missing(&met.missing()))
         }

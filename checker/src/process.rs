@@ -1,4 +1,4 @@
-//! A program that is run as a process in a folder with a table and a list of calls.
+//! A program that is run as a process in a folder with its files.
 
 use plain::handover::Printed;
 use std::fs;
@@ -13,14 +13,20 @@ pub struct Folder(PathBuf);
 static COUNT: AtomicU64 = AtomicU64::new(0);
 
 impl Folder {
+    /// One with a table and a list of calls.
     pub fn with(table: &[u8], calls: &[u8]) -> io::Result<Folder> {
+        Folder::holding(&[("table.txt", table), ("calls.txt", calls)])
+    }
+
+    pub fn holding(files: &[(&str, &[u8])]) -> io::Result<Folder> {
         let number = COUNT.fetch_add(1, Ordering::Relaxed);
         let name = format!("checker-{}-{number}", std::process::id());
         let path = std::env::temp_dir().join(name);
         fs::create_dir_all(&path)?;
         let folder = Folder(path);
-        fs::write(folder.0.join("table.txt"), table)?;
-        fs::write(folder.0.join("calls.txt"), calls)?;
+        for (name, text) in files {
+            fs::write(folder.0.join(name), text)?;
+        }
         Ok(folder)
     }
 }

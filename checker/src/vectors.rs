@@ -3,6 +3,7 @@
 use crate::lists::{HANDOVERS, REPLAYS};
 use crate::versions::versions;
 use plain::handover::{handover, Printed};
+use plain::offers::offers;
 use plain::programs::{admit, admit_by, replay};
 use std::fs;
 use std::io;
@@ -28,6 +29,11 @@ pub fn handover_in(folder: &Path) -> Printed {
     handover(&text(folder, "table.txt"), &text(folder, "calls.txt"))
 }
 
+/// What `offers` leaves in this folder.
+pub fn offers_in(folder: &Path) -> Printed {
+    offers(&text(folder, "offers.txt"))
+}
+
 /// The folders below `folder` that hold a printed.txt, by name.
 fn cases(folder: &Path) -> io::Result<Vec<PathBuf>> {
     let mut found = Vec::new();
@@ -41,7 +47,7 @@ fn cases(folder: &Path) -> io::Result<Vec<PathBuf>> {
     Ok(found)
 }
 
-/// Whether a case is of this program; one of neither list program is of `admit`.
+/// Whether a case is of this program; one of none of the list programs is of `admit`.
 fn is_of(case: &Path, program: &str) -> bool {
     let name = case.file_name().unwrap_or_default();
     name.to_string_lossy().contains(program)
@@ -67,6 +73,8 @@ fn printed_in(case: &Path) -> Vec<(&'static str, Vec<u8>)> {
         for (name, handover) in HANDOVERS {
             found.push((name, handover(&table, &calls).out));
         }
+    } else if is_of(case, "offers") {
+        found.push(("plain", offers_in(case).out));
     } else {
         found.push(("plain", admit_in(case)));
         for (name, batch) in versions() {

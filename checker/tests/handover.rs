@@ -1,8 +1,10 @@
 //! W-204's writer by hand, its texts read back by all versions, and the comparison with a program: that it passes one that writes
 //! what the plain version does, and finds each that doesn't.
 
+#[path = "common/programs.rs"]
+mod programs;
+
 use checker::handover::{compare, read_back};
-use checker::process::Program;
 use checker::versions::{admitted_in_turn, versions};
 use halls::input;
 use halls::rng::Rng;
@@ -13,7 +15,7 @@ use plain::programs::{begin, write_call};
 use plain::registry::Registry;
 use plain::slips::{Growth, Slips};
 use plain::table::Queue;
-use std::path::Path;
+use programs::Comparison;
 
 const TABLE: &[u8] =
     b"   1   1   2   100 1  10000   100000\n   1   1   2   100 2  10000   100000\n   2   2   3   100 1  10000   100000\n";
@@ -214,29 +216,19 @@ fn a_text_from_before_w208_is_admitted() {
     assert!(texts > 100 && others > 50, "{texts} {others}");
 }
 
-const CHECKER: &str = env!("CARGO_BIN_EXE_checker");
+const COMPARISON: Comparison = Comparison {
+    command: "handover",
+    run: |program, count| Ok(compare(program, 7, count)?.missing()),
+};
 
 #[test]
 fn the_plain_writer_passes_and_every_kind_occurs() {
-    let program = Program::at(Path::new(CHECKER), &["handover"]).unwrap();
-    let met = compare(&program, 7, 400).unwrap();
-    assert_eq!(met.missing(), Vec::<&str>::new());
-    let few = compare(&program, 7, 1).unwrap();
-    assert!(!few.missing().is_empty());
-}
-
-/// What the comparison tells of the plain writer behind a command that spoils what it leaves.
-fn told_of(spoilt: &str) -> String {
-    let command = format!("\"$0\" handover {spoilt}");
-    let shell = Program::at(Path::new("/bin/sh"), &["-c", &command, CHECKER]).unwrap();
-    let outcome = compare(&shell, 7, 100);
-    outcome.err().unwrap_or_default()
+    COMPARISON.passes_and_meets_every_kind();
 }
 
 #[test]
 fn wrong_writers_are_found() {
-    assert_eq!(told_of(""), "");
-    for printed in [
+    COMPARISON.finds_wrong_programs(&[
         "| tac",
         "| sed 's/^ //'",
         "| sed 's/^ 1/ 2/'",
@@ -245,18 +237,5 @@ fn wrong_writers_are_found() {
         "| sed 's/$/ /'",
         "2>&1",
         "&& echo",
-    ] {
-        let told = told_of(printed);
-        assert!(
-            told.ends_with(": what is printed differs"),
-            "{printed}: {told}"
-        );
-    }
-    for said in ["2>/dev/null", "&& echo >&2"] {
-        let told = told_of(said);
-        let differs = told.ends_with(": what is said on standard error differs");
-        assert!(differs, "{said}: {told}");
-    }
-    let told = told_of("&& exit 3");
-    assert!(told.ends_with(": ended with exit status: 3"), "{told}");
+    ]);
 }

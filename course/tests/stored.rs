@@ -3,7 +3,7 @@
 
 mod common;
 
-use common::{course, hall, root};
+use common::{course, example, hall, root};
 use course::status::Status;
 use std::fs;
 
@@ -40,6 +40,17 @@ fn the_example_hall() {
     );
     compare("handover-hall.txt", &["handover", &hall], Status::Fine);
     compare("mark-hall.txt", &["mark", &hall, &printed], Status::Fine);
+}
+
+#[test]
+fn sources_behind_gates() {
+    for (name, folder, sends) in [
+        ("gates-shared.txt", "shared", "shared/doubled.txt"),
+        ("gates-hall.txt", "hall", "hall/breaking.txt"),
+    ] {
+        let words = ["traffic", &example(folder), &example(sends), "--gates"];
+        compare(name, &words, Status::Fine);
+    }
 }
 
 #[test]

@@ -54,14 +54,15 @@ const KIND_RANGE: &[(u64, u64)] = &[(REGISTER, CHANGE)];
 
 pub const KIND: Field = Field::new("kind", "", (1, 2), KIND_RANGE);
 pub const NUMBER: Field = Field::new("flow number", "", (3, 8), &[(1, 65_535)]);
-const RATE: Field = Field::new("rate", "kbit/s", (9, 17), &[(1, 10_000_000)]);
-const BURST: Field = Field::new("burst", "bytes", (18, 25), &[(SMALLEST_FRAME, 1_000_000)]);
-#[rustfmt::skip]
+pub const RATE: Field = Field::new("rate", "kbit/s", (9, 17), &[(1, 10_000_000)]);
+pub const BURST: Field = Field::new("burst", "bytes", (18, 25), &[(SMALLEST_FRAME, 1_000_000)]);
+const FRAME_RANGE: &[(u64, u64)] = &[(SMALLEST_FRAME, LARGEST_FRAME)];
+pub const FRAME: Field = Field::new("largest frame", "bytes", (26, 30), FRAME_RANGE);
 const REGISTRATION: [Field; 6] = [
     NUMBER,
     RATE,
     BURST,
-    Field::new("largest frame", "bytes", (26, 30), &[(SMALLEST_FRAME, LARGEST_FRAME)]),
+    FRAME,
     Field::new("deadline", "µs", (31, 38), &[(1, 10_000_000)]),
     Field::new("hop count", "", (39, 41), &[(1, MOST_HOPS)]),
 ];

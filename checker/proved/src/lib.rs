@@ -1,5 +1,8 @@
-//! What is proved and can be called from here: the batch, linked from libbatch.a under the feature `linked`, and the search for a
-//! free slot, linked from libflow_store.a under the feature `search`.
+//! What is proved and can be called from here: the batch, linked from libbatch.a under the feature `linked`, the search for a
+//! free slot, linked from libflow_store.a under the feature `search`, and the sender's gate, linked from libsender_gate.a under
+//! the feature `gate`.
+
+pub mod gate;
 
 /// A batch over byte areas; code and line number come back.
 pub type Batch = fn(&[u8], &[u8], &mut [u8]) -> (u32, u32);

@@ -1,8 +1,9 @@
 //! One call of the command: conformance, the run, the report, the trace and the page.
 
-use super::conform::{self, Breach};
+use super::conform::{self, Breach, Who};
 use super::figures::{Figures, Seen, Verdict};
 use super::frames::Sends;
+use super::gates::Gates;
 use super::hall::Hall;
 use super::network::Network;
 use super::page::stretch::{Recorder, Stretch};
@@ -26,9 +27,10 @@ pub struct Job<'a> {
     pub arguments: &'a Arguments,
     pub hall: Hall,
     pub arrivals: Arrivals,
-    /// The name of SENDS and what it says.
+    /// The name of SENDS and what it says, or what of it passed the gates.
     pub name: String,
     pub sends: Sends,
+    pub gates: Option<Gates>,
     /// Lines before the report.
     pub preface: String,
     /// What the page is to show.
@@ -81,16 +83,17 @@ impl Job<'_> {
             .collect();
         if !breaches.is_empty() && !self.arguments.has("--anyway") {
             errors += &format!(
-                "{}: not sent: {}; --anyway sends it\n",
+                "{}: not sent: {}; {}\n",
                 self.name,
-                unconforming(&breaches)
+                unconforming(&breaches),
+                self.way_out(&breaches)
             );
             return Err(Outcome::failed(Status::Unconforming, errors));
         }
         let figures = self.figures()?;
         let seen = &figures.seen;
         let verdict = Verdict::of(&self.hall.queues, seen);
-        let remark = remark(&breaches, &verdict);
+        let remark = self.remark(&breaches, &verdict);
         self.write_page(seen, &verdict, &remark, figures.end)?;
         let printed = format!(
             "{}{}\n{}\n\n{}\n{}{}{}\n",
@@ -122,7 +125,35 @@ impl Job<'_> {
         all
     }
 
-    /// `2 frames of 2 flows; those of one instant: forwarded ones first`; before the semicolon the laptops' frames, if any.
+    /// What to do about sources that don't conform.
+    fn way_out(&self, breaches: &[Breach]) -> &'static str {
+        let of_flow = |breach: &Breach| matches!(breach.who, Who::Flow(_));
+        match (&self.gates, breaches.iter().any(of_flow)) {
+            (None, _) => "--anyway sends it",
+            (Some(_), false) => "no gate stands before a laptop",
+            (Some(_), true) => "this is what a gate rules out; keep the three files",
+        }
+    }
+
+    /// What the promise says of this run.
+    fn remark(&self, breaches: &[Breach], verdict: &Verdict) -> String {
+        if !breaches.is_empty() {
+            let unconforming = unconforming(breaches);
+            return format!("{unconforming}: the promise doesn't speak of this run");
+        }
+        let behind = match self.gates {
+            None => "",
+            Some(_) => " behind its gate",
+        };
+        let ruled_out = match verdict.kept() {
+            true => "",
+            false => ": this is what the promise rules out; keep the three files",
+        };
+        format!("every source conforms{behind}{ruled_out}")
+    }
+
+    /// `2 frames of 2 flows; those of one instant: forwarded ones first`; before the semicolon how many were offered to gates and
+    /// the laptops' frames, if any.
     fn summary(&self) -> String {
         let frames = &self.sends.frames;
         let mut sending: Vec<usize> = frames.iter().map(|send| send.flow).collect();
@@ -137,10 +168,13 @@ impl Job<'_> {
             0 => String::new(),
             count => format!(", {}", counted(count, "laptop's frame", "laptops' frames")),
         };
+        let offered = self.gates.as_ref().map(Gates::offered);
+        let offered = offered.map(|count| format!(", of {} offered to gates", commas(count)));
         format!(
-            "{} of {}{laptops}; those of one instant: {order}",
+            "{} of {}{}{laptops}; those of one instant: {order}",
             counted(frames.len(), "frame", "frames"),
-            counted(sending.len(), "flow", "flows")
+            counted(sending.len(), "flow", "flows"),
+            offered.unwrap_or_default()
         )
     }
 
@@ -193,21 +227,6 @@ impl Job<'_> {
         };
         let html = page::page(&self.hall, seen, verdict, &recorder, &words);
         std::fs::write(path, html).map_err(|error| cannot_write(Path::new(path), &error))
-    }
-}
-
-/// What the promise says of this run.
-fn remark(breaches: &[Breach], verdict: &Verdict) -> String {
-    match (breaches.is_empty(), verdict.kept()) {
-        (true, true) => "every source conforms".to_string(),
-        (true, false) => {
-            "every source conforms: this is what the promise rules out; keep the three files"
-                .to_string()
-        }
-        (false, _) => format!(
-            "{}: the promise doesn't speak of this run",
-            unconforming(breaches)
-        ),
     }
 }
 

@@ -4,6 +4,7 @@
 pub mod conform;
 pub mod figures;
 pub mod frames;
+pub mod gates;
 pub mod hall;
 mod job;
 mod marks;
@@ -25,6 +26,7 @@ use crate::arguments::{Arguments, Choice, Command};
 use crate::folder::{read_file, Folder};
 use crate::session::{remark, Session};
 use crate::status::{Outcome, Status};
+use gates::Gates;
 use hall::Hall;
 use halls::rng::Rng;
 use job::{Chosen, Job};
@@ -34,7 +36,7 @@ use std::path::Path;
 
 pub const COMMAND: Command = Command {
     name: "traffic",
-    usage: "FOLDER SENDS [--page FILE.html] [--trace FILE.tsv] [--arrivals first|last|SEED] [--anyway]\n\
+    usage: "FOLDER SENDS [--page FILE.html] [--trace FILE.tsv] [--arrivals first|last|SEED] [--anyway | --gates]\n\
             FOLDER --search [--seconds S] [--tries N] [--seed SEED] [--queue LINK.LEVEL] [--out SENDS]",
     about: "puts traffic on the flows held after the orders: exercises three and four",
     help: include_str!("help.txt"),
@@ -46,6 +48,7 @@ pub const COMMAND: Command = Command {
         Choice::with("--trace", "FILE.tsv"),
         Choice::with("--arrivals", "first, last or a seed"),
         Choice::flag("--anyway"),
+        Choice::flag("--gates"),
         Choice::flag("--search"),
         Choice::with("--seconds", "SECONDS"),
         Choice::with("--tries", "COUNT"),
@@ -58,7 +61,11 @@ pub const COMMAND: Command = Command {
 
 fn traffic(arguments: &Arguments) -> Result<Outcome, Outcome> {
     let outcome = prepare(arguments)?.run().unwrap_or_else(|failed| failed);
-    Ok(outcome.with_remark(remark()))
+    let of_gates = match arguments.has("--gates") {
+        true => gates::remark(),
+        false => "",
+    };
+    Ok(outcome.with_remark(of_gates).with_remark(remark()))
 }
 
 fn usage(what: &str) -> Outcome {
@@ -81,11 +88,15 @@ fn judge(arguments: &Arguments) -> Result<(), Outcome> {
     match (arguments.has("--search"), arguments.words.len()) {
         (true, 2) => return Err(usage("--search writes SENDS, it reads none")),
         (false, 1) => return Err(usage("SENDS is missing")),
-        (true, _) => only(&["--anyway"], "SENDS")?,
+        (true, _) => only(&["--anyway", "--gates"], "SENDS")?,
         (false, _) => only(
             &["--seconds", "--tries", "--seed", "--queue", "--out"],
             "--search",
         )?,
+    }
+    if arguments.has("--anyway") && arguments.has("--gates") {
+        let why = "--anyway sends what --gates holds back: one of them at a time";
+        return Err(usage(why));
     }
     match arguments.has("--page") {
         true => Ok(()),
@@ -106,16 +117,25 @@ fn prepare(arguments: &Arguments) -> Result<Job<'_>, Outcome> {
         true => search_command::command(arguments, &hall, &arrivals)?,
         false => given(&arguments.words[1])?,
     };
-    let sends = sends::read(&text, &hall.flows, &hall.queues)
+    let mut sends = sends::read(&text, &hall.flows, &hall.queues)
         .and_then(|lines| sends::expand(&lines, &hall.flows, hall.span()))
         .map_err(|mistake| unreadable(format!("{name}:{mistake}")))?;
+    let mut gates = None;
+    if arguments.has("--gates") {
+        let beside = proved::gate::CALLS;
+        let (passed, counted) = gates::through(beside.as_ref(), &hall.flows, &sends.frames)?;
+        sends.frames = passed;
+        gates = Some(counted);
+    }
+    let of_gates = |gates: &Gates| format!("{}\n", gates.report());
     Ok(Job {
         arguments,
         hall,
         arrivals,
         name,
         sends,
-        preface,
+        preface: gates.as_ref().map_or(preface, of_gates),
+        gates,
         shown,
     })
 }

@@ -20,12 +20,6 @@ struct Frame {
     behind: u128,
 }
 
-#[derive(Clone, Copy)]
-enum Sending {
-    Level(usize),
-    Laptop,
-}
-
 /// A link: what is under way with the slots left of it, its queues, ready laptops' frames, and its cable.
 #[derive(Default)]
 struct Link {
@@ -34,6 +28,12 @@ struct Link {
     waiting: Vec<VecDeque<Frame>>,
     laptops: VecDeque<Laptop>,
     cable: VecDeque<(u64, Frame)>,
+}
+
+#[derive(Clone, Copy)]
+enum Sending {
+    Level(usize),
+    Laptop,
 }
 
 pub struct Slow<'a> {

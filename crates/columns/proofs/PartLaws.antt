@@ -1,6 +1,6 @@
 -- What is written at a position, seen in the whole: a part lent on, fields and texts one after the other. Assumes nothing.
 use Prim.Native.Nat.{ℕ, _+_, _-_, _≤_, _<_}
-use mathlib.Core.Path.{_≡_, _∙_, refl, sym, ap, ap₂}
+use mathlib.Core.Path.{_≡_, _∙_, refl, sym, ap, ap₂, subst}
 use mathlib.Core.List.{List, [], _∷_, _++_, append-assoc, append-nil}
 use native.Mathlib.Omega.{arith}
 use lib.ListN.{length, take, drop, set, length-append, length-take, length-drop, take-append-drop, drop-of-length-le}
@@ -98,6 +98,17 @@ module _ {whole left area : List ℕ} {size at : ℕ} (now : Filling whole left 
             ∙ ap₂ (λ (t : List ℕ) (k : ℕ). take at area ++ (t ++ drop k area)) (sym splits) end
             ∙ now .ends;
       }
+
+  -- Such a piece, of so many bytes, has room, and may be written into the part that starts there.
+  module _ (piece more : List ℕ) (splits : left ≡ piece ++ more) (bytes : ℕ) (long : bytes ≡ length piece) where
+    pub filling-room : at + bytes ≤ length area
+    filling-room = omega (arith, now .room, ap length splits, length-append piece more, long)
+
+    pub filling-put : (area′ : List ℕ) → area′ ≡ putMid at (length area - at) area (piece ++ drop bytes (take (length area - at) (drop at area)))
+        → Filling whole more area′ size (at + bytes)
+    filling-put area′ is =
+        subst (λ n. Filling whole more area′ size (at + n)) (sym long)
+        (filling-next piece more area′ splits (is ∙ text-put area piece at bytes filling-room ∙ ap (λ n. take at area ++ (piece ++ drop (at + n) area)) long))
 
   pub filling-last : left ≡ [] → area ≡ whole
   filling-last none =

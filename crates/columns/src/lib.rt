@@ -5,7 +5,7 @@ ghost use mathlib.Core.Bool.{cond};
 ghost use Prim.Native.Nat.{_+_, _%_, _≤_, _<_};
 ghost use lib.Dec.{eqb};
 ghost use lib.ListN.{length, drop};
-ghost use Rattle.model.specs.Columns.{field, fieldAt, digits, justified, writtenAt, between};
+ghost use Rattle.model.specs.Columns.{field, fieldAt, digits, justified, writtenAt, endLine, between};
 ghost use Rattle.columns.specs.View.{valueOf, AfterBlanks, lfWithin, SameLine, FirstLine};
 
 const BLANK: u8 = 32;
@@ -150,6 +150,21 @@ pub fn write_at(line: &mut [u8], first: usize, last: usize, n: u64)
 {
     let start = first - 1;
     write_field(&mut line[start..], last - start, n);
+}
+
+// The bytes of what is said of a list that breaks off, with its LF.
+pub const END: usize = 14;
+
+// Writes what is said of a list that breaks off, and where, to the front of `part`.
+pub fn write_end(part: &mut [u8], n: u64)
+    requires { ⌜ 14 ≤ length (now part) ⌝ }
+    ensures { λ _. ⌜ now (part .exit) ≡ endLine n ++ drop 14 (now (part .entry)) ⌝ }
+{
+    part[0] = 101;
+    part[1] = 110;
+    part[2] = 100;
+    write_at(part, 4, 13, n);
+    part[13] = LF;
 }
 
 // Whether an LF stands in the 8 bytes from `at` on. All of them are looked at, so that it can be done at once.

@@ -2,19 +2,15 @@
 // `handover > orders.txt` feeds `admit`. Reads table.txt and calls.txt as `replay` does. Where that isn't all that was to be
 // handed over, standard error says so: a file that can't be opened and counts as empty, a list that is too long, and what
 // `replay` prints of a refused table and of a list that doesn't close with a whole call.
-ghost use Rattle.io.specs.Counts.{Counts};
 use libc::STDERR_FILENO;
 use libc::STDOUT_FILENO;
 use order_text::TEXT;
 use queue_table::Verdict;
 use recording::ANSWERS;
-use recording::CALLS;
 use recording::Form;
 use recording::TABLE;
 use registry::Registry;
-
-// One byte above what counts, so that a longer list shows.
-const LIST: usize = CALLS + 1;
+use text_files::LIST_AREA;
 
 fn tell(words: &[u8]) {
     io::write_all(STDERR_FILENO, words);
@@ -49,23 +45,10 @@ fn hand_over(table: &[u8], calls: &[u8]) {
     print_text(registry);
 }
 
-// So many bytes of a list count.
-fn counted(size: usize, list: &[u8]) -> usize
-    requires { ⌜ Counts size (now list) ⌝ }
-    ensures { λ r. ⌜ Counts r (now (list .entry)) ⌝ }
-{
-    if CALLS < size {
-        tell(b"handover: calls.txt: only the first 200,000 bytes count\n");
-        return CALLS;
-    }
-    size
-}
-
 fn main() {
     let mut table = [0u8; TABLE];
-    let mut calls = [0u8; LIST];
+    let mut calls = [0u8; LIST_AREA];
     let n = text_files::read_or_tell(b"handover", b"table.txt", &mut table);
-    let m = text_files::read_or_tell(b"handover", b"calls.txt", &mut calls);
-    let size = counted(m, &calls);
-    hand_over(&table[..n], &calls[..size]);
+    let m = text_files::read_list(b"handover", b"calls.txt", &mut calls);
+    hand_over(&table[..n], &calls[..m]);
 }

@@ -76,6 +76,19 @@ hostCodes = 40 ∷ 41 ∷ []
 abbrev pub batchCodes : List ℕ
 batchCodes = openCodes ++ hostCodes
 
+-- A gate (W-207) with a number out of range; a frame out of range; the opening of a gate, and an offer: passed (0), dropped (1) or refused.
+abbrev pub gateCodes : List ℕ
+gateCodes = 61 ∷ []
+
+abbrev pub frameCodes : List ℕ
+frameCodes = 60 ∷ []
+
+abbrev pub gateOpenCodes : List ℕ
+gateOpenCodes = 0 ∷ gateCodes
+
+abbrev pub gateOfferCodes : List ℕ
+gateOfferCodes = 0 ∷ 1 ∷ (frameCodes ++ gateCodes)
+
 -- The hops of an order's line.
 unfoldable pub hopsOf : Order → List Hop
 hopsOf (register f) = f .path

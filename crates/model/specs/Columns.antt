@@ -43,6 +43,10 @@ justified (suc w) n = padded w (n / 10) ++ ((48 + n % 10) ∷ [])
 unfoldable pub writtenAt : (first last n : ℕ) → List ℕ → List ℕ
 writtenAt first last n line = take (first - 1) line ++ (justified (last - (first - 1)) n ++ drop last line)
 
+-- What is said of a list that breaks off: `end`, and in 10 columns where.
+unfoldable pub endLine : (n : ℕ) → List ℕ
+endLine n = 101 ∷ 110 ∷ 100 ∷ (justified 10 n ++ (10 ∷ []))
+
 -- The range from `low` to `high`, both in it.
 unfoldable pub between : (low high n : ℕ) → Bool
 between low high n = leb low n && leb n high

@@ -37,3 +37,6 @@ pub mod Figures
 pub mod Bounds
 pub mod Uncrossed
 pub mod Run
+pub mod Gate
+pub mod Offers
+pub mod Passing

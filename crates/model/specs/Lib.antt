@@ -26,7 +26,11 @@ pub mod Run
 pub mod Punctual
 pub mod Delivery
 pub mod Timely
+pub mod Gate
+pub mod Offers
+pub mod OfferList
 pub mod WorkedRun
 pub mod WorkedBestEffort
+pub mod WorkedGate
 pub mod Laws
 pub mod Results

@@ -81,6 +81,9 @@ rateInRange = between 1 10000000
 abbrev pub burstInRange : ℕ → Bool
 burstInRange = between 84 1000000
 
+abbrev pub frameInRange : ℕ → Bool
+frameInRange = between 84 1542
+
 unfoldable pub hopsInRange : ℕ → Bool
 hopsInRange = between 1 hopsMost
 
@@ -90,7 +93,7 @@ headInRange h =
     numberInRange (h .number)
     && rateInRange (h .rate)
     && burstInRange (h .burst)
-    && between 84 1542 (h .frame)
+    && frameInRange (h .frame)
     && between 1 10000000 (h .deadline)
 
 unfoldable pub flowOf : Head → List Hop → Flow

@@ -1,19 +1,26 @@
 -- The headline facts in a page: what one call on the reference model (document 01: the plain book) does, when a registration and a change are admitted, when room lacks, that no frame is late or lost and every one arrives,
--- that the order of registrations that are all admitted doesn't matter, that nothing admitted by whole thresholds is lost, and that held flows written as order lines are all admitted again.
+-- that the order of registrations that are all admitted doesn't matter, that nothing admitted by whole thresholds is lost, that held flows written as order lines are all admitted again,
+-- and that sources behind gates conform, so that no frame is late behind gates, and which frames a gate lets pass.
 -- Each is a fact of another file, said again in the paper's terms. Assumes nothing.
-use Prim.Native.Nat.{ℕ, _≤_}
+use Prim.Native.Nat.{ℕ, _+_, _*_, _%_, _≤_, min}
 use mathlib.Core.Path.{_≡_, refl, ap, sym, subst, _∙_}
 use mathlib.Core.Bool.{true}
 use mathlib.Core.Logic.{_↔_}
-use mathlib.Core.List.{List, map}
+use mathlib.Core.List.{List, [], _∷_, _++_, map}
 use mathlib.Core.Option.{none, some, Option·some-injective}
-use lib.ListN.{length, getD}
+use lib.ListN.{length, getD, getElem?}
 use Rattle.model.specs.Words.{All}
 use Rattle.model.specs.Sizes.{handoverMost}
 use Rattle.model.specs.Columns.{Line}
-use Rattle.model.specs.QueueTable.{Table, TableText, accepted, readTable}
-use Rattle.model.specs.Orders.{Flow, Change, Order, register, release, change, changeInRange, registering, changing, kindNumber, orderLine}
+use Rattle.model.specs.Formula.{ceilDiv}
+use Rattle.model.specs.QueueTable.{Queue, Table, TableText, accepted, readTable}
+use Rattle.model.specs.Orders.{Hop, Flow, Change, Order, register, release, change, changeInRange, registering, changing, kindNumber, orderLine}
+use Rattle.model.specs.Aggregates.{queueAt}
+use Rattle.model.specs.Run.{Frame, Sends, Run, Conforming}
+use Rattle.model.specs.Punctual.{Punctual}
 use Rattle.model.specs.Timely.{Timely}
+use Rattle.model.specs.Gate.{Gate, turn, tokensOf, fullOf, tokensAt, openGate}
+use Rattle.model.specs.Offers.{Offer, readingAt, NotBack, answerTo, offerCodes, afterOffers, passed, stored, NotRefused, lastTime, WithinTurns, behindGate, BehindGates}
 use Rattle.model.specs.Laws.Run.Punctual.{punctual}
 use Rattle.model.specs.Laws.Run.Delivery.{in-time, none-lost, arrives}
 use Rattle.model.specs.Reference.{State, Call, heldFlows, changed, callOrder, apply, step, tableOf, opened, orderAnswers, final}
@@ -36,6 +43,10 @@ use Rattle.model.specs.Laws.Schedulable.{schedulable}
 use Rattle.model.specs.Laws.Decided.{decided, listed}
 use Rattle.model.specs.Laws.Codes.{read-listed, returned-listed}
 use Rattle.model.specs.Laws.Room.{room}
+use Rattle.model.specs.Laws.All.{all-imp}
+use Rattle.model.specs.Laws.Gate.{tokens-seen, flow-opens}
+use Rattle.model.specs.Laws.Offers.{one-conforms, behind-sends, all-conform}
+use Rattle.model.specs.Laws.Passing.{opened-first, opened-again}
 
 -- Every part of a consistent set of flows is consistent, in any order.
 pub part-consistent : (t : Table) {part flows : List Flow} → Part part flows → flowsConsistent t flows ≡ true → flowsConsistent t part ≡ true
@@ -174,6 +185,44 @@ handover-whole table fs e = handover table fs (whole-consistent (opened table .t
 pub handover-call : (table : List ℕ) (fs : List Flow) → flowsConsistent (opened table .table) fs ≡ true
     → All (λ f. callOrder (record { kind = registering; bytes = flowLine f }) ≡ register f) fs
 handover-call table fs e = calls-read table fs (flows-rules (opened table .table) fs e)
+
+-- W-207. What passes a gate conforms to the registered bucket over every window, whatever is offered, from one opening on.
+pub gate-conforms : (f : Flow) (opened start : ℕ) (os : List Offer) → NotBack opened os → Conforming (f ∷ []) (behindGate 0 f opened start os)
+gate-conforms = one-conforms
+
+-- It has 84 bytes to the flow's largest.
+pub gate-sends : (fs : List Flow) (j : ℕ) (f : Flow) → getElem? fs j ≡ some f → (opened start : ℕ) (os : List Offer) (x : ℕ)
+    → All (Sends fs x) (behindGate j f opened start os x)
+gate-sends = behind-sends
+
+-- So sources behind gates meet the theorem's hypothesis, and no frame is late behind gates.
+pub gates-conform : (fs : List Flow) (sent : ℕ → List Frame) → BehindGates fs sent → Conforming fs sent
+gates-conform = all-conform
+
+pub no-frame-late-behind-gates : (s : State) → consistent s ≡ true → (r : Run (s .table) (heldFlows (s .slots))) → BehindGates (heldFlows (s .slots)) (r .sent)
+    → (x : ℕ) (h : Hop) (q : Queue) → queueAt (s .table) h ≡ some q → Punctual (s .table) (heldFlows (s .slots)) r x h q
+no-frame-late-behind-gates s ok r b = no-frame-late s ok .punctual r (gates-conform (heldFlows (s .slots)) (r .sent) b)
+
+-- The gate of a held flow is opened, never refused.
+pub gate-opens : (s : State) → consistent s ≡ true → All (λ f. (now : ℕ) → openGate (f .rate) (f .burst) (f .frame) now .code ≡ 0) (heldFlows (s .slots))
+gate-opens s ok = all-imp (heldFlows (s .slots)) (flow-opens (s .table) (heldFlows (s .slots))) (state-rules s ok .flows .flows)
+
+-- Time that passed by whole turns unseen adds no tokens; less than one turn is seen exactly.
+pub gate-unseen : (g : Gate) (last d : ℕ) → g .reading ≡ readingAt last → tokensAt g (readingAt (last + d)) ≡ min (fullOf g) (g .tokens + g .rate * (d % turn))
+gate-unseen = tokens-seen
+
+-- Before any frame has passed, one that isn't refused passes.
+pub gate-passes-first : (rate burst frame now : ℕ) (os : List Offer) (o : Offer) → let g = openGate rate burst frame now .gate in
+    lastTime (passed os (offerCodes g os)) ≡ none → NotRefused (answerTo (afterOffers g os) o .code) → answerTo (afterOffers g os) o .code ≡ 0
+gate-passes-first = opened-first
+
+-- Where stored readings are less than one turn apart, one that isn't refused passes ceil(8000 × n / rate) µs or more after the last that passed, drops in between or not.
+pub gate-passes-again : (rate burst frame opened : ℕ) (os : List Offer) (o : Offer) → let g = openGate rate burst frame (readingAt opened) .gate in
+    let all = os ++ (o ∷ []) in
+    NotBack opened all → WithinTurns opened (stored all (offerCodes g all)) → NotRefused (answerTo (afterOffers g os) o .code)
+    → (p : ℕ) → lastTime (passed os (offerCodes g os)) ≡ some p → p + ceilDiv (tokensOf (o .length)) rate ≤ o .time
+    → answerTo (afterOffers g os) o .code ≡ 0
+gate-passes-again = opened-again
 
 -- Mission, line 1: what a table text is refused for, what a batch returns, and that a refused one writes nothing.
 pub text-listed : (text : List ℕ) → TextListed text (readTable text)

@@ -1,6 +1,6 @@
 -- The pieces of a text one after the other, and the columns of a flow's line. Assumes nothing.
 use Prim.Native.Nat.{ℕ, _+_, _-_, _*_, _≤_, _<_}
-use mathlib.Core.Path.{_≡_, refl, sym, ap, ap₂, subst, _∙_}
+use mathlib.Core.Path.{_≡_, refl, sym, ap, ap₂, _∙_}
 use mathlib.Core.Bool.{Bool, true, false, cond}
 use mathlib.Core.List.{List, [], _∷_, _++_, map, append-assoc}
 use mathlib.Core.Option.{none, some}
@@ -20,7 +20,7 @@ use Rattle.model.specs.Consistent.{headOf}
 use Rattle.model.specs.Handover.{headText, hopText, flowColumns, flowLine, handoverText, Writing, refusedWriting, doneWriting, writing}
 use Rattle.model.specs.Laws.Answers.{justified-length}
 use Rattle.model.specs.Laws.Handover.{head-long, path-long, line-long}
-use Rattle.columns.proofs.PartLaws.{field-next, byte-next, text-put, Filling, filling-next}
+use Rattle.columns.proofs.PartLaws.{field-next, byte-next, text-put, Filling, filling-room, filling-put}
 use Rattle.bit_words.specs.View.{isSet}
 use Rattle.queue_table.specs.View.{hopAt}
 use Rattle.flow_store.specs.View.{hopsAt, headAt, flowAt, flowIn, slotOf, slotsOf, entriesNamed, Store}
@@ -47,19 +47,12 @@ module _ {A : Type 0} (text : A → List ℕ) where
 module _ {A : Type 0} (text : A → List ℕ) (l : List A) (k : ℕ) (d : A) (more : k < length l) {whole area : List ℕ} {size at : ℕ}
     (now : Filling whole (joined text (drop k l)) area size at) where
   pub piece-room : at + length (text (getD l k d)) ≤ length area
-  piece-room =
-      omega (arith, now .room, ap length (joined-next text l k d more), length-append (text (getD l k d)) (joined text (drop (k + 1) l)))
+  piece-room = filling-room now (text (getD l k d)) (joined text (drop (k + 1) l)) (joined-next text l k d more) (length (text (getD l k d))) refl
 
   pub piece-next : (bytes : ℕ) → bytes ≡ length (text (getD l k d)) → (area′ : List ℕ)
       → area′ ≡ putMid at (length area - at) area (text (getD l k d) ++ drop bytes (take (length area - at) (drop at area)))
       → Filling whole (joined text (drop (k + 1) l)) area′ size (at + bytes)
-  piece-next bytes long area′ is =
-      let piece = text (getD l k d) in
-      subst (λ n. Filling whole (joined text (drop (k + 1) l)) area′ size (at + n)) (sym long)
-      (filling-next now piece (joined text (drop (k + 1) l)) area′ (joined-next text l k d more)
-      (is
-      ∙ ap (λ n. putMid at (length area - at) area (piece ++ drop n (take (length area - at) (drop at area)))) long
-      ∙ text-put area piece at (length piece) piece-room))
+  piece-next bytes long area′ is = filling-put now (text (getD l k d)) (joined text (drop (k + 1) l)) (joined-next text l k d more) bytes long area′ is
 
 -- The held flows, slot by slot.
 pub slots-text : (l : List Slot) → joined slotText l ≡ handoverText (heldFlows l)

@@ -4,7 +4,7 @@ ghost use Prim.Native.Nat.{_≤_, _<_};
 ghost use lib.ListN.{length, drop};
 ghost use Rattle.model.specs.Sizes.{hopsMost};
 ghost use Rattle.model.specs.Columns.{fieldAt, lines};
-ghost use Rattle.model.specs.Orders.{kindNumber, kindOfNumber, readOrder, releaseLine, changeLine, registration, changeFields, changeInRange, headFields, headInRange, hopField, pathFields};
+ghost use Rattle.model.specs.Orders.{kindNumber, kindOfNumber, readOrder, releaseLine, changeLine, registration, changeFields, rateInRange, burstInRange, frameInRange, changeInRange, headFields, headInRange, hopField, pathFields};
 ghost use Rattle.model.specs.Reference.{lineOfKind, onlyLine};
 ghost use Rattle.orders.specs.View.{hopNumbers, hopIn, kindOf, kindIn, changeOf, orderOf, hopsFit, fieldsOf, sourceOf, headOf, hopOf, pathOf};
 use columns::Field;
@@ -13,6 +13,9 @@ use units::Aggregate;
 use units::Bytes;
 use units::Micros;
 use units::Rate;
+
+// The bytes of the smallest frame.
+pub const SMALLEST_FRAME: u64 = 84;
 
 // How many hops a path has at the most.
 pub const MOST_HOPS: usize = 12;
@@ -171,20 +174,42 @@ fn read_head(line: &[u8]) -> Head
     })
 }
 
+// The ranges of a rate, a burst and a largest frame.
+pub fn rate_in_range(rate: Rate) -> bool
+    ensures { λ r. ⌜ r ≡ rateInRange (rate .0) ⌝ }
+{
+    let r = rate.0;
+    columns::within(1, 10_000_000, r)
+}
+
+pub fn burst_in_range(burst: Bytes) -> bool
+    ensures { λ r. ⌜ r ≡ burstInRange (burst .0) ⌝ }
+{
+    let b = burst.0;
+    columns::within(SMALLEST_FRAME, 1_000_000, b)
+}
+
+pub fn frame_in_range(frame: Bytes) -> bool
+    ensures { λ r. ⌜ r ≡ frameInRange (frame .0) ⌝ }
+{
+    let f = frame.0;
+    columns::within(SMALLEST_FRAME, 1542, f)
+}
+
 // The ranges of a change.
 fn source_in_range(source: Change) -> bool
     ensures { λ r. ⌜ r ≡ changeInRange (changeOf source) ⌝ }
 {
     let number = source.number;
-    let rate = source.rate.0;
-    let burst = source.burst.0;
+    let rate = source.rate;
+    let burst = source.burst;
     if !columns::within(1, 65535, columns::wide(number)) {
         return false;
     }
-    if !columns::within(1, 10_000_000, rate) {
+    if !rate_in_range(rate) {
         return false;
     }
-    columns::within(84, 1_000_000, burst)
+    burst_in_range(burst)
 }
 
 // The ranges of a registration, its hop count aside.
@@ -195,7 +220,7 @@ pub fn in_range(flow: Flow) -> bool
     let share = flow.share;
     let rate = share.rate;
     let burst = share.burst;
-    let frame = share.frame.0;
+    let frame = share.frame;
     let deadline = flow.deadline.0;
     let source = Change {
         number,
@@ -205,7 +230,7 @@ pub fn in_range(flow: Flow) -> bool
     if !source_in_range(source) {
         return false;
     }
-    if !columns::within(84, 1542, frame) {
+    if !frame_in_range(frame) {
         return false;
     }
     columns::within(1, 10_000_000, deadline)

@@ -30,12 +30,9 @@ unfoldable pub answerLines : List model.Answer → List ℕ
 answerLines [] = []
 answerLines (a ∷ more) = answerColumns a ++ (10 ∷ answerLines more)
 
--- What is said of a refused table: code 3 columns, line 6; and of a list that breaks off: `end`, and in 10 columns where its last whole call ends.
+-- What is said of a refused table: code 3 columns, line 6.
 unfoldable pub refusalLine : (code line : ℕ) → List ℕ
 refusalLine code line = justified 3 code ++ (justified 6 line ++ (10 ∷ []))
-
-unfoldable pub endLine : (offset : ℕ) → List ℕ
-endLine offset = 101 ∷ 110 ∷ 100 ∷ (justified 10 offset ++ (10 ∷ []))
 
 -- The calls that are made: those of the list, as many as the area has room to answer.
 unfoldable pub madeCalls : (calls area : List ℕ) → List Call

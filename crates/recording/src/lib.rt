@@ -4,7 +4,7 @@ ghost use mathlib.Core.List.{_∷_, _++_};
 ghost use Prim.Native.Nat.{_≤_};
 ghost use lib.ListN.{length, drop};
 ghost use Rattle.model.specs.Words.{andThen};
-ghost use Rattle.model.specs.Columns.{fieldAt};
+ghost use Rattle.model.specs.Columns.{fieldAt, endLine};
 ghost use Rattle.model.specs.Orders.{kindOfNumber};
 ghost use Rattle.model.specs.Answers.{answerColumns};
 ghost use Rattle.orders.specs.View.{kindOf, kindIn};
@@ -13,7 +13,8 @@ ghost use Rattle.admission.specs.View.{answerOf};
 ghost use Rattle.registry.specs.View.{callOf, Performs};
 ghost use Rattle.recording.specs.Calls.{header};
 ghost use Rattle.recording.specs.View.{headerOf, FirstCall};
-ghost use Rattle.recording.specs.Replay.{callAnswerBytes, refusalLine, endLine, Runs, Replays};
+ghost use Rattle.recording.specs.Replay.{callAnswerBytes, refusalLine, Runs, Replays};
+use columns::END;
 use columns::Field;
 use columns::LF;
 use orders::Kind;
@@ -34,10 +35,7 @@ pub const ANSWER: usize = 14;
 // for its length alone.
 pub const TABLE: usize = TABLE_BYTES + 1;
 
-// Only so many bytes of a list count.
-pub const CALLS: usize = 200_000;
-
-// An answer line to each of 22,223 calls: none takes less than 9 bytes of the list.
+// An answer line to each of 22,223 calls: none takes less than 9 of the 200,000 bytes of a list that count.
 pub const ANSWERS: usize = ANSWER * 22_223;
 
 // How the calls are made: on a registry by value, or on one that is held and lent. The answers are the same.
@@ -205,10 +203,10 @@ pub fn refusal_line(fault: Fault, line: u32) -> [u8; 10]
 }
 
 // What is said of a list that doesn't close with a whole call: the offset of what follows the last one, in 10 columns.
-pub fn end_line(offset: usize) -> [u8; 14]
+pub fn end_line(offset: usize) -> [u8; END]
     ensures { λ r. ⌜ r ≡ endLine offset ⌝ }
 {
-    let mut out = *b"end          \n";
-    columns::write_at(&mut out, 4, 13, offset as u64);
+    let mut out = [0u8; END];
+    columns::write_end(&mut out, offset as u64);
     out
 }

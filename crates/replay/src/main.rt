@@ -24,10 +24,10 @@ use queue_table::QUEUES;
 use queue_table::Verdict;
 use recording::ANSWER;
 use recording::ANSWERS;
-use recording::CALLS;
 use recording::Form;
 use recording::TABLE;
 use registry::Registry;
+use text_files::LIST;
 
 // How many columns more a slot's line has than an order line.
 const PLACE: usize = 2;
@@ -166,7 +166,7 @@ fn replay(form: Form, table: &[u8], calls: &[u8]) {
 fn main() {
     let form = form_asked();
     let mut table = [0u8; TABLE];
-    let mut calls = [0u8; CALLS];
+    let mut calls = [0u8; LIST];
     let n = text_files::read(b"table.txt", &mut table);
     let m = text_files::read(b"calls.txt", &mut calls);
     replay(form, &table[..n], &calls[..m]);

@@ -1,27 +1,35 @@
 // Bytes on the wire, kilobits per second and microseconds, each a type of its own, and the named formulas that take
-// one to another (document 01, "Units" and "The book").
+// one to another (document 01, "Units" and "The book"); tokens, of which bytes take some and a rate adds some (W-207).
 //
 // Why nothing overflows. A rate is at most 10,000,000 kbit/s: a flow's by its range, a sum because a link's speed is at most
 // 10,000 Mbit/s and the rate rule comes before every formula that takes one. A path has at most 12 hops and a threshold is at most 100,000 µs, so
 // S is at most 1,200,000 and a burst at a hop is below 2^31. A queue's backlog passed its check, so its burst
 // sum is at most its buffer, below 2^32; with one flow more, the eight burst sums of a link and Y stay below 2^40, whatever
-// the number of flows. Then 8000 × 2^40 and 10,000,000 × 2^40 + 10,000,000 are below 2^64.
+// the number of flows. Then 8000 × 2^40 and 10,000,000 × 2^40 + 10,000,000 are below 2^64. Two readings of a clock of 32 bits are
+// less than 2^32 µs apart, so a rate adds at most 4.3 × 10^16 tokens between them; a full bucket has 8 × 10^9 at the most.
 ghost use mathlib.Core.Path.{_≡_};
 ghost use Prim.Native.Nat.{_+_, _*_, _^_, max, _≤_, _<_};
 ghost use Rattle.model.specs.Sizes.{thresholdsMost};
 ghost use Rattle.model.specs.Formula.{ceilDiv, shortestSending, hopGrowth, burstAtHop, residual, withinRate, delayBound, backlogBound};
 ghost use Rattle.model.specs.Aggregates.{grown};
 ghost use Rattle.model.specs.WithFlow.{together};
+ghost use Rattle.model.specs.Gate.{turn, tokensOf};
 ghost use Rattle.units.specs.View.{aggregateOf, AtSource};
 
 // Bytes on the wire.
+#[repr(C)]
 pub struct Bytes(pub u64);
 
 // Kilobits per second.
+#[repr(C)]
 pub struct Rate(pub u64);
 
 // Microseconds.
 pub struct Micros(pub u64);
+
+// 8000ths of a byte: a rate adds a whole number of them in a microsecond.
+#[repr(C)]
+pub struct Tokens(pub u64);
 
 // Rate, burst and largest frame: of one flow at a hop, its share there, or summed over the flows of a queue (document 01: its
 // figures; the largest frame is 0 where none).
@@ -112,6 +120,25 @@ pub fn backlog_bound(rate: Rate, burst: Bytes, y: Bytes, res: Rate) -> Bytes
     let y = y.0;
     let c = res.0;
     Bytes(b + ceil_div(r * y, c))
+}
+
+// The tokens that a burst or a frame takes.
+pub fn tokens_of(bytes: Bytes) -> Tokens
+    requires { ⌜ bytes .0 ≤ 1000000 ⌝ }
+    ensures { λ r. ⌜ r .0 ≡ tokensOf (bytes .0) ⌝ }
+{
+    let b = bytes.0;
+    Tokens(8000 * b)
+}
+
+// The tokens that a rate adds in the time between two readings of a clock of 32 bits.
+pub fn tokens_added(rate: Rate, passed: Micros) -> Tokens
+    requires { ⌜ (rate .0 ≤ 10000000) × (passed .0 < turn) ⌝ }
+    ensures { λ r. ⌜ r .0 ≡ rate .0 * passed .0 ⌝ }
+{
+    let r = rate.0;
+    let p = passed.0;
+    Tokens(r * p)
 }
 
 pub fn larger(a: Bytes, b: Bytes) -> Bytes

@@ -52,7 +52,7 @@ module _ (table orders area : List ℕ) where
   fits-done read f = rw (read, le-ltb _ _ (f .bytes), le-ltb _ _ (f .few), le-ltb _ _ (f .room))
 
 -- A line's bytes with its LF.
-unfoldable lineBytes : Line → ℕ
+unfoldable pub lineBytes : Line → ℕ
 lineBytes (ended bs) = suc (length bs)
 lineBytes unended = 0
 
@@ -72,6 +72,18 @@ text-length (b ∷ bs) a = go (eqb b 10) (lines bs) (text-length bs) a
     go false [] r a = absurd (a .0)
     go false (ended l ∷ ls) r a = omega (arith, r (tt, a .1))
     go false (unended ∷ ls) r a = absurd (a .0)
+
+-- Whether they all end in LF or not, lines have no more bytes than the text.
+pub lines-within : (text : List ℕ) → total lineBytes (lines text) ≤ length text
+unfolding lines prepend total lineBytes
+lines-within [] = omega arith
+lines-within (b ∷ bs) = go (eqb b 10) (lines bs) (lines-within bs)
+  where
+    go : (lf : Bool) (ls : List Line) → total lineBytes ls ≤ length bs → total lineBytes (cond lf (ended [] ∷ ls) (prepend b ls)) ≤ suc (length bs)
+    go true ls r = omega (arith, r)
+    go false [] r = omega arith
+    go false (ended l ∷ ls) r = omega (arith, r)
+    go false (unended ∷ ls) r = omega (arith, r)
 
 -- A line that registers a flow ends in LF.
 registered-ended : (l : Line) (f : Flow) → orderLine l ≡ register f → Ended l

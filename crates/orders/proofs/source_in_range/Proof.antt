@@ -9,11 +9,11 @@ use Rattle.model.specs.Orders.{changeInRange, numberInRange}
 use Rattle.orders.proofs.source_in_range.Statement.{statement}
 use Rattle.orders.proofs.source_in_range.Tie as tie
 
-number-within : (c : tie.Else1) → between 1 65535 (c .before .before .before .args .source .number) ≡ true
+number-within : (c : tie.Else1) → between 1 65535 (c .before .before .before .before .before .args .source .number) ≡ true
 number-within c = ap (between 1 65535) (sym (c .before .before .wide .ensures)) ∙ sym (c .before .within .ensures) ∙ not-false _ (c .if1 .left)
 
-rate-within : (c : tie.Else2) → between 1 10000000 (c .before .before .before .before .before .args .source .rate .0) ≡ true
-rate-within c = sym (c .before .within2 .ensures) ∙ not-false _ (c .if2 .left)
+rate-within : (c : tie.Else2) → between 1 10000000 (c .before .before .before .before .before .before .before .args .source .rate .0) ≡ true
+rate-within c = sym (c .before .rate-in-range .ensures) ∙ not-false _ (c .if2 .left)
 
 returns : tie.Need-returns
 unfolding changeInRange numberInRange
@@ -24,12 +24,12 @@ returns c =
 returns-2 : tie.Need-returns-2
 unfolding changeInRange numberInRange
 returns-2 c =
-    let ends = sym (c .before .within2 .ensures) ∙ not-true _ (c .if2 .taken) in
+    let ends = sym (c .before .rate-in-range .ensures) ∙ not-true _ (c .if2 .taken) in
     sym (simp (number-within (c .before .before), ends))
 
 returns-3 : tie.Need-returns-3
 unfolding changeInRange numberInRange
-returns-3 c = c .within3 .ensures ∙ sym (simp (number-within (c .before .before .before), rate-within (c .before)))
+returns-3 c = c .burst-in-range .ensures ∙ sym (simp (number-within (c .before .before .before), rate-within (c .before)))
 
 pub source-in-range-spec : {M : Type 1} → statement M
 source-in-range-spec = tie.close (tie.spec (λ c κs. search needs) (λ c κs. search needs) returns (λ c κs. search needs) returns-2 (λ c κs. search needs) returns-3)
