@@ -72,6 +72,10 @@ noGate = record { rate = 0; burst = 0; frame = 0; tokens = 0; reading = 0 }
 unfoldable pub openedWith : Gate → GateAnswer
 openedWith g = cond (gateInRange g) (record { code = 0; gate = g }) (record { code = 61; gate = noGate })
 
+-- A gate with these numbers, full.
+abbrev pub fullGate : (rate burst frame now : ℕ) → Gate
+fullGate rate burst frame now = record { rate = rate; burst = burst; frame = frame; tokens = tokensOf burst; reading = now }
+
 -- A gate is opened full.
 unfoldable pub openGate : (rate burst frame now : ℕ) → GateAnswer
-openGate rate burst frame now = openedWith (record { rate = rate; burst = burst; frame = frame; tokens = tokensOf burst; reading = now })
+openGate rate burst frame now = openedWith (fullGate rate burst frame now)

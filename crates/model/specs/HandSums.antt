@@ -1,17 +1,18 @@
--- Document 01, "Sums to check by hand", the starred ones, and those of requests W-201, W-202 and W-208: 100 Mbit/s where no other speed is given, flows of rate 1,000, burst and frame 1,542.
+-- Document 01, "Sums to check by hand", the starred ones, and those of requests W-201, W-202, W-207 and W-208: 100 Mbit/s where no other speed is given, flows of rate 1,000, burst and frame 1,542.
 -- That each comes out as given is shown in `Laws.HandSums`.
-use Prim.Native.Nat.{ℕ}
+use Prim.Native.Nat.{ℕ, _*_}
 use mathlib.Core.List.{List, [], _∷_, map}
 use mathlib.Core.Option.{Option, none, some}
 use lib.ListN.{getD}
 use Rattle.model.specs.Sizes.{tableBytes}
-use Rattle.model.specs.Formula.{Aggregate, delay, backlog}
+use Rattle.model.specs.Formula.{Aggregate, ceilDiv, delay, backlog}
 use Rattle.model.specs.QueueTable.{Link, Table}
 use Rattle.model.specs.Orders.{Hop, Flow}
 use Rattle.model.specs.Aggregates.{shares}
 use Rattle.model.specs.LinkCheck.{rateCode}
 use Rattle.model.specs.Reference.{Cause, deadlineFinding}
 use Rattle.model.specs.WholeThresholds as before
+use Rattle.model.specs.Gate.{timePassed, tokensOf}
 
 unfoldable pub one : Aggregate
 one = record { rate = 1000; burst = 1542; frame = 1542 }
@@ -105,4 +106,12 @@ handSums =
     ∷ sum (code (deadlineFinding (links 297) flow)) 20
     -- the longest table text
     ∷ sum tableBytes 25088
+    -- a gate: the tokens of the largest bucket, the most that an offer adds, and when 84 and 100 bytes pass after the last frame at 1,000 and 3,000 kbit/s; the clock
+    -- before and past its corner
+    ∷ sum (tokensOf 1000000) 8000000000
+    ∷ sum (10000000 * timePassed 1 0) 42949672950000000
+    ∷ sum (ceilDiv (tokensOf 84) 1000) 672
+    ∷ sum (ceilDiv (tokensOf 100) 3000) 267
+    ∷ sum (timePassed 4294967196 4294967295) 99
+    ∷ sum (timePassed 4294967295 166) 167
     ∷ []

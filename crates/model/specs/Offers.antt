@@ -66,8 +66,8 @@ WithinTurns last [] = Unit {0}
 WithinTurns last (o ∷ os) = (o .time < last + turn) × WithinTurns (o .time) os
 
 -- The gate of a flow, opened at a true time with what the flow registered.
-abbrev pub gateOf : Flow → (opened : ℕ) → Gate
-gateOf f opened = openGate (f .rate) (f .burst) (f .frame) (readingAt opened) .gate
+abbrev pub flowGate : Flow → (opened : ℕ) → Gate
+flowGate f opened = openGate (f .rate) (f .burst) (f .frame) (readingAt opened) .gate
 
 -- The frames that a source adds at instant `x` of a run where it sends each offer that passed at its time. `start` is the true time at instant 0.
 unfoldable pub framesAt : (flow start : ℕ) → (passed : List Offer) → (x : ℕ) → List Frame
@@ -76,9 +76,9 @@ framesAt j start os x =
 
 -- What the source of a flow adds behind its gate, opened once, of these offers.
 abbrev pub behindGate : (flow : ℕ) → Flow → (opened start : ℕ) → List Offer → (x : ℕ) → List Frame
-behindGate j f opened start os = framesAt j start (passed os (offerCodes (gateOf f opened) os))
+behindGate j f opened start os = framesAt j start (passed os (offerCodes (flowGate f opened) os))
 
--- Each flow's source is behind a gate of its own with a clock of its own: at no instant it adds more bytes than pass there then. What is offered may have no end, so it is given up to each instant.
+-- Each flow's source is behind a gate of its own, with a clock that may begin anywhere and whose µs are those of the run: at no instant it adds more bytes than pass there then. What is offered may have no end, so it is given up to each instant.
 pub record BehindGates (fs : List Flow) (sent : ℕ → List Frame) : Type 0 where
   pub start : (flow : ℕ) → ℕ
   pub opened : (flow : ℕ) → ℕ

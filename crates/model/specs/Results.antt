@@ -19,7 +19,7 @@ use Rattle.model.specs.Aggregates.{queueAt}
 use Rattle.model.specs.Run.{Frame, Sends, Run, Conforming}
 use Rattle.model.specs.Punctual.{Punctual}
 use Rattle.model.specs.Timely.{Timely}
-use Rattle.model.specs.Gate.{Gate, turn, tokensOf, fullOf, tokensAt, openGate}
+use Rattle.model.specs.Gate.{Gate, turn, tokensOf, fullOf, gateInRange, tokensAt, openGate}
 use Rattle.model.specs.Offers.{Offer, readingAt, NotBack, answerTo, offerCodes, afterOffers, passed, stored, NotRefused, lastTime, WithinTurns, behindGate, BehindGates}
 use Rattle.model.specs.Laws.Run.Punctual.{punctual}
 use Rattle.model.specs.Laws.Run.Delivery.{in-time, none-lost, arrives}
@@ -46,7 +46,7 @@ use Rattle.model.specs.Laws.Room.{room}
 use Rattle.model.specs.Laws.All.{all-imp}
 use Rattle.model.specs.Laws.Gate.{tokens-seen, flow-opens}
 use Rattle.model.specs.Laws.Offers.{one-conforms, behind-sends, all-conform}
-use Rattle.model.specs.Laws.Passing.{opened-first, opened-again}
+use Rattle.model.specs.Laws.Passing.{opened-first, opened-again, passes-since, range-after}
 
 -- Every part of a consistent set of flows is consistent, in any order.
 pub part-consistent : (t : Table) {part flows : List Flow} → Part part flows → flowsConsistent t flows ≡ true → flowsConsistent t part ≡ true
@@ -216,6 +216,10 @@ pub gate-passes-first : (rate burst frame now : ℕ) (os : List Offer) (o : Offe
     lastTime (passed os (offerCodes g os)) ≡ none → NotRefused (answerTo (afterOffers g os) o .code) → answerTo (afterOffers g os) o .code ≡ 0
 gate-passes-first = opened-first
 
+-- Its numbers stay in range, so tokens are never above full, and 61 never comes.
+pub gate-keeps : (g : Gate) (os : List Offer) → gateInRange g ≡ true → gateInRange (afterOffers g os) ≡ true
+gate-keeps = range-after
+
 -- Where stored readings are less than one turn apart, one that isn't refused passes ceil(8000 × n / rate) µs or more after the last that passed, drops in between or not.
 pub gate-passes-again : (rate burst frame opened : ℕ) (os : List Offer) (o : Offer) → let g = openGate rate burst frame (readingAt opened) .gate in
     let all = os ++ (o ∷ []) in
@@ -223,6 +227,14 @@ pub gate-passes-again : (rate burst frame opened : ℕ) (os : List Offer) (o : O
     → (p : ℕ) → lastTime (passed os (offerCodes g os)) ≡ some p → p + ceilDiv (tokensOf (o .length)) rate ≤ o .time
     → answerTo (afterOffers g os) o .code ≡ 0
 gate-passes-again = opened-again
+
+-- Only the readings since that frame count: the same of any gate in range that stored the reading of a frame at p, none having passed since.
+pub gate-passes-since : (g : Gate) (p : ℕ) (os : List Offer) (o : Offer) → gateInRange g ≡ true → g .reading ≡ readingAt p → let all = os ++ (o ∷ []) in
+    NotBack p all → WithinTurns p (stored all (offerCodes g all)) → NotRefused (answerTo (afterOffers g os) o .code)
+    → lastTime (passed os (offerCodes g os)) ≡ none
+    → p + ceilDiv (tokensOf (o .length)) (g .rate) ≤ o .time
+    → answerTo (afterOffers g os) o .code ≡ 0
+gate-passes-since = passes-since
 
 -- Mission, line 1: what a table text is refused for, what a batch returns, and that a refused one writes nothing.
 pub text-listed : (text : List ℕ) → TextListed text (readTable text)

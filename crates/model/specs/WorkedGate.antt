@@ -3,7 +3,7 @@
 use Prim.Native.Nat.{ℕ, zero, suc, _+_, _-_, _^_, _≤_, zero-le}
 use Prim.Native.String.{String}
 use mathlib.Core.Path.{_≡_, refl, subst}
-use mathlib.Core.List.{List, [], _∷_}
+use mathlib.Core.List.{List, [], _∷_, map}
 use mathlib.Core.Option.{some, Option·none-ne-some, Option·some-injective}
 use native.Mathlib.Omega.{arith}
 use lib.ListN.{getElem?}
@@ -60,6 +60,23 @@ pub worked-gate : (openGate 1000 168 84 4294967000
 unfolding between timePassed tokensOf gateInRange lengthInRange gateWith tokensAt metered offer openedWith openGate readingAt answerTo offerCodes afterOffers tokensAfter
 worked-gate = (refl, refl, refl, refl, refl, refl)
 
+-- Gates that can't be: tokens one above full, and each number one past its range; a frame out of range besides doesn't count. With the greatest numbers, and full, a frame passes.
+abbrev pub held : (rate burst frame tokens : ℕ) → Gate
+held rate burst frame tokens = record { rate = rate; burst = burst; frame = frame; tokens = tokens; reading = 7 }
+
+abbrev pub codeAt : Gate → (length : ℕ) → ℕ
+codeAt g length = offer g length 7 .code
+
+pub worked-refused : (map (λ g. codeAt g 84)
+    (held 1000 168 84 1344001 ∷ held 0 168 84 0 ∷ held 10000001 168 84 0 ∷ held 1000 83 84 0 ∷ held 1000 1000001 84 0 ∷ held 1000 168 83 0 ∷ held 1000 1543 1543 0 ∷ held 1000 84 85 0 ∷ [])
+    ≡ 61 ∷ 61 ∷ 61 ∷ 61 ∷ 61 ∷ 61 ∷ 61 ∷ 61 ∷ [])
+    × (codeAt (held 1000 168 84 1344001) 83 ≡ 61)
+    × (offer (held 1000 168 84 1344001) 84 8 .gate ≡ held 1000 168 84 1344001)
+    × (codeAt (held 10000000 1000000 1542 8000000000) 1542 ≡ 0)
+    × (codeAt (held 1 84 84 672000) 84 ≡ 0)
+unfolding between timePassed tokensOf gateInRange lengthInRange gateWith tokensAt metered offer
+worked-refused = (refl, refl, refl, refl, refl)
+
 -- What `gate-passes-first` and `gate-passes-again` ask can be met: after a refused frame alone; and ceil(8000 × 84 / 1000) = 672 µs after the second that passed.
 pub worked-first : answerTo (afterOffers gate (offered 83 4294967000 ∷ [])) (offered 84 4294967000) .code ≡ 0
 unfolding between timePassed tokensOf gateInRange lengthInRange gateWith tokensAt metered offer openedWith openGate readingAt answerTo offerCodes afterOffers withCode lastTime
@@ -77,23 +94,26 @@ worked-again =
     refl
     (omega arith)
 
--- Opened at 294,967,000. Two frames empty the bucket, one is dropped 1 µs too early; then a turn and a µs pass, of which the gate sees the µs, as 83 bytes are out of range. The last line is unended.
+-- Opened at 294,967,000. Two frames empty the bucket, one is dropped 1 µs too early; then a turn and a µs pass, of which the gate sees the µs, as 83 bytes are out of range; 672 µs later one more passes. The last line is unended.
 pub listed : String
 listed =
-    "     1000     168   84294967000\n   84        0\n   84        0\n   84      671\n   83999999999\n   83999999999\n   83999999999\n   83999999999\n   84294967301\n   84        0"
+    "     1000     168   84294967000\n   84        0\n   84        0\n   84      671\n   83999999999\n   83999999999\n   83999999999\n   83999999999\n   84294967301\n   84      672\n   84        0"
 
 pub printed : String
 printed =
-    "  0       1344000\n  0        672000\n  0             0\n  1        671000\n 60        671000\n 60        671000\n 60        671000\n 60        671000\n  0             0\nend        10\n"
+    "  0       1344000\n  0        672000\n  0             0\n  1        671000\n 60        671000\n 60        671000\n 60        671000\n 60        671000\n  0             0\n  0             0\nend        11\n"
 
--- A burst of 83 bytes is refused, and so is a largest frame that the burst doesn't hold; then nothing more is read. An opening line of 30 columns is malformed.
+-- A burst of 83 bytes is refused, and so is a largest frame that the burst doesn't hold; then nothing more is read. An opening line of 30 or 32 columns is malformed, and so is an offer of 13 or 15.
 pub worked-list : (offersText (bytes listed) ≡ bytes printed)
     × (offersText (bytes "     1000      83   84        0\n   84        0\n") ≡ bytes " 61             0\n")
     × (offersText (bytes "     1000      84   85        0\n   84        0\n") ≡ bytes " 61             0\n")
     × (offersText (bytes "     1000      84   84       0\n   84        0\n") ≡ bytes "end         1\n")
+    × (offersText (bytes "     1000      84   84        0 \n   84        0\n") ≡ bytes "end         1\n")
+    × (offersText (bytes "     1000      84   84        0\n   84       0\n") ≡ bytes "  0        672000\nend         2\n")
+    × (offersText (bytes "     1000      84   84        0\n   84        0 \n") ≡ bytes "  0        672000\nend         2\n")
     × (offersText [] ≡ [])
 unfolding bytes bytesFrom listed printed isDigit digits number field fieldAt padded justified endLine between prepend lines timePassed tokensOf gateInRange lengthInRange gateWith tokensAt metered offer noGate openedWith openGate openingFields readOpening stepFields readStep gateLine stepText stepsText openedText openingText listText offersText
-worked-list = (refl, refl, refl, refl, refl)
+worked-list = (refl, refl, refl, refl, refl, refl, refl, refl)
 
 -- The offers of the sources of `WorkedRun`: the clock shows 2 µs before it rolls over at instant 0.
 abbrev pub begins : ℕ

@@ -66,14 +66,14 @@ pub record FirstStep (text : List ℕ) (at : ℕ) (found : FoundStep) : Type 0 w
   pub within : stepWithin text at found
 
 -- The same of the whole list, by its first line.
-abbrev pub openedText : (text : List ℕ) → FoundOpening → List ℕ
-openedText text (found-opening.Read o next) = openingText (some (openingOf o)) (lines (drop next text))
-openedText text found-opening.Malformed = endLine 1
+abbrev pub firstText : (text : List ℕ) → FoundOpening → List ℕ
+firstText text (found-opening.Read o next) = openingText (some (openingOf o)) (lines (drop next text))
+firstText text found-opening.Malformed = endLine 1
 
 abbrev pub openingWithin : (text : List ℕ) → FoundOpening → Type 0
 openingWithin text (found-opening.Read o next) = next ≤ length text
 openingWithin text found-opening.Malformed = Unit {0}
 
 pub record FirstOpening (text : List ℕ) (found : FoundOpening) : Type 0 where
-  pub same : offersText text ≡ openedText text found
+  pub same : offersText text ≡ firstText text found
   pub within : openingWithin text found

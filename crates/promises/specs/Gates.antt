@@ -10,17 +10,12 @@ use lib.ListN.{getElem?}
 use Rattle.model.specs.Orders.{Flow}
 use Rattle.model.specs.Run.{Frame, bytesOf}
 use Rattle.model.specs.Codes.{gateOpenCodes, gateOfferCodes}
-use Rattle.model.specs.Gate as model
-use Rattle.model.specs.Gate.{tokensOf, gateInRange, lengthInRange, noGate}
+use Rattle.model.specs.Gate.{gateInRange, lengthInRange, noGate, fullGate}
 use Rattle.model.specs.Offers.{Offer, NotBack, passed, NotRefused, framesAt}
 use Rattle.sender_gate.specs.declared.Gate.{Gate}
 use Rattle.sender_gate.specs.declared.GateAnswer.{GateAnswer}
 use Rattle.sender_gate.specs.View.{gateOf}
 use Rattle.sender_gate.specs.Claim.{Gated}
-
--- A gate with these numbers, full.
-abbrev pub fullGate : (rate burst frame now : ℕ) → model.Gate
-fullGate rate burst frame now = record { rate = rate; burst = burst; frame = frame; tokens = tokensOf burst; reading = now }
 
 -- Mission, line 1: a gate opened with any numbers.
 pub record OpeningListed (rate burst frame now : ℕ) (a : GateAnswer) : Type 0 where
@@ -40,7 +35,7 @@ pub record OfferListed (before : Gate) (length now : ℕ) (a : GateAnswer) : Typ
   pub unchanged : (NotRefused (a .code) → ⊥) → gateOf (a .gate) ≡ gateOf before
 
 -- The source of each flow is behind a gate of its own, opened once with what the flow registered: at no instant it adds more bytes than passed the gate then. What is
--- offered may have no end, so it is given up to each instant. `start` is the true time, by the clock of that gate, at instant 0.
+-- offered may have no end, so it is given up to each instant. `start` is the true time, by the clock of that gate, at instant 0; a µs of the clock is one of the run.
 pub record SourcesGated (fs : List Flow) (sent : ℕ → List Frame) : Type 0 where
   pub start : (flow : ℕ) → ℕ
   pub opened : (flow : ℕ) → ℕ

@@ -1,12 +1,13 @@
--- W-207 over what the contracts promise: a gate opened once, and any list of offers to it. That it holds is `claim` in `ClaimLaws`.
+-- W-207 over what the contracts promise: a gate opened once, and any list of offers to it. That it holds is `claim` and `since` in `ClaimLaws`.
 use Prim.Native.Nat.{ℕ, _+_, _≤_}
 use mathlib.Core.Path.{_≡_}
+use mathlib.Core.Bool.{true}
 use mathlib.Core.List.{List, [], _∷_, _++_}
 use mathlib.Core.Option.{none, some}
 use Rattle.model.specs.Formula.{ceilDiv}
 use Rattle.model.specs.Orders.{Flow}
 use Rattle.model.specs.Run.{Conforming}
-use Rattle.model.specs.Gate.{tokensOf}
+use Rattle.model.specs.Gate.{tokensOf, gateInRange}
 use Rattle.model.specs.Offers as model
 use Rattle.model.specs.Offers.{Offer, readingAt, NotBack, offerCodes, afterOffers, passed, stored, NotRefused, lastTime, WithinTurns, framesAt}
 use Rattle.sender_gate.specs.declared.Gate.{Gate}
@@ -31,17 +32,27 @@ pub record Gated (f : Flow) (opened : ℕ) (os : List Offer) (codes : List ℕ) 
   pub opens : Opens (f .rate) (f .burst) (f .frame) (readingAt opened) answer
   pub chain : Chain (answer .gate) os codes last
 
--- What is promised of it, where the clock doesn't go back.
+-- What is promised of it.
 pub record Claimed (f : Flow) (opened : ℕ) (os : List Offer) (codes : List ℕ) (last : Gate) : Type 0 where
   -- The codes and the gate in the end are the model's.
-  pub answered : codes ≡ offerCodes (model.gateOf f opened) os
-  pub left : gateOf last ≡ afterOffers (model.gateOf f opened) os
-  -- What passed conforms to the registered bucket over every window; `start` is the true time at instant 0.
-  pub conforms : (start : ℕ) → Conforming (f ∷ []) (framesAt 0 start (passed os codes))
+  pub answered : codes ≡ offerCodes (model.flowGate f opened) os
+  pub left : gateOf last ≡ afterOffers (model.flowGate f opened) os
+  -- Once opened, its numbers stay in range: tokens are never above full.
+  pub keeps : gateInRange (model.flowGate f opened) ≡ true → gateInRange (gateOf last) ≡ true
+  -- Where the clock doesn't go back, what passed conforms to the registered bucket over every window; `start` is the true time at instant 0.
+  pub conforms : NotBack opened os → (start : ℕ) → Conforming (f ∷ []) (framesAt 0 start (passed os codes))
   -- Of one offer more that isn't refused: where none has passed before, it passes.
   pub first : (o : Offer) {a : GateAnswer} → OffersAt last o a → NotRefused (a .code) → lastTime (passed os codes) ≡ none → a .code ≡ 0
-  -- Where stored readings are less than one turn apart, it passes ceil(8000 × bytes / rate) µs or more after the last that passed, drops in between or not.
+  -- Where the clock doesn't go back and stored readings are less than one turn apart, it passes ceil(8000 × bytes / rate) µs or more after the last that passed, drops in between or not.
   pub again : (o : Offer) {a : GateAnswer} → OffersAt last o a → NotRefused (a .code) → NotBack opened (os ++ (o ∷ []))
       → WithinTurns opened (stored (os ++ (o ∷ [])) (codes ++ (a .code ∷ [])))
       → (p : ℕ) → lastTime (passed os codes) ≡ some p → p + ceilDiv (tokensOf (o .length)) (f .rate) ≤ o .time
       → a .code ≡ 0
+
+-- The same since a frame passed at p, whatever was before: of a gate in range that stored the reading of p, and offers to it of which none passed.
+abbrev pub PassesSince : (g : Gate) (p : ℕ) (os : List Offer) (codes : List ℕ) (last : Gate) → Type 0
+PassesSince g p os codes last =
+    (o : Offer) (a : GateAnswer) → OffersAt last o a → NotRefused (a .code) → NotBack p (os ++ (o ∷ [])) → WithinTurns p (stored (os ++ (o ∷ [])) (codes ++ (a .code ∷ [])))
+    → lastTime (passed os codes) ≡ none
+    → p + ceilDiv (tokensOf (o .length)) (g .rate .0) ≤ o .time
+    → a .code ≡ 0

@@ -11,11 +11,10 @@ use lib.ListN.{length}
 use borrow.Author.Tests.{ltb-false, le-ltb}
 use Rattle.model.specs.Words.{All}
 use Rattle.model.specs.Sizes.{hopsMost}
-use Rattle.model.specs.Columns.{between}
 use Rattle.model.specs.Laws.Columns.{between-true}
 use Rattle.model.specs.Laws.Test.{and-both}
 use Rattle.model.specs.QueueTable.{Link, Table}
-use Rattle.model.specs.Orders.{Hop, Flow, register, headInRange, numberInRange, rateInRange, burstInRange, hopsInRange}
+use Rattle.model.specs.Orders.{Hop, Flow, register, headInRange, numberInRange, rateInRange, burstInRange, frameInRange, hopsInRange}
 use Rattle.model.specs.LinkCheck.{linkFinding}
 use Rattle.model.specs.Laws.LinkCheck.{link-meets, meets-link}
 use Rattle.model.specs.Laws.Levels.{level-admits, admits-level}
@@ -62,7 +61,7 @@ pub flow-bounds : (f : Flow) → flowInRange f ≡ true → FlowBounds f
 unfolding flowInRange headInRange headOf numberInRange hopsInRange
 flow-bounds f e =
     let (head, hops) = and-both (headInRange (headOf f)) _ e in
-    let (e₁, deadline) = and-both (numberInRange (f .number) && rateInRange (f .rate) && burstInRange (f .burst) && between 84 1542 (f .frame)) _ head in
+    let (e₁, deadline) = and-both (numberInRange (f .number) && rateInRange (f .rate) && burstInRange (f .burst) && frameInRange (f .frame)) _ head in
     let (e₂, frame) = and-both (numberInRange (f .number) && rateInRange (f .rate) && burstInRange (f .burst)) _ e₁ in
     let (e₃, burst) = and-both (numberInRange (f .number) && rateInRange (f .rate)) _ e₂ in
     let (number, rate) = and-both (numberInRange (f .number)) _ e₃ in

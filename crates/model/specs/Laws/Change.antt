@@ -10,9 +10,8 @@ use lib.ListN.{getD, set}
 use lib.Dec.{ltb}
 use borrow.Author.Tests.{eq-eqb}
 use Rattle.model.specs.Total.{total}
-use Rattle.model.specs.Columns.{between}
 use Rattle.model.specs.QueueTable.{Table}
-use Rattle.model.specs.Orders.{Flow, Change, numberInRange, rateInRange, burstInRange, changeInRange, headInRange}
+use Rattle.model.specs.Orders.{Flow, Change, numberInRange, rateInRange, burstInRange, frameInRange, changeInRange, headInRange}
 use Rattle.model.specs.Part.{skip}
 use Rattle.model.specs.Laws.Part.{part-refl, perm-part}
 use Rattle.model.specs.Laws.Test.{and-both, both-and}
@@ -29,7 +28,7 @@ unfolding changeInRange changed flowInRange headInRange headOf
 changed-range c f e e′ =
     let (own, burst) = and-both (numberInRange (c .number) && rateInRange (c .rate)) _ e in
     let (head, hops) = and-both (headInRange (headOf f)) _ e′ in
-    let (sent, deadline) = and-both (numberInRange (f .number) && rateInRange (f .rate) && burstInRange (f .burst) && between 84 1542 (f .frame)) _ head in
+    let (sent, deadline) = and-both (numberInRange (f .number) && rateInRange (f .rate) && burstInRange (f .burst) && frameInRange (f .frame)) _ head in
     let (source, frame) = and-both (numberInRange (f .number) && rateInRange (f .rate) && burstInRange (f .burst)) _ sent in
     let (first, held-burst) = and-both (numberInRange (f .number) && rateInRange (f .rate)) _ source in
     both-and

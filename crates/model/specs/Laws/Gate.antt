@@ -14,7 +14,7 @@ use Rattle.model.specs.Orders.{Flow, rateInRange, burstInRange, frameInR
 use Rattle.model.specs.Reference.{lineFindings}
 use Rattle.model.specs.Consistent.{headOf, flowInRange}
 use Rattle.model.specs.Codes.{gateOpenCodes, gateOfferCodes}
-use Rattle.model.specs.Gate.{Gate, GateAnswer, turn, timePassed, tokensOf, fullOf, gateInRange, lengthInRange, gateWith, tokensAt, metered, offer, noGate, openedWith, openGate}
+use Rattle.model.specs.Gate.{Gate, GateAnswer, turn, timePassed, tokensOf, fullOf, gateInRange, lengthInRange, gateWith, tokensAt, metered, offer, noGate, openedWith, fullGate, openGate}
 use Rattle.model.specs.Offers.{readingAt, NotRefused}
 use Rattle.model.specs.Laws.Test.{and-both, both-and}
 use Rattle.model.specs.Laws.All.{member-at}
@@ -23,7 +23,7 @@ use Rattle.model.specs.Laws.Finding.{whole-none}
 use Rattle.model.specs.Laws.Consistent.{FlowRules}
 
 -- The time seen between two readings is the true one, whole turns aside.
-pub time-seen : (last d : ℕ) → timePassed (readingAt last) (readingAt (last + d)) ≡ d % turn
+time-seen : (last d : ℕ) → timePassed (readingAt last) (readingAt (last + d)) ≡ d % turn
 unfolding timePassed readingAt
 time-seen last d = omega arith
 
@@ -110,10 +110,6 @@ offer-listed g n now =
     offer-cases g n now (λ a. List·Memᴰ (a .code) gateOfferCodes) (λ e. member-at gateOfferCodes 3 refl) (λ e f. member-at gateOfferCodes 2 refl)
     (λ e f h. member-at gateOfferCodes 1 refl)
     (λ e f h. member-at gateOfferCodes 0 refl)
-
--- A gate as it is opened.
-abbrev pub fullGate : (rate burst frame now : ℕ) → Gate
-fullGate rate burst frame now = record { rate = rate; burst = burst; frame = frame; tokens = tokensOf burst; reading = now }
 
 pub opening-listed : (rate burst frame now : ℕ) → List·Memᴰ (openGate rate burst frame now .code) gateOpenCodes
 unfolding openGate

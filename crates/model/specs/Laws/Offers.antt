@@ -14,13 +14,13 @@ use Rattle.model.specs.Words.{All, filter}
 use Rattle.model.specs.Total.{total}
 use Rattle.model.specs.Orders.{Flow}
 use Rattle.model.specs.Run.{Frame, Sends, window, bytesOf, Conforming}
-use Rattle.model.specs.Gate.{Gate, GateAnswer, timePassed, tokensOf, fullOf, gateWith, tokensAt, noGate, openGate}
-use Rattle.model.specs.Offers.{Offer, readingAt, NotBack, answerTo, offerCodes, withCode, passed, gateOf, framesAt, behindGate, BehindGates}
+use Rattle.model.specs.Gate.{Gate, GateAnswer, timePassed, tokensOf, fullOf, gateWith, tokensAt, noGate, openGate, fullGate}
+use Rattle.model.specs.Offers.{Offer, readingAt, NotBack, answerTo, offerCodes, withCode, passed, flowGate, framesAt, behindGate, BehindGates}
 use Rattle.model.specs.Laws.Test.{cond-le}
 use Rattle.model.specs.Laws.All.{map-all, filter-all, all-imp}
 use Rattle.model.specs.Laws.Total.{total-map, total-filter}
 use Rattle.model.specs.Laws.Run.Windows.{window-mono, window-zero, window-at, window-total, window-ext}
-use Rattle.model.specs.Laws.Gate.{dropped, taken, time-most, length-bounds, offer-cases, opening-cases, fullGate}
+use Rattle.model.specs.Laws.Gate.{dropped, taken, time-most, length-bounds, offer-cases, opening-cases}
 
 -- From an earlier time they don't go back either.
 pub not-back-from : (from later : ℕ) (os : List Offer) → from ≤ later → NotBack later os → NotBack from os
@@ -69,7 +69,7 @@ module _ (w : Offer → ℕ) (until : ℕ) (most : (o : Offer) → w o ≤ o .le
 
   -- Over the times from `from` on, before which nothing counts, no more than the burst and what the rate adds.
   module _ (from : ℕ) (ordered : from ≤ until) (early : (o : Offer) → o .time < from → w o ≡ 0) where
-    pub over-window : (g : Gate) (last : ℕ) (os : List Offer) → NotBack last os
+    over-window : (g : Gate) (last : ℕ) (os : List Offer) → NotBack last os
         → 8000 * total w (passed os (offerCodes g os)) + g .rate * from ≤ fullOf g + g .rate * until
     unfolding withCode total offerCodes answerTo gateWith tokensAt tokensOf
     over-window g last [] b = omega (arith, mul-le-mul-left (g .rate) ordered)
@@ -139,7 +139,7 @@ module _ (start s t : ℕ) where
       omega (arith, over-window counts (start + (s + t)) counts-most counts-past (start + s) (omega arith) counts-early g last os b)
 
 -- Of the gate of a flow, opened or refused.
-pub behind-window : (j : ℕ) (f : Flow) (opened start : ℕ) (os : List Offer) → NotBack opened os → (s t : ℕ)
+behind-window : (j : ℕ) (f : Flow) (opened start : ℕ) (os : List Offer) → NotBack opened os → (s t : ℕ)
     → 8000 * window (λ x. bytesOf j (behindGate j f opened start os x)) s (suc t) ≤ 8000 * f .burst + f .rate * t
 unfolding openGate tokensOf noGate
 behind-window j f opened start os b s t =
@@ -194,7 +194,7 @@ pub behind-sends : (fs : List Flow) (j : ℕ) (f : Flow) → getElem? fs j ≡ s
     → All (Sends fs x) (behindGate j f opened start os x)
 unfolding openGate framesAt noGate
 behind-sends fs j f e opened start os x =
-    let ps = passed os (offerCodes (gateOf f opened) os) in
+    let ps = passed os (offerCodes (flowGate f opened) os) in
     map-all (Sends fs x) frame (filter (λ o. eqb (o .time) (start + x)) ps) (all-imp (filter (λ o. eqb (o .time) (start + x)) ps) sends (filter-all (Fits (f .frame)) (λ o. eqb (o .time) (start + x)) ps fits))
   where
     frame : Offer → Frame
@@ -203,7 +203,7 @@ behind-sends fs j f e opened start os x =
     sends : (o : Offer) → Fits (f .frame) o × (eqb (o .time) (start + x) ≡ true) → Sends fs x (frame o)
     sends o p = record { flow = f; known = e; first = refl; least = p .0 .0; most = p .0 .1; since = refl; born = refl }
 
-    fits : All (Fits (f .frame)) (passed os (offerCodes (gateOf f opened) os))
+    fits : All (Fits (f .frame)) (passed os (offerCodes (flowGate f opened) os))
     fits =
         opening-cases (fullGate (f .rate) (f .burst) (f .frame) (readingAt opened))
         (λ a. All (Fits (f .frame)) (passed os (offerCodes (a .gate) os)))

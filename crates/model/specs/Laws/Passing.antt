@@ -9,10 +9,10 @@ use native.Mathlib.Omega.{arith}
 use native.Mathlib.Nat.{mul-le-mul-left, le-refl, le-trans}
 use lib.Dec.{leb}
 use Rattle.model.specs.Formula.{ceilDiv}
-use Rattle.model.specs.Gate.{Gate, turn, timePassed, tokensOf, fullOf, gateInRange, lengthInRange, gateWith, tokensAt, noGate, openGate}
+use Rattle.model.specs.Gate.{Gate, turn, timePassed, tokensOf, fullOf, gateInRange, lengthInRange, gateWith, tokensAt, noGate, fullGate, openGate}
 use Rattle.model.specs.Offers.{Offer, readingAt, NotBack, answerTo, offerCodes, afterOffers, withCode, passed, stored, NotRefused, lastTime, WithinTurns}
 use Rattle.model.specs.Laws.Formula.{le-ceilDiv}
-use Rattle.model.specs.Laws.Gate.{dropped, taken, time-exact, gate-bounds, length-bounds, offer-cases, opening-cases, fullGate, no-gate-range, at-most-full, with-ranged, refused-61, refused-same}
+use Rattle.model.specs.Laws.Gate.{dropped, taken, time-exact, gate-bounds, length-bounds, offer-cases, opening-cases, no-gate-range, at-most-full, with-ranged, refused-61, refused-same, range-kept}
 use Rattle.model.specs.Laws.Offers.{passedBy, not-back-from}
 
 -- Where the gate is out of range, every offer is refused.
@@ -177,6 +177,23 @@ module _ (o : Offer) where
           (w .1)
           n
           (λ q k. ready q (last-next last p (passed os (offerCodes (taken g (p .length) now) os)) ∙ k)))
+
+-- Since a frame passed at p, whatever was before.
+pub passes-since : (g : Gate) (p : ℕ) (os : List Offer) (o : Offer) → gateInRange g ≡ true → g .reading ≡ readingAt p → NotBack p (os ++ (o ∷ []))
+    → WithinTurns p (stored (os ++ (o ∷ [])) (offerCodes g (os ++ (o ∷ []))))
+    → NotRefused (answerTo (afterOffers g os) o .code)
+    → lastTime (passed os (offerCodes g os)) ≡ none
+    → p + ceilDiv (tokensOf (o .length)) (g .rate) ≤ o .time
+    → answerTo (afterOffers g os) o .code ≡ 0
+passes-since g p os o ok e b w n l h =
+    goes o g p (some p) os ok e (le-refl p, omega arith) b w n
+    (λ q k. subst (λ z. z + ceilDiv (tokensOf (o .length)) (g .rate) ≤ o .time) (Option·some-injective _ _ (sym (ap (lastOf (some p)) l) ∙ k)) h)
+
+-- A gate stays in range.
+pub range-after : (g : Gate) (os : List Offer) → gateInRange g ≡ true → gateInRange (afterOffers g os) ≡ true
+unfolding afterOffers answerTo
+range-after g [] ok = ok
+range-after g (o ∷ os) ok = range-after (answerTo g o .gate) os (range-kept g (o .length) (readingAt (o .time)) ok)
 
 -- From one opening on.
 pub opened-first : (rate burst frame now : ℕ) (os : List Offer) (o : Offer) → let g = openGate rate burst frame now .gate in

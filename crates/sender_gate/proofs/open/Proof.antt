@@ -6,8 +6,8 @@ use mathlib.Core.Path.{_≡_, refl, sym, ap, _∙_}
 use mathlib.Core.Bool.{true, false, true≢false}
 use native.Mathlib.Omega.{arith}
 use borrow.Author.Tests.{not-true, not-false}
-use Rattle.model.specs.Gate.{Gate, tokensOf, gateInRange, gateWith, noGate, openGate}
-use Rattle.model.specs.Laws.Gate.{gate-bounds, with-ranged, opening-cases, fullGate}
+use Rattle.model.specs.Gate.{Gate, tokensOf, gateInRange, gateWith, noGate, fullGate, openGate}
+use Rattle.model.specs.Laws.Gate.{gate-bounds, with-ranged, opening-cases}
 use Rattle.sender_gate.proofs.open.Statement.{statement}
 use Rattle.sender_gate.proofs.open.Tie as tie
 
