@@ -27,7 +27,7 @@ pub fn cannot_write(path: &Path, error: &io::Error) -> Outcome {
 }
 
 /// The system's words without its number for them.
-fn why(error: &io::Error) -> String {
+pub fn why(error: &io::Error) -> String {
     let words = error.to_string();
     let kept = words.split(" (os error").next();
     kept.unwrap_or_default().to_string()

@@ -1,5 +1,5 @@
 //! The course's tool: what is wrong with a hall's two files, why each order is answered as it is, every queue's bounds,
-//! the held flows as order lines, a trainee's answers marked.
+//! the held flows as order lines, a trainee's answers marked, traffic on document 01's run and on the kernel's own queues.
 
 pub mod arguments;
 pub mod bounds;
@@ -15,6 +15,7 @@ pub mod session;
 pub mod status;
 pub mod titles;
 pub mod traffic;
+pub mod wire;
 
 use arguments::Command;
 use status::{Outcome, Status};
@@ -28,6 +29,7 @@ pub const COMMANDS: &[&Command] = &[
     &mark::COMMAND,
     &hall::COMMAND,
     &traffic::COMMAND,
+    &wire::COMMAND,
 ];
 
 pub fn version() -> String {
@@ -46,7 +48,7 @@ fn help() -> String {
     }
     text + "\n`course COMMAND --help` says more. FOLDER holds table.txt and orders.txt.\n\
             Exit status: 0 fine; 1 a refused batch, unreadable input, a mistake found by `check`, a wrong row in `mark`;\n\
-            2 usage; 3 a source doesn't conform; 4 a frame late or a buffer exceeded.\n"
+            2 usage, in `wire` also a machine that can't; 3 a source doesn't conform; 4 a frame late or a buffer exceeded.\n"
 }
 
 /// What the program does with these words.

@@ -8,7 +8,7 @@ pub enum Status {
     Fine = 0,
     /// A refused batch, unreadable input, a typing mistake in `check`, a wrong row in `mark`.
     Wrong = 1,
-    /// The command line can't be understood.
+    /// The command line can't be understood, or the machine can't do what it asks for.
     Usage = 2,
     /// A source doesn't conform to its token bucket.
     Unconforming = 3,

@@ -162,7 +162,7 @@ fn arrivals(arguments: &Arguments) -> Result<Arrivals, Outcome> {
 }
 
 /// The hall with the flows held after its orders.
-fn held(folder: &Folder) -> Result<Hall, Outcome> {
+pub fn held(folder: &Folder) -> Result<Hall, Outcome> {
     let registry = Session::run(folder)?.registry;
     let flows = registry.held().into_iter().cloned().collect();
     Ok(Hall::new(registry.queues, flows))

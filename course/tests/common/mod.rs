@@ -1,6 +1,7 @@
 //! What the tests share: commands run in process, folders that go when their test ends.
 #![allow(dead_code)]
 
+pub mod bands;
 pub mod offered;
 pub mod pages;
 pub mod paper;
