@@ -10,7 +10,8 @@ use course::traffic::held;
 use course::wire::report::Report;
 use course::wire::run::Stay;
 use course::wire::scale::Scale;
-use course::wire::verdict::{Allowance, Seen};
+use course::wire::trial::Found;
+use course::wire::verdict::{timing, Limit, Seen, Timing};
 
 #[test]
 fn usage() {
@@ -100,7 +101,7 @@ fn halls_that_cannot_be_sent() {
     assert!(outcome.errors.contains("the batch is refused with 1"));
 }
 
-#[cfg(target_os = "linux")]
+#[cfg(all(target_os = "linux", target_arch = "x86_64"))]
 #[test]
 fn a_missing_program_is_named() {
     use course::wire::kernel::namespace::Programs;
@@ -125,53 +126,56 @@ fn two_flows() -> Hall {
 
 const SCALE: Scale = Scale { slow: 100 };
 
-/// What was seen of a queue of two-flows after stays of so many tenths of a µs, each with its doubt and its link's lag.
-fn seen(hall: &Hall, queue: usize, allowance: Allowance, stays: &[(u64, u64, u64)]) -> Seen {
-    let mut seen = Seen {
-        allowance,
-        ..Seen::default()
-    };
-    for (number, &(tenths, doubt, lag)) in (1..).zip(stays) {
+/// What was seen of a queue of two-flows after stays of so many tenths of a µs, each with what the machine may have added.
+fn seen(hall: &Hall, queue: usize, stays: &[(u64, u64)]) -> Seen {
+    let mut seen = Seen::default();
+    for (number, &(tenths, added)) in (1..).zip(stays) {
         let stay = Stay {
             queue,
             flow: queue,
             number,
             length: 10_000 * tenths,
-            idle: 0,
-            doubt: 10_000 * doubt,
+            added: 10_000 * added,
+            late: 0,
             early: 0,
         };
-        let threshold = SCALE.nanos(hall.queues[queue].threshold);
-        seen.note(&stay, threshold, 10_000 * lag);
+        seen.note(&stay, SCALE.nanos(hall.queues[queue].threshold));
     }
     seen
 }
 
-fn printed(hall: &Hall, seen: &[Seen]) -> String {
+const LIMIT: Limit = Limit {
+    threshold: 0,
+    early: 0,
+    noise: 15_000,
+    speed: 100_000,
+    residual: 100_000,
+};
+
+fn printed(hall: &Hall, limits: [Limit; 2], seen: [Seen; 2]) -> String {
+    let found = Found {
+        limits: limits.to_vec(),
+        seen: seen.to_vec(),
+    };
     let report = Report {
         hall,
         scale: SCALE,
-        seen,
+        found: &found,
     };
-    format!("{}{}{}\n", report.table(), report.early(), report.verdict())
+    format!(
+        "{}{}{}\n",
+        report.table(),
+        report.remarks(),
+        report.verdict()
+    )
 }
 
 #[test]
 fn the_table_of_a_trial() {
     let hall = two_flows();
-    let allowance = Allowance {
-        noise: 15_000,
-        early: 0,
-    };
-    let level_1 = seen(
-        &hall,
-        0,
-        allowance,
-        &[(2_467, 2, 1), (2_469, 3, 1), (1_234, 0, 0)],
-    );
-    let level_2 = seen(&hall, 1, allowance, &[]);
+    let level_1 = seen(&hall, 0, &[(2_467, 2), (2_469, 3), (1_234, 0)]);
     assert_eq!(
-        printed(&hall, &[level_1, level_2]),
+        printed(&hall, [LIMIT; 2], [level_1, Seen::default()]),
         "\
 \x20 link  level  stays  longest stay  bound  of it  threshold  noise  verdict     worst frame
                                 µs     µs      %         µs     µs
@@ -185,29 +189,62 @@ no frame late; closest link 1 level 1, 246.9 of 371 µs
 #[test]
 fn late_and_unclear() {
     let hall = two_flows();
-    let allowance = Allowance {
-        noise: 20_000,
-        early: 10_000,
+    let trial = |level_1, level_2| {
+        let seen = [seen(&hall, 0, &[level_1]), seen(&hall, 1, &[level_2])];
+        let timing = timing(&seen);
+        (printed(&hall, [LIMIT; 2], seen), timing)
     };
-    let in_time = seen(&hall, 0, allowance, &[(3_710, 0, 0)]);
-    let verdict = |tenths, doubt, lag| {
-        let level_2 = seen(&hall, 1, allowance, &[(tenths, doubt, lag)]);
-        printed(&hall, &[in_time.clone(), level_2])
+    let (text, timing) = trial((3_710, 0), (3_740, 0));
+    assert!(text.ends_with("\nno frame late; closest link 1 level 1, 371.0 of 371 µs\n"));
+    assert_eq!((timing, timing.status()), (Timing::InTime, Status::Fine));
+    let (text, timing) = trial((3_710, 0), (3_743, 3));
+    let said = "\
+link 1 level 2: above its bound by 0.3 µs; the machine may have added 0.3
+nothing can be said: link 1 level 2, 374.3 of 374 µs, above by no more than this machine itself may have added; \
+slower motion, or a machine that does nothing else, tells
+";
+    assert!(text.contains("unclear") && text.ends_with(said), "{text}");
+    assert_eq!((timing, timing.status()), (Timing::Unclear, Status::Usage));
+    // The late queue is named, though another is further above its threshold.
+    let (text, timing) = trial((4_000, 300), (3_744, 3));
+    let said = "\
+link 1 level 1: above its bound by 29.0 µs; the machine may have added 30.0
+link 1 level 2: above its bound by 0.4 µs; the machine may have added 0.3
+a frame late: link 1 level 2, 374.4 of 374 µs; 1 late stay in all
+";
+    assert!(text.ends_with(said), "{text}");
+    assert_eq!((timing, timing.status()), (Timing::Late, Status::Late));
+}
+
+#[test]
+fn what_the_machine_may_add() {
+    // The greater of noise and doubt, and the lag, by how little the levels above leave; what goes early beside it.
+    let limit = Limit {
+        early: 7_000,
+        residual: 25_000,
+        ..LIMIT
     };
-    assert!(
-        verdict(3_740, 0, 0).ends_with("no frame late; closest link 1 level 1, 371.0 of 371 µs\n")
-    );
-    let unclear = "nothing can be said: link 1 level 2, 374.3 of 374 µs, above by no more than this machine itself may have added; \
-                   slower motion, or a machine that does nothing else, tells\n";
-    assert!(verdict(3_743, 0, 0).ends_with(unclear));
-    assert!(verdict(3_743, 0, 0).contains("unclear"));
-    let late = "a frame late: link 1 level 2, 374.4 of 374 µs; 1 late stay in all\n";
-    assert!(verdict(3_744, 0, 0).ends_with(late));
-    // What was seen of the stay itself counts where it is more than the noise, not beside it.
-    assert!(verdict(3_744, 3, 0).contains("nothing can be said: link 1 level 2, 374.4 of 374 µs"));
-    assert!(verdict(3_745, 3, 0).contains("a frame late"));
-    assert!(verdict(3_748, 3, 4).contains("nothing can be said"));
-    assert!(verdict(3_749, 3, 4).contains("a frame late"));
-    let early = "link 1 level 1: the kernel lets go of small frames below it early, and a stay may pass its bound by 0.1 µs\n";
-    assert!(verdict(3_740, 0, 0).contains(early));
+    assert_eq!(limit.added(0, 0), 4 * 15_000 + 7_000);
+    assert_eq!(limit.added(15_001, 0), 4 * 15_001 + 7_000);
+    assert_eq!(limit.added(9_000, 1_000), 4 * 16_000 + 7_000);
+    let thirds = Limit {
+        residual: 30_000,
+        ..limit
+    };
+    assert_eq!(thirds.added(0, 1), 50_004 + 7_000);
+}
+
+#[test]
+fn queues_that_may_pass_their_bound_are_named() {
+    let hall = two_flows();
+    let early = Limit {
+        early: 57_000,
+        ..LIMIT
+    };
+    let text = printed(&hall, [early, LIMIT], [Seen::default(), Seen::default()]);
+    let said = "\
+link 1 level 1: the kernel lets go of small frames below it early; by that a stay may pass its bound, by 0.6 µs at most
+no frame was sent
+";
+    assert!(text.ends_with(said), "{text}");
 }

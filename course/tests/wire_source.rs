@@ -4,7 +4,7 @@ mod common;
 
 use common::example_text;
 use course::wire::link::{Link, Sent};
-use course::wire::scale::{whole_for, Nanos, Scale};
+use course::wire::scale::{usual, whole_for, Nanos, Scale};
 use course::wire::source::Source;
 use halls::rng::Rng;
 use plain::orders::Flow;
@@ -142,9 +142,9 @@ fn nothing_but_the_burst_goes_after_the_end() {
 fn a_frame_has_left_when_its_last_bit_is_sent() {
     // 1,542 bytes take 123,360 ns at 100 Mbit/s, 84 take 6,720.
     let mut link = Link::new(Scale { slow: 1 }, 100);
-    let sent = |end, idle, lost, early| Sent {
+    let sent = |end, late, lost, early| Sent {
         end,
-        idle,
+        late,
         lost,
         early,
     };
@@ -157,10 +157,10 @@ fn a_frame_has_left_when_its_last_bit_is_sent() {
     // A small one is let go early, and is sent behind the one before.
     let third = link.dequeued(125_000, 150_000, 84);
     assert_eq!(third, sent(254_780, 0, 340, 98_060));
-    // One that had come before all that has waited through the gaps from when it came.
-    let fourth = link.dequeued(1_200, 254_880, 84);
-    assert_eq!(fourth, sent(261_600, 100 + 40 + 100, 440, 0));
-    // After a pause only what it waited itself counts.
+    // One that comes when all is sent, but another has waited since 126,000: the link stood idle from the end of the last on.
+    let fourth = link.dequeued(126_000, 254_880, 84);
+    assert_eq!(fourth, sent(261_600, 100, 440, 0));
+    // After a pause only what it waits itself counts.
     let fifth = link.dequeued(900_000, 900_010, 84);
     assert_eq!(fifth, sent(906_730, 10, 10, 0));
 }
@@ -177,6 +177,9 @@ fn slow_motion_in_whole_bytes() {
     assert_eq!(scale(7).bytes_per_second(100), None);
     assert_eq!(scale(100).shown(24_672_000), "246.8");
     assert_eq!(scale(1).shown(1_542_000), "1,542.0");
+    // 100, or as much more as brings the fastest link down to 10 Mbit/s.
+    let usual = [&[10, 100][..], &[1_000], &[100, 2_500], &[10_000]].map(usual);
+    assert_eq!(usual, [100, 100, 250, 1_000]);
     assert_eq!(whole_for(&[10, 100, 1_000], 100), Some(scale(100)));
     assert_eq!(whole_for(&[10, 100], 7), Some(scale(8)));
     assert_eq!(whole_for(&[1], 6_250), Some(scale(6_250)));

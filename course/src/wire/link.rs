@@ -9,20 +9,18 @@ pub struct Link {
     speed: u64,
     /// When the last frame that it was given is sent.
     free: Nanos,
-    /// When it had nothing to send, in turn.
-    gaps: Vec<(Nanos, Nanos)>,
-    /// For how much of the time since it last had nothing to do it stood idle.
+    /// How long it has stood idle, though frames waited, since it last had nothing to do.
     lost: Nanos,
 }
 
-/// What a frame's stay came to.
+/// What the kernel's letting go of a frame came to.
 #[derive(Clone, Copy, Debug, PartialEq)]
 pub struct Sent {
     /// When its last bit is sent.
     pub end: Nanos,
-    /// How long the link stood idle though this frame waited: the kernel's own delay.
-    pub idle: Nanos,
-    /// How long it did so since it last had nothing to do, also before this frame came: what was before it is so much longer.
+    /// For how long the link had stood idle though a frame waited.
+    pub late: Nanos,
+    /// The same, summed since the link last had nothing to do: so much longer may a frame have waited for those before it.
     pub lost: Nanos,
     /// How long before the end of the frame before the kernel let go of it.
     pub early: Nanos,
@@ -34,7 +32,6 @@ impl Link {
             scale,
             speed,
             free: 0,
-            gaps: Vec::new(),
             lost: 0,
         }
     }
@@ -44,25 +41,19 @@ impl Link {
         self.free
     }
 
-    /// The next frame that the kernel let go of, which came to its queue at `queued`.
-    pub fn dequeued(&mut self, queued: Nanos, dequeued: Nanos, bytes: u64) -> Sent {
-        if dequeued > self.free {
-            self.gaps.push((self.free, dequeued));
-        }
-        let waited = self.gaps.iter().rev();
-        let idle = waited
-            .take_while(|(_, end)| *end > queued)
-            .map(|(start, end)| end - queued.max(*start))
-            .sum();
-        self.lost = match queued >= self.free {
-            true => dequeued.saturating_sub(queued),
-            false => self.lost + dequeued.saturating_sub(self.free),
+    /// The kernel lets go of the next frame. `oldest` is when that frame came to the link which has waited there longest, this
+    /// one or another.
+    pub fn dequeued(&mut self, oldest: Nanos, at: Nanos, bytes: u64) -> Sent {
+        let late = at.saturating_sub(self.free.max(oldest));
+        let early = self.free.saturating_sub(at);
+        self.lost = match oldest < self.free {
+            true => self.lost + late,
+            false => late,
         };
-        let early = self.free.saturating_sub(dequeued);
-        self.free = self.free.max(dequeued) + self.scale.sending(bytes, self.speed);
+        self.free = self.free.max(at) + self.scale.sending(bytes, self.speed);
         Sent {
             end: self.free,
-            idle,
+            late,
             lost: self.lost,
             early,
         }

@@ -29,10 +29,10 @@ use kernel::Kernel;
 use plan::Plan;
 use report::Report;
 use roads::{roads, Road, MOST_LEVELS};
-use scale::{whole_for, Nanos, Scale, MOST_SLOW};
+use scale::{usual, whole_for, Nanos, Scale, MOST_SLOW};
 use std::io::{IsTerminal, Write};
 use trial::{Break, Trial};
-use verdict::{timing, Timing};
+use verdict::timing;
 
 pub const COMMAND: Command = Command {
     name: "wire",
@@ -47,10 +47,7 @@ pub const COMMAND: Command = Command {
     run: wire,
 };
 
-/// Where no slow motion is asked for: no link is faster than this, Mbit/s, and no motion faster than that.
-const USUAL_SPEED: u64 = 10;
-const USUAL_SLOW: u64 = 100;
-/// More than any buffer holds.
+/// More would show no more, and take long.
 const MOST_BEYOND: u64 = 10_000;
 
 fn usage(what: &str) -> Outcome {
@@ -78,29 +75,26 @@ fn wire(arguments: &Arguments) -> Result<Outcome, Outcome> {
         scale,
         broken,
     };
-    let mut kernel = Kernel::build(&hall, &roads, scale).map_err(unable)?;
-    let progress = Progress::new(&hall, &plans, scale);
-    let seen = trial.run(&mut kernel, &plans, |index| progress.show(index));
+    let beyond = broken.map_or(0, |broken| broken.count);
+    let mut kernel = Kernel::build(&hall, &roads, scale, beyond).map_err(unable)?;
+    let progress = Progress::new(&trial, &plans);
+    let found = trial.run(&mut kernel, &plans, |index| progress.show(index));
     progress.end();
-    let seen = seen.map_err(unable)?;
+    let found = found.map_err(unable)?;
     let report = Report {
         hall: &hall,
         scale,
-        seen: &seen,
+        found: &found,
     };
     let printed = format!(
         "{}\n{}\n\n{}\n{}{}\n",
         summary(&trial, plans.len()),
         conforming(&trial),
         report.table(),
-        report.early(),
+        report.remarks(),
         report.verdict()
     );
-    let status = match timing(&seen) {
-        Timing::InTime => Status::Fine,
-        Timing::Unclear => Status::Usage,
-        Timing::Late => Status::Late,
-    };
+    let status = timing(&found.seen).status();
     let outcome = Outcome::fine(printed).with_status(status);
     Ok(outcome.with_remark(remark()))
 }
@@ -127,10 +121,8 @@ fn sendable(hall: &Hall) -> Result<(), Outcome> {
 /// The slow motion asked for, or the usual one.
 fn scale(arguments: &Arguments, roads: &[Road]) -> Result<Scale, Outcome> {
     let speeds: Vec<u64> = roads.iter().map(|road| road.speed).collect();
-    let fastest = speeds.iter().max().copied().unwrap_or(1);
-    let usual = fastest.div_ceil(USUAL_SPEED).max(USUAL_SLOW);
     let asked = arguments.number("--slow")?;
-    let least = asked.unwrap_or(usual);
+    let least = asked.unwrap_or(usual(&speeds));
     if !(1..=MOST_SLOW).contains(&least) {
         let most = commas(MOST_SLOW);
         return Err(usage(&format!("--slow goes from 1 to {most}")));
@@ -206,9 +198,10 @@ struct Progress {
 }
 
 impl Progress {
-    fn new(hall: &Hall, plans: &[Plan], scale: Scale) -> Progress {
+    fn new(trial: &Trial, plans: &[Plan]) -> Progress {
+        let length = |plan: &Plan| plan.length(trial.hall, trial.network, trial.scale);
         Progress {
-            lengths: plans.iter().map(|plan| plan.length(hall, scale)).collect(),
+            lengths: plans.iter().map(length).collect(),
             terminal: std::io::stderr().is_terminal(),
         }
     }

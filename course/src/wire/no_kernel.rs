@@ -8,8 +8,10 @@ use crate::traffic::hall::Hall;
 pub enum Kernel {}
 
 impl Kernel {
-    pub fn build(_hall: &Hall, _roads: &[Road], _scale: Scale) -> Result<Kernel, String> {
-        Err("this needs Linux, with 64 bits: frames go through its kernel's queues".to_string())
+    pub fn build(_: &Hall, _: &[Road], _: Scale, _beyond: u64) -> Result<Kernel, String> {
+        let what =
+            "this needs Linux on x86-64, AArch64 or RISC-V: frames go through its kernel's queues";
+        Err(what.to_string())
     }
 }
 

@@ -1,10 +1,9 @@
 //! What the machine itself adds: how long the kernel leaves a link idle though a frame waits, measured on the idle link.
 
 use super::plan::Turn;
-use super::run::{round, Sender, Wires};
+use super::run::{round, Sender, Way, Wires};
 use super::scale::{Nanos, Scale};
 use super::source::Source;
-use crate::traffic::network::Network;
 use plain::orders::Flow;
 
 /// Frames go in pairs: the first finds the link free, the second waits for the kernel's timer.
@@ -22,25 +21,24 @@ pub struct Probe {
 }
 
 /// The longest delay seen on each link, 0 where none is probed. A link that lets go of each second frame before the first is
-/// sent is faster than it should be.
+/// sent is faster than it should be; where its timer is late by more than that, it can't be told.
 pub fn measure<W: Wires>(
     wires: &mut W,
-    network: &Network,
-    scale: Scale,
+    way: Way,
     probes: &[Probe],
     names: &mut u32,
 ) -> Result<Vec<Nanos>, String> {
-    let link = |queue: usize| network.sender_of[queue];
-    let mut noise = vec![0; network.senders.len()];
-    let mut least_early = vec![Nanos::MAX; network.senders.len()];
+    let link = |queue: usize| way.network.sender_of[queue];
+    let links = way.network.senders.len();
+    let (mut noise, mut least_early) = (vec![0; links], vec![Nanos::MAX; links]);
     // The first pair only wakes the kernel's receive times.
-    for counts in (0..=pairs(network, scale, probes)).map(|turn| turn > 0) {
+    for counts in (0..=pairs(way, probes)).map(|turn| turn > 0) {
         let now = wires.now();
-        let senders = probes.iter().map(|probe| sender(probe, scale, now));
-        let watched = round(wires, network, scale, senders.collect(), names)?;
-        for stay in watched.stays.iter().filter(|_| counts) {
+        let senders = probes.iter().map(|probe| sender(probe, way.scale, now));
+        let stays = round(wires, way, senders.collect(), names)?;
+        for stay in stays.iter().filter(|_| counts) {
             let link = link(stay.queue);
-            noise[link] = stay.idle.max(noise[link]);
+            noise[link] = stay.late.max(noise[link]);
             if stay.number == PAIR {
                 least_early[link] = stay.early.min(least_early[link]);
             }
@@ -56,9 +54,9 @@ pub fn measure<W: Wires>(
 }
 
 /// How many pairs the time is enough for.
-fn pairs(network: &Network, scale: Scale, probes: &[Probe]) -> u64 {
-    let speed = |probe: &Probe| network.speed(network.sender_of[probe.queue]);
-    let pair = |probe: &Probe| PAIR * scale.sending(probe.largest, speed(probe));
+fn pairs(way: Way, probes: &[Probe]) -> u64 {
+    let speed = |probe: &Probe| way.network.speed(way.network.sender_of[probe.queue]);
+    let pair = |probe: &Probe| PAIR * way.scale.sending(probe.largest, speed(probe));
     let longest = probes.iter().map(pair).max().unwrap_or(0);
     TIME.checked_div(longest).unwrap_or(0).clamp(FEWEST, PAIRS)
 }

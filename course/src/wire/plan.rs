@@ -39,10 +39,20 @@ pub struct Plan {
 }
 
 impl Plan {
-    /// How long it takes at most where no frame is late.
-    pub fn length(&self, hall: &Hall, scale: Scale) -> Nanos {
-        scale.nanos(self.end + hall.span())
+    /// How long it takes at most where all sources conform.
+    pub fn length(&self, hall: &Hall, network: &Network, scale: Scale) -> Nanos {
+        scale.nanos(self.end + span(hall, network))
     }
+}
+
+/// The longest sum of delay bounds and fixed delays along a path, µs: by then all that the sources began with has arrived.
+fn span(hall: &Hall, network: &Network) -> u64 {
+    let over = |&hop: &usize| {
+        let bound = hall.bounds[hop].map_or(0, |bounds| bounds.delay);
+        bound + hall.queues[hop].fixed_delay
+    };
+    let along = |route: &Vec<usize>| route.iter().map(over).sum();
+    network.routes.iter().map(along).max().unwrap_or(0)
 }
 
 /// A round for each queue that carries a flow.
@@ -55,7 +65,7 @@ pub fn plans(hall: &Hall, network: &Network, scale: Scale) -> Vec<Plan> {
 }
 
 /// Each source begins so much earlier as its first frame needs to come to this queue's link, sources that don't cross it when
-/// the others meet there. It ends after twice the longest sum of thresholds and cables along a path.
+/// the others meet there.
 fn plan(hall: &Hall, network: &Network, scale: Scale, queue: usize) -> Plan {
     let link = &network.senders[network.sender_of[queue]].queues;
     let met = |route: &Vec<usize>| route.iter().position(|hop| link.contains(hop));
@@ -86,7 +96,7 @@ fn plan(hall: &Hall, network: &Network, scale: Scale, queue: usize) -> Plan {
     Plan {
         queue,
         starts: earlier.iter().map(start).collect(),
-        end: meet + 2 * hall.span(),
+        end: meet + 2 * span(hall, network),
     }
 }
 

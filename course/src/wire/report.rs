@@ -2,7 +2,8 @@
 
 use super::run::Stay;
 use super::scale::Scale;
-use super::verdict::{timing, Seen, Timing};
+use super::trial::Found;
+use super::verdict::{timing, Timing};
 use crate::bounds::aligned;
 use crate::numbers::{commas, counted, per_cent};
 use crate::traffic::hall::Hall;
@@ -24,8 +25,7 @@ const HEADINGS: [(&str, &str); 10] = [
 pub struct Report<'a> {
     pub hall: &'a Hall,
     pub scale: Scale,
-    /// By queue.
-    pub seen: &'a [Seen],
+    pub found: &'a Found,
 }
 
 impl Report<'_> {
@@ -49,8 +49,8 @@ impl Report<'_> {
     }
 
     fn row(&self, index: usize) -> [String; 10] {
-        let (queue, seen) = (&self.hall.queues[index], &self.seen[index]);
-        let bound = self.hall.bounds[index].map_or(0, |bounds| bounds.delay);
+        let (queue, seen) = (&self.hall.queues[index], &self.found.seen[index]);
+        let bound = self.bound(index);
         let stay = |show: &dyn Fn(&Stay) -> String| {
             let longest = seen.longest.as_ref();
             longest.map_or("-".to_string(), show)
@@ -67,12 +67,12 @@ impl Report<'_> {
         [
             queue.link.to_string(),
             queue.level.to_string(),
-            commas(seen.frames),
+            commas(seen.stays),
             stay(&|stay| self.scale.shown(stay.length)),
             commas(bound),
             stay(&share),
             commas(queue.threshold),
-            self.scale.shown(seen.allowance.noise),
+            self.scale.shown(self.found.limits[index].noise),
             verdict.to_string(),
             stay(&|stay| self.frame(stay)),
         ]
@@ -84,23 +84,43 @@ impl Report<'_> {
         format!("flow {flow} frame {}", commas(stay.number))
     }
 
-    /// A line for each queue whose stays may pass their bound because the kernel lets go of small frames early.
-    pub fn early(&self) -> String {
-        let line = |queue: usize| {
-            let early = self.seen[queue].allowance.early;
-            let place = self.hall.place(queue);
-            let most = self.scale.shown(early);
-            let words = format!(
-                "{place}: the kernel lets go of small frames below it early, and a stay may pass its bound by {most} µs\n"
-            );
-            (early > 0).then_some(words)
+    /// A line for each queue whose stays may pass their bound because the kernel lets go of small frames early, and one for
+    /// each whose longest stay did pass it.
+    pub fn remarks(&self) -> String {
+        let early = |queue: usize| {
+            let most = self.found.limits[queue].early;
+            (most > 0).then(|| {
+                let (place, most) = (self.hall.place(queue), self.scale.shown(most));
+                format!("{place}: the kernel lets go of small frames below it early; by that a stay may pass its bound, by {most} µs at most\n")
+            })
         };
-        self.carrying().filter_map(line).collect()
+        let above = |queue: usize| {
+            let longest = self.found.seen[queue].longest?;
+            let above = longest
+                .length
+                .checked_sub(self.scale.nanos(self.bound(queue)))?;
+            (above > 0).then(|| {
+                let (place, above) = (self.hall.place(queue), self.scale.shown(above));
+                let added = self.scale.shown(longest.added);
+                format!(
+                    "{place}: above its bound by {above} µs; the machine may have added {added}\n"
+                )
+            })
+        };
+        let early = self.carrying().filter_map(early);
+        early.chain(self.carrying().filter_map(above)).collect()
     }
 
-    /// The stay that uses most of its threshold.
+    /// A queue's delay bound, µs.
+    fn bound(&self, queue: usize) -> u64 {
+        self.hall.bounds[queue].map_or(0, |bounds| bounds.delay)
+    }
+
+    /// The stay that uses most of its threshold, of the queues that fared worst.
     fn closest(&self) -> Option<&Stay> {
-        let longest = self.seen.iter().filter_map(|seen| seen.longest.as_ref());
+        let all = &self.found.seen;
+        let worst = all.iter().filter(|seen| seen.timing() == timing(all));
+        let longest = worst.filter_map(|seen| seen.longest.as_ref());
         let threshold = |stay: &Stay| u128::from(self.hall.queues[stay.queue].threshold);
         longest.reduce(|best, stay| {
             let (of_best, of_stay) = (threshold(best), threshold(stay));
@@ -124,8 +144,8 @@ impl Report<'_> {
             self.scale.shown(closest.length),
             commas(self.hall.queues[closest.queue].threshold)
         );
-        let late: u64 = self.seen.iter().map(|seen| seen.late).sum();
-        match timing(self.seen) {
+        let late: u64 = self.found.seen.iter().map(|seen| seen.late).sum();
+        match timing(&self.found.seen) {
             Timing::InTime => format!("no frame late; closest {place}"),
             Timing::Unclear => format!(
                 "nothing can be said: {place}, above by no more than this machine itself may have added; \

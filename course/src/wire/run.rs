@@ -5,10 +5,11 @@ use super::link::Link;
 use super::plan::Turn;
 use super::scale::{Nanos, Scale};
 use super::source::Source;
+use super::verdict::Limit;
 use crate::numbers::counted;
 use crate::traffic::network::Network;
 use plain::orders::LARGEST_FRAME;
-use std::collections::{BTreeMap, HashMap};
+use std::collections::{BTreeMap, BTreeSet, HashMap};
 
 /// Links with their queues, and a clock.
 pub trait Wires {
@@ -35,22 +36,13 @@ pub struct Stay {
     /// From 1 on, in the order in which its source sends.
     pub number: u64,
     pub length: Nanos,
-    /// What the machine added: for so long the link stood idle though the frame waited, and the call that put the frame into
-    /// the queue took so long.
-    pub idle: Nanos,
-    /// What it may have added, counting what it added to frames for which this one may have had to wait.
-    pub doubt: Nanos,
+    /// The most that the machine may have added to it.
+    pub added: Nanos,
+    /// For how long the link had stood idle though a frame waited when this one was let go, and how long the call took that put
+    /// it into its queue.
+    pub late: Nanos,
     /// How long before the end of the frame before the kernel let go of it.
     pub early: Nanos,
-}
-
-/// What a round showed.
-#[derive(Debug)]
-pub struct Watched {
-    /// In the order in which frames left.
-    pub stays: Vec<Stay>,
-    /// By link: the most by which a frame came to it later than its cables say, summed along its path.
-    pub lags: Vec<Nanos>,
 }
 
 /// A source and the queues that its frames go through.
@@ -58,6 +50,15 @@ pub struct Sender {
     pub source: Source,
     pub route: Vec<usize>,
     pub turn: Turn,
+}
+
+/// Where frames go, and what their stays are held against.
+#[derive(Clone, Copy)]
+pub struct Way<'a> {
+    pub network: &'a Network,
+    pub scale: Scale,
+    /// By queue.
+    pub limits: &'a [Limit],
 }
 
 /// A frame on its way, in the queue of a hop or on the cable before it.
@@ -71,7 +72,8 @@ struct Travel {
     due: Option<Nanos>,
     /// When it was put into the queue: before and after the call.
     put: (Nanos, Nanos),
-    /// By how much it came too late to this queue and those before, summed.
+    /// By how much the machine may have made it come later to this queue than the model allows, summed: let go after a
+    /// threshold, or forwarded late.
     lag: Nanos,
 }
 
@@ -86,8 +88,7 @@ const PATIENCE: Nanos = 2_000_000_000;
 
 struct Round<'a, W: Wires> {
     wires: &'a mut W,
-    network: &'a Network,
-    scale: Scale,
+    way: Way<'a>,
     senders: Vec<Sender>,
     /// How many frames each source has sent.
     sent: Vec<u64>,
@@ -96,39 +97,41 @@ struct Round<'a, W: Wires> {
     due: BTreeMap<(Nanos, Turn, u64), Due>,
     noted: u64,
     under_way: HashMap<u32, Travel>,
-    watched: Watched,
+    /// By link: when each frame in its queues came there.
+    waiting: Vec<BTreeSet<(Nanos, u32)>>,
+    /// By link: the greatest lag of a frame that came there.
+    lags: Vec<Nanos>,
+    stays: Vec<Stay>,
 }
 
-/// Lets these sources send until all are done and every frame has arrived. `names` is the next frame's name: none is used
-/// twice.
+/// Lets these sources send until all are done and every frame has arrived: all stays, in the order in which frames left.
+/// `names` is the next frame's name: none is used twice.
 pub fn round<W: Wires>(
     wires: &mut W,
-    network: &Network,
-    scale: Scale,
+    way: Way,
     senders: Vec<Sender>,
     names: &mut u32,
-) -> Result<Watched, String> {
-    let speeds = network.senders.iter().map(|sender| sender.speed);
+) -> Result<Vec<Stay>, String> {
+    let links = &way.network.senders;
+    let speeds = links.iter().map(|link| link.speed);
     let mut round = Round {
         wires,
-        network,
-        scale,
+        way,
         sent: vec![0; senders.len()],
         senders,
-        links: speeds.map(|speed| Link::new(scale, speed)).collect(),
+        links: speeds.map(|speed| Link::new(way.scale, speed)).collect(),
         due: BTreeMap::new(),
         noted: 0,
         under_way: HashMap::new(),
-        watched: Watched {
-            stays: Vec::new(),
-            lags: vec![0; network.senders.len()],
-        },
+        waiting: vec![BTreeSet::new(); links.len()],
+        lags: vec![0; links.len()],
+        stays: Vec::new(),
     };
     for index in 0..round.senders.len() {
         round.note_source(index);
     }
     round.run(names)?;
-    Ok(round.watched)
+    Ok(round.stays)
 }
 
 impl<W: Wires> Round<'_, W> {
@@ -170,8 +173,12 @@ impl<W: Wires> Round<'_, W> {
 
     /// Twice as long as the largest frame takes on the slowest link, and a while.
     fn patience(&self) -> Nanos {
-        let slowest = self.network.senders.iter().map(|sender| sender.speed).min();
-        PATIENCE + 2 * self.scale.sending(LARGEST_FRAME, slowest.unwrap_or(1))
+        let speeds = self.way.network.senders.iter().map(|link| link.speed);
+        PATIENCE
+            + 2 * self
+                .way
+                .scale
+                .sending(LARGEST_FRAME, speeds.min().unwrap_or(1))
     }
 
     fn note(&mut self, at: Nanos, turn: Turn, due: Due) {
@@ -209,50 +216,63 @@ impl<W: Wires> Round<'_, W> {
         }
     }
 
+    fn link_of(&self, travel: &Travel) -> (usize, usize) {
+        let queue = self.senders[travel.flow].route[travel.hop];
+        (queue, self.way.network.sender_of[queue])
+    }
+
     /// Puts a frame into the queue of its hop.
     fn put(&mut self, travel: Travel, names: &mut u32) -> Result<(Nanos, Nanos), String> {
-        let queue = self.senders[travel.flow].route[travel.hop];
+        let (queue, link) = self.link_of(&travel);
         let name = *names;
         *names += 1;
         let put = self.wires.send(queue, name, travel.bytes)?;
-        let (_, after) = put;
+        let (before, after) = put;
         let lag = travel.lag + travel.due.map_or(0, |due| after.saturating_sub(due));
-        let most = &mut self.watched.lags[self.network.sender_of[queue]];
-        *most = lag.max(*most);
+        self.lags[link] = self.lags[link].max(lag);
+        self.waiting[link].insert((before, name));
         self.under_way.insert(name, Travel { put, lag, ..travel });
         Ok(put)
     }
 
-    /// A link let go of a frame: notes its stay, which runs from just before the frame was put into the queue, and when it
-    /// comes to its next one.
+    /// A link let go of a frame: notes its stay, which runs from just before the frame was put into the queue.
     fn dequeued(&mut self, frame: Dequeued) -> Result<(), String> {
         let Some(travel) = self.under_way.remove(&frame.name) else {
             return Err("a frame came out of a queue twice".to_string());
         };
-        let route = &self.senders[travel.flow].route;
-        let (queue, hops) = (route[travel.hop], route.len());
-        let link = self.network.sender_of[queue];
+        let (queue, link) = self.link_of(&travel);
         let (before, after) = travel.put;
         let call = after.saturating_sub(before);
-        let sent = self.links[link].dequeued(before, frame.at, travel.bytes);
-        self.watched.stays.push(Stay {
+        let oldest = self.waiting[link].first().map_or(before, |(came, _)| *came);
+        self.waiting[link].remove(&(before, frame.name));
+        let sent = self.links[link].dequeued(oldest, frame.at, travel.bytes);
+        let limit = &self.way.limits[queue];
+        let stay = Stay {
             queue,
             flow: travel.flow,
             number: travel.number,
             length: sent.end.saturating_sub(before),
-            idle: sent.idle + call,
-            doubt: sent.idle.max(sent.lost) + call,
+            added: limit.added(sent.lost + call, self.lags[link]),
+            late: sent.late + call,
             early: sent.early,
-        });
+        };
+        self.stays.push(stay);
+        let above = stay.length.saturating_sub(limit.threshold);
+        let lag = travel.lag + above.min(stay.added);
+        self.hand_on(Travel { lag, ..travel }, link, sent.end);
+        Ok(())
+    }
+
+    /// Notes when a frame that has left a link comes to its next queue, if it has one.
+    fn hand_on(&mut self, travel: Travel, link: usize, left: Nanos) {
         let hop = travel.hop + 1;
-        if hop < hops {
-            let cable = self.scale.nanos(self.network.senders[link].fixed_delay);
-            let reached = sent.end + cable;
+        if hop < self.senders[travel.flow].route.len() {
+            let cable = self.way.network.senders[link].fixed_delay;
+            let reached = left + self.way.scale.nanos(cable);
             let due = Some(reached);
             let forward = Due::Forward(Travel { hop, due, ..travel });
             self.note(reached, Turn::Below, forward);
         }
-        Ok(())
     }
 }
 

@@ -36,6 +36,16 @@ impl Scale {
     }
 }
 
+/// Where no slow motion is asked for: links come down to this, Mbit/s, and it is at least that.
+const USUAL_SPEED: u64 = 10;
+const USUAL_SLOW: u64 = 100;
+
+/// The slow motion for these speeds where none is asked for.
+pub fn usual(speeds: &[u64]) -> u64 {
+    let fastest = speeds.iter().max().copied().unwrap_or(1);
+    fastest.div_ceil(USUAL_SPEED).max(USUAL_SLOW)
+}
+
 /// The least slow motion, from `least` on, that gives every one of these speeds a whole number of bytes per second.
 pub fn whole_for(speeds: &[u64], least: u64) -> Option<Scale> {
     let whole = |scale: &Scale| {

@@ -1,12 +1,12 @@
 //! The noise of the idle links, then round after round: what was seen of each queue.
 
-use super::noise;
+use super::noise::{self, Probe};
 use super::plan::Plan;
 use super::roads::Road;
-use super::run::{round, Sender, Wires};
+use super::run::{round, Sender, Way, Wires};
 use super::scale::{Nanos, Scale};
 use super::source::Source;
-use super::verdict::{Allowance, Seen};
+use super::verdict::{Limit, Seen};
 use crate::traffic::hall::Hall;
 use crate::traffic::network::Network;
 
@@ -29,47 +29,64 @@ pub struct Trial<'a> {
 /// The machine needs a while before the first source sends.
 const SOON: Nanos = 5_000_000;
 
+const NO_LIMIT: Limit = Limit {
+    threshold: 0,
+    early: 0,
+    noise: 0,
+    speed: 1,
+    residual: 1,
+};
+
+/// What a trial showed, by queue.
+pub struct Found {
+    pub limits: Vec<Limit>,
+    pub seen: Vec<Seen>,
+}
+
 impl Trial<'_> {
-    /// What was seen of each queue; `begin` is told each plan before its round.
+    /// Measures the noise, then sends round after round; `begin` is told which.
     pub fn run<W: Wires>(
         &self,
         wires: &mut W,
         plans: &[Plan],
         mut begin: impl FnMut(usize),
-    ) -> Result<Vec<Seen>, String> {
+    ) -> Result<Found, String> {
         let mut names = 0;
-        let mut seen = self.idle(wires, &mut names)?;
+        let limits = self.limits(wires, &mut names)?;
+        let mut seen = vec![Seen::default(); limits.len()];
         for (index, plan) in plans.iter().enumerate() {
             begin(index);
             let senders = self.senders(plan, wires.now() + SOON);
-            let watched = round(wires, self.network, self.scale, senders, &mut names)?;
-            for stay in &watched.stays {
-                let threshold = self.scale.nanos(self.hall.queues[stay.queue].threshold);
-                let lag = watched.lags[self.network.sender_of[stay.queue]];
-                seen[stay.queue].note(stay, threshold, lag);
+            for stay in round(wires, self.way(&limits), senders, &mut names)? {
+                seen[stay.queue].note(&stay, limits[stay.queue].threshold);
             }
         }
-        Ok(seen)
+        Ok(Found { limits, seen })
     }
 
-    /// Each queue with what the machine may add to its stays, and no stay yet.
-    fn idle<W: Wires>(&self, wires: &mut W, names: &mut u32) -> Result<Vec<Seen>, String> {
-        let probes: Vec<_> = self
-            .roads
-            .iter()
-            .map(|road| road.probe(self.hall))
-            .collect();
-        let noise = noise::measure(wires, self.network, self.scale, &probes, names)?;
-        let mut seen = vec![Seen::default(); self.hall.queues.len()];
-        for road in self.roads {
-            for queue in road.carrying(self.hall) {
-                seen[queue].allowance = Allowance {
-                    noise: noise[self.network.sender_of[queue]],
-                    early: self.scale.nanos(road.early(self.hall, queue)),
-                };
-            }
+    fn way<'a>(&'a self, limits: &'a [Limit]) -> Way<'a> {
+        Way {
+            network: self.network,
+            scale: self.scale,
+            limits,
         }
-        Ok(seen)
+    }
+
+    /// What stays are held against, with the noise of the idle links.
+    fn limits<W: Wires>(&self, wires: &mut W, names: &mut u32) -> Result<Vec<Limit>, String> {
+        // A queue of a link that no flow crosses has no stay.
+        let mut limits = vec![NO_LIMIT; self.hall.queues.len()];
+        for road in self.roads {
+            let of_road = road.limits(self.hall, self.scale);
+            limits[road.queues.clone()].copy_from_slice(&of_road);
+        }
+        let probes = self.roads.iter().map(|road| road.probe(self.hall));
+        let probes: Vec<Probe> = probes.collect();
+        let noise = noise::measure(wires, self.way(&limits), &probes, names)?;
+        for (queue, limit) in limits.iter_mut().enumerate() {
+            limit.noise = noise[self.network.sender_of[queue]];
+        }
+        Ok(limits)
     }
 
     fn senders(&self, plan: &Plan, now: Nanos) -> Vec<Sender> {

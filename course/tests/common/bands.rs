@@ -1,10 +1,14 @@
 //! In the kernel's place: links with a token bucket filter over three bands, by a clock of their own.
 
+use course::folder::Folder;
 use course::traffic::hall::Hall;
+use course::traffic::held;
 use course::traffic::network::Network;
-use course::wire::roads::Road;
+use course::wire::plan::plans;
+use course::wire::roads::{roads, Road};
 use course::wire::run::{Dequeued, Wires};
 use course::wire::scale::{Nanos, Scale};
+use course::wire::trial::{Break, Found, Trial};
 use halls::rng::Rng;
 use std::collections::VecDeque;
 
@@ -176,4 +180,31 @@ impl Wires for Bands {
         self.out = later;
         Ok(came)
     }
+}
+
+pub const SCALE: Scale = Scale { slow: 100 };
+
+/// The hall of a folder, with the flows held after its orders.
+pub fn hall_of(path: &str) -> Hall {
+    held(&Folder::read(path).ok().unwrap()).ok().unwrap()
+}
+
+/// What a trial shows on such bands.
+pub fn tried(
+    hall: &Hall,
+    faults: Faults,
+    seed: u64,
+    broken: Option<Break>,
+) -> Result<Found, String> {
+    let network = Network::new(&hall.queues, &hall.flows);
+    let roads = roads(hall);
+    let trial = Trial {
+        hall,
+        network: &network,
+        roads: &roads,
+        scale: SCALE,
+        broken,
+    };
+    let mut bands = Bands::new(hall, &network, &roads, SCALE).with(faults, seed);
+    trial.run(&mut bands, &plans(hall, &network, SCALE), |_| ())
 }

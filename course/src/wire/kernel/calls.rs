@@ -24,6 +24,8 @@ const SO_SNDBUFFORCE: c_int = 32;
 const SO_RCVBUF: c_int = 8;
 const SO_RCVBUFFORCE: c_int = 33;
 const POLLIN: c_short = 1;
+/// What a call says where a queue has no room (ENOBUFS).
+pub const NO_ROOM: c_int = 105;
 
 #[repr(C)]
 #[derive(Clone, Copy, Default)]

@@ -10,12 +10,14 @@ use crate::folder::why;
 use crate::traffic::hall::Hall;
 use calls::{Socket, START};
 use namespace::{ends, Programs, OVERHEAD};
-use std::io::ErrorKind;
+use std::io::{Error, ErrorKind};
 
 /// The priority by which a frame comes into the band of its level (tc-prio(8), the default priomap): interactive, best effort,
 /// bulk.
 const PRIORITIES: [i32; MOST_LEVELS as usize] = [6, 0, 2];
 
+/// Frames that a band has room for beside those that conforming sources put there: the machine may be slow.
+const BESIDE: u64 = 1000;
 /// Bytes that a socket may keep, where the system allows so many.
 const ROOM: i32 = 32_000_000;
 
@@ -33,16 +35,19 @@ pub struct Kernel {
     clock: Clock,
 }
 
-fn words(what: &str) -> impl Fn(std::io::Error) -> String + '_ {
+fn words(what: &str) -> impl Fn(Error) -> String + '_ {
     move |error| format!("{what}: {}", why(&error))
 }
 
 impl Kernel {
     /// Enters a network of its own with these links; what the machine lacks, in words.
-    pub fn build(hall: &Hall, roads: &[Road], scale: Scale) -> Result<Kernel, String> {
+    /// `beyond` is how many frames a source may send beyond what its bucket holds.
+    pub fn build(hall: &Hall, roads: &[Road], scale: Scale, beyond: u64) -> Result<Kernel, String> {
         let programs = Programs::find()?;
-        namespace::enter()?;
-        namespace::build(&programs, roads, scale)?;
+        let way_out = namespace::way_out();
+        let room = |road: &Road| BESIDE + beyond + road.most_frames(hall);
+        let made = namespace::enter().and_then(|()| programs.build(roads, scale, room));
+        made.map_err(|why| why + way_out)?;
         calls::wake_promptly();
         let no_socket = words("a packet socket can't be opened");
         let mut queues: Vec<Option<Socket>> = hall.queues.iter().map(|_| None).collect();
@@ -64,6 +69,20 @@ impl Kernel {
             links,
             clock: Clock::read(),
         })
+    }
+}
+
+/// Why a frame can't be put into its queue.
+fn unsent(error: &Error) -> String {
+    match error.raw_os_error() {
+        Some(calls::NO_ROOM) => {
+            "a queue of the kernel is full: this machine can't keep up; slower motion helps".to_string()
+        }
+        _ if error.kind() == ErrorKind::WouldBlock => {
+            "the system keeps no more frames of a socket; a greater net.core.wmem_max, or root, gives it room"
+                .to_string()
+        }
+        _ => format!("a frame can't be sent: {}", why(error)),
     }
 }
 
@@ -95,13 +114,7 @@ impl Wires for Kernel {
         };
         let frame = frame(name, bytes);
         let before = calls::now();
-        socket.send(&frame).map_err(|error| match error.kind() {
-            ErrorKind::WouldBlock => {
-                "the system keeps no more frames of a socket; a greater net.core.wmem_max, or root, gives it room"
-                    .to_string()
-            }
-            _ => format!("a frame can't be sent: {}", why(&error)),
-        })?;
+        socket.send(&frame).map_err(|error| unsent(&error))?;
         Ok((before, calls::now()))
     }
 

@@ -15,8 +15,6 @@ pub const OVERHEAD: u64 = 24;
 
 /// More than any frame.
 const MTU: u64 = 2000;
-/// Frames to a band, far more than a bucket holds.
-const BAND: u64 = 10_000;
 
 /// The end that sends, and the end that receives.
 pub fn ends(road: &Road) -> [String; 2] {
@@ -55,8 +53,8 @@ impl Programs {
     }
 }
 
-/// What to do about a right that is missing.
-fn way_out() -> &'static str {
+/// What to do about a right that is missing; to be asked for before the namespace is entered, where everybody is root.
+pub fn way_out() -> &'static str {
     match calls::owner() {
         (0, _) => "",
         _ => "; root may be allowed to",
@@ -70,8 +68,8 @@ pub fn enter() -> Result<(), String> {
         return Ok(());
     }
     let refused = |what: &str, error: &Error| {
-        let (why, way_out) = (why(error), way_out());
-        format!("the system doesn't allow a network namespace here ({what}: {why}){way_out}")
+        let why = why(error);
+        format!("the system doesn't allow a network namespace here ({what}: {why})")
     };
     calls::leave_network(true).map_err(|error| refused("unshare", &error))?;
     let maps = [
@@ -85,21 +83,28 @@ pub fn enter() -> Result<(), String> {
     Ok(())
 }
 
-/// Makes the links.
-pub fn build(programs: &Programs, roads: &[Road], scale: Scale) -> Result<(), String> {
-    let pairs: String = roads.iter().map(pair).collect();
-    let queues: Option<String> = roads.iter().map(|road| queues(road, scale)).collect();
-    batch(&programs.ip, &pairs)?;
-    let queues = queues.ok_or("a link's speed is no whole number of bytes per second")?;
-    batch(&programs.tc, &queues)
+impl Programs {
+    /// Makes the links, their bands with room for so many frames each.
+    pub fn build(
+        &self,
+        roads: &[Road],
+        scale: Scale,
+        room: impl Fn(&Road) -> u64,
+    ) -> Result<(), String> {
+        let pairs: String = roads.iter().map(|road| pair(road, room(road))).collect();
+        let queues: Option<String> = roads.iter().map(|road| queues(road, scale)).collect();
+        batch(&self.ip, &pairs)?;
+        let queues = queues.ok_or("a link's speed is no whole number of bytes per second")?;
+        batch(&self.tc, &queues)
+    }
 }
 
-/// A veth pair on which the system itself sends nothing.
-fn pair(road: &Road) -> String {
+/// A veth pair on which the system itself sends nothing. pfifo_fast gives each band room for `txqueuelen` frames.
+fn pair(road: &Road, room: u64) -> String {
     let [sends, receives] = ends(road);
     let quiet = "arp off multicast off addrgenmode none";
     format!(
-        "link add name {sends} mtu {MTU} txqueuelen {BAND} type veth peer name {receives} mtu {MTU}\n\
+        "link add name {sends} mtu {MTU} txqueuelen {room} type veth peer name {receives} mtu {MTU}\n\
          link set dev {sends} {quiet}\n\
          link set dev {receives} {quiet}\n\
          link set dev {sends} up\n\
@@ -136,9 +141,10 @@ fn batch(program: &Path, lines: &str) -> Result<(), String> {
     match output.status.success() {
         true => Ok(()),
         false => Err(format!(
-            "{name} can't set up the links: {}{}",
-            String::from_utf8_lossy(&output.stderr).trim(),
-            way_out()
+            "{name} can't set up the links: {}",
+            String::from_utf8_lossy(&output.stderr)
+                .trim()
+                .trim_end_matches('.')
         )),
     }
 }
