@@ -31,7 +31,7 @@ use report::Report;
 use roads::{roads, Road, MOST_LEVELS};
 use scale::{usual, whole_for, Nanos, Scale, MOST_SLOW};
 use std::io::{IsTerminal, Write};
-use trial::{Break, Trial};
+use trial::{Break, Found, Trial};
 use verdict::timing;
 
 pub const COMMAND: Command = Command {
@@ -75,28 +75,37 @@ fn wire(arguments: &Arguments) -> Result<Outcome, Outcome> {
         scale,
         broken,
     };
-    let beyond = broken.map_or(0, |broken| broken.count);
-    let mut kernel = Kernel::build(&hall, &roads, scale, beyond).map_err(unable)?;
-    let progress = Progress::new(&trial, &plans);
-    let found = trial.run(&mut kernel, &plans, |index| progress.show(index));
+    let found = send(&trial, &plans)?;
+    let outcome = Outcome::fine(printed(&trial, &plans, &found));
+    let status = timing(&found.seen).status();
+    Ok(outcome.with_status(status).with_remark(remark()))
+}
+
+/// Sends the frames over the kernel's queues.
+fn send(trial: &Trial, plans: &[Plan]) -> Result<Found, Outcome> {
+    let beyond = trial.broken.map_or(0, |broken| broken.count);
+    let kernel = Kernel::build(trial.hall, trial.roads, trial.scale, beyond);
+    let mut kernel = kernel.map_err(unable)?;
+    let progress = Progress::new(trial, plans);
+    let found = trial.run(&mut kernel, plans, |index| progress.show(index));
     progress.end();
-    let found = found.map_err(unable)?;
+    found.map_err(unable)
+}
+
+fn printed(trial: &Trial, plans: &[Plan], found: &Found) -> String {
     let report = Report {
-        hall: &hall,
-        scale,
-        found: &found,
+        hall: trial.hall,
+        scale: trial.scale,
+        found,
     };
-    let printed = format!(
+    format!(
         "{}\n{}\n\n{}\n{}{}\n",
-        summary(&trial, plans.len()),
-        conforming(&trial),
+        summary(trial, plans.len()),
+        conforming(trial),
         report.table(),
         report.remarks(),
         report.verdict()
-    );
-    let status = timing(&found.seen).status();
-    let outcome = Outcome::fine(printed).with_status(status);
-    Ok(outcome.with_remark(remark()))
+    )
 }
 
 /// Whether the held flows can be sent at all.

@@ -6,6 +6,7 @@ use super::trial::Found;
 use super::verdict::{timing, Timing};
 use crate::bounds::aligned;
 use crate::numbers::{commas, counted, per_cent};
+use crate::traffic::figures::greater_share;
 use crate::traffic::hall::Hall;
 
 /// Each with its unit.
@@ -121,14 +122,12 @@ impl Report<'_> {
         let all = &self.found.seen;
         let worst = all.iter().filter(|seen| seen.timing() == timing(all));
         let longest = worst.filter_map(|seen| seen.longest.as_ref());
-        let threshold = |stay: &Stay| u128::from(self.hall.queues[stay.queue].threshold);
+        let threshold = |stay: &Stay| self.hall.queues[stay.queue].threshold;
         longest.reduce(|best, stay| {
             let (of_best, of_stay) = (threshold(best), threshold(stay));
-            let more = u128::from(stay.length) * of_best > u128::from(best.length) * of_stay;
-            if more {
-                stay
-            } else {
-                best
+            match greater_share(stay.length, of_stay, best.length, of_best) {
+                true => stay,
+                false => best,
             }
         })
     }

@@ -40,8 +40,8 @@ fn words(what: &str) -> impl Fn(Error) -> String + '_ {
 }
 
 impl Kernel {
-    /// Enters a network of its own with these links; what the machine lacks, in words.
-    /// `beyond` is how many frames a source may send beyond what its bucket holds.
+    /// Enters a network of its own with these links; what the machine lacks, in words. A source may send `beyond` frames more
+    /// than its bucket holds.
     pub fn build(hall: &Hall, roads: &[Road], scale: Scale, beyond: u64) -> Result<Kernel, String> {
         let programs = Programs::find()?;
         let way_out = namespace::way_out();
