@@ -7,7 +7,7 @@ use common::{example, Temporary};
 use course::traffic::network::Network;
 use course::wire::plan::{plans, Plan, Turn};
 use course::wire::roads::roads;
-use course::wire::run::{round, Dequeued, Sender, Way, Wires};
+use course::wire::run::{round, Dequeued, Sender, Stay, Way, Wires};
 use course::wire::scale::{Nanos, Scale};
 use course::wire::source::Source;
 use course::wire::trial::Trial;
@@ -227,4 +227,65 @@ fn time_is_lost_though_another_frame_goes_first() {
     // Flow 7 leaves level 2 99,000 of 100,000 kbit/s: 6,641 by 0.99.
     let added: Vec<u64> = stays.iter().map(|stay| stay.added).collect();
     assert_eq!(added, [0, 6_641, 6_709]);
+}
+
+/// Nine links with the largest frame at level 1, flows of level 2 whose threshold is the very bound, and smallest frames at level
+/// 3; the flows of level 2 meet at link 10.
+fn merging() -> Temporary {
+    let row = |link: u64, from: u64, to: u64, speed: u64, level: u64, threshold: u64| {
+        format!("{link:4}{from:4}{to:4}{speed:6}{level:2}{threshold:7}    90000\n")
+    };
+    let head = |number: u64, rate: u64, burst: u64, frame: u64, hops: u64| {
+        format!(" 1{number:6}{rate:9}{burst:8}{frame:5}   20000{hops:3}")
+    };
+    let (mut table, mut orders) = (String::new(), String::new());
+    for link in 1..=9 {
+        for (level, threshold) in [(1, 400), (2, 144), (3, 9_000)] {
+            table += &row(link, 10 + link, 2, 100, level, threshold);
+        }
+        orders += &format!("{}{link:4} 3\n", head(300 + link, 100, 2_520, 84, 1));
+        orders += &format!("{}{link:4} 1\n", head(100 + link, 1, 1_542, 1_542, 1));
+        orders += &format!("{}{link:4} 2  10 1\n", head(200 + link, 10_000, 84, 84, 2));
+    }
+    table += &row(10, 2, 3, 95, 1, 210);
+    Temporary::with(table.as_bytes(), orders.as_bytes())
+}
+
+#[test]
+fn a_later_link_counts_what_goes_early_before_it() {
+    let folder = merging();
+    let hall = hall_of(&folder.word());
+    assert_eq!(hall.flows.len(), 27);
+    let network = Network::new(&hall.queues, &hall.flows);
+    let roads = roads(&hall);
+    let limits: Vec<Limit> = roads
+        .iter()
+        .flat_map(|road| road.limits(&hall, SCALE))
+        .collect();
+    let mut bands = Bands::new(&hall, &network, &roads, SCALE);
+    let now = bands.now();
+    let sender = |index: usize| Sender {
+        source: Source::new(&hall.flows[index], SCALE, now, now + SCALE.nanos(2_700)),
+        route: network.routes[index].clone(),
+        turn: match hall.flows[index].hops[0].level {
+            3 => Turn::Below,
+            1 => Turn::Above,
+            _ => Turn::Own,
+        },
+    };
+    let way = Way {
+        network: &network,
+        scale: SCALE,
+        limits: &limits,
+    };
+    let senders = (0..hall.flows.len()).map(sender).collect();
+    let stays = round(&mut bands, way, senders, &mut 0).unwrap();
+    let last = hall.queues.len() - 1;
+    assert_eq!(limits[last].early, 0);
+    let at_last = stays.iter().filter(|stay| stay.queue == last);
+    let longest = at_last.max_by_key(|stay| stay.length).unwrap();
+    // 286.8 of 210 µs, with nothing lost: all of it is what links 1 to 9 let go of early.
+    assert!(longest.length > SCALE.nanos(280), "{longest:?}");
+    let late = |stay: &&Stay| stay.length > limits[stay.queue].threshold + stay.added;
+    assert_eq!(stays.iter().find(late), None);
 }
