@@ -195,8 +195,8 @@ def said(code, slot=0, link=0, level=0):
 
 
 # The registry's arrays, and where a number stands in them, links, queues and slots counted from 0.
-TABLE, SLOTS, POOL, SUMS, BITS = range(5)
-LINK_NUMBERS, QUEUE_NUMBERS, SLOT_COUNT = 6, 2, 256
+TABLE, BITS, STORE, FIGURES = range(4)
+LINK_NUMBERS, QUEUE_NUMBERS, SLOT_NUMBERS, QUEUE_FIGURES, SLOT_COUNT = 6, 2, 7, 3, 256
 COUNT = 64 * LINK_NUMBERS + 512 * QUEUE_NUMBERS
 
 
@@ -218,6 +218,16 @@ def queue(e, k):
 def slot(i, k):
     """Slot i: flow number (k = 0), rate, burst, largest frame, deadline, hop count, start of its path (k = 6)."""
     return SLOT_COUNT * k + i
+
+
+def figure(e, k):
+    """Queue e: rate sum (k = 0), burst sum, largest frame."""
+    return QUEUE_FIGURES * e + k
+
+
+def entry(p):
+    """Hop entry p, behind the numbers of all slots."""
+    return SLOT_COUNT * SLOT_NUMBERS + p
 
 
 def queues(*pairs, best=None):
@@ -273,8 +283,8 @@ def damaged(*changes):
 
 def hop(k, burst):
     """The numbers by which flow 7 of the chain gets a k-th hop, its figures with it."""
-    return [(SLOTS, slot(0, 5), k, k - 1), (POOL, k - 1, 8 * k - 8, 0)] + [
-        (SUMS, 24 * k - 24 + i, n, 0) for i, n in enumerate([1, burst, 1542])]
+    return [(STORE, slot(0, 5), k, k - 1), (STORE, entry(k - 1), 8 * k - 8, 0)] + [
+        (FIGURES, figure(8 * k - 8, i), n, 0) for i, n in enumerate([1, burst, 1542])]
 
 
 def three(buffer, fixed=0):
@@ -356,7 +366,7 @@ registries = [
         (reg(hops=2, path=[(1, 1), (2, 1)], deadline=22000), said(0, 1)),
     ]),
     (three(1649), [(through, said(0, 1))]                        # 1,633 after two thresholds of 371, and 16 (15.42)
-        + damaged((SUMS, 25, 1589, 1588), (SUMS, 49, 1635, 1633))        # figures by whole thresholds
+        + damaged((FIGURES, figure(8, 1), 1589, 1588), (FIGURES, figure(16, 1), 1635, 1633))    # figures by whole thresholds
         + damaged((TABLE, link(0, 2), 200, 100))                 # another speed of the first link: 1,634 at the third
         + damaged((TABLE, queue(0, 0), 6, 371))),                # a threshold below the shortest sending time
     (three(1648), [(through, said(23, 0, 3, 1))]),
@@ -371,9 +381,9 @@ registries = [
         (reg(number=7, rate=1000, burst=168, frame=100, deadline=12, hops=2, path=[(1, 1), (2, 1)]), said(0, 2)),
         (gone(1), said(0, 1)),
         (changed(7, 4000, 168), said(0, 2)),                     # its own place, though place 1 is free
-        *damaged((SUMS, 0, 1000, 4000)),                         # the rate before
-        *damaged((SUMS, 25, 169, 170)),                          # the burst before at the later hop
-        *damaged((SLOTS, slot(1, 1), 1000, 4000)),
+        *damaged((FIGURES, figure(0, 0), 1000, 4000)),           # the rate before
+        *damaged((FIGURES, figure(8, 1), 169, 170)),             # the burst before at the later hop
+        *damaged((STORE, slot(1, 1), 1000, 4000)),
         (changed(7, 5000, 168), said(23, 0, 2, 1)),              # 171 at the second link, and 2
         (changed(7, 4000, 237), said(22, 0, 1, 1)),              # 8000 x (100 + 237) / 448000 is 7
         (changed(7, 448000, 168), said(21, link=1)),
@@ -388,7 +398,7 @@ registries = [
         ("r" + change(7, 4000, 168), said(11)),
         (change(7, 4000, 168), said(11)),
         (changed(7, 1000, 100), said(0, 2)),
-        *damaged((SUMS, 25, 102, 101)),
+        *damaged((FIGURES, figure(8, 1), 102, 101)),
         (gone(7), said(0, 2)),
         (changed(7, 4000, 168), said(13)),
         ("c" + change(7, 4000, 168)[:-1], said(10)),             # the last line isn't ended
@@ -398,9 +408,9 @@ registries = [
         (on(100, 0, 5), said(31)),
         (on(100, 0, 4), said(0, 86)),
         (on(101, 0, 1), said(31)),
-        put(SLOTS, slot(85, 5), 5),                              # counts that pass the pool
+        put(STORE, slot(85, 5), 5),                              # counts that pass the pool
         (on(101, 0, 1), said(42)),
-        put(SLOTS, slot(85, 5), 4),
+        put(STORE, slot(85, 5), 4),
         (on(101, 0, 1), said(31)),
         (on(200, 0, 12), said(31)),
         (gone(40), said(0, 40)),                                 # free at once
@@ -438,10 +448,10 @@ registries = [
         (reg(number=3, deadline=1000, burst=3007, frame=84), said(0, 1)),        # 8000 x (84 + 84 + 3007) / 100000 is 254
     ]),
     (chain(3, 11000), [(reg(rate=1, deadline=132000, hops=2, path=[(1, 1), (2, 1)]), said(0, 1))]
-        + damaged((POOL, 1, 16, 8), *((SUMS, 24 + i, 0, n) for i, n in enumerate([1, 1544, 1542])),
-                  *((SUMS, 48 + i, n, 0) for i, n in enumerate([1, 1544, 1542])))        # 15, the figures right
-        + damaged((POOL, 1, 0, 8), *((SUMS, 24 + i, 0, n) for i, n in enumerate([1, 1544, 1542])),
-                  (SUMS, 0, 2, 1), (SUMS, 1, 3086, 1542))        # 16, the figures right
+        + damaged((STORE, entry(1), 16, 8), *((FIGURES, figure(8, i), 0, n) for i, n in enumerate([1, 1544, 1542])),
+                  *((FIGURES, figure(16, i), n, 0) for i, n in enumerate([1, 1544, 1542])))     # 15, the figures right
+        + damaged((STORE, entry(1), 0, 8), *((FIGURES, figure(8, i), 0, n) for i, n in enumerate([1, 1544, 1542])),
+                  (FIGURES, figure(0, 0), 2, 1), (FIGURES, figure(0, 1), 3086, 1542))   # 16, the figures right
         + [(gone(7), said(0, 1)), (gone(7), said(13))]),
     (chain(1, 100000), [(along(k, 1), said(0, k)) for k in range(1, 257)] + [(along(257, 1), said(30))]
         + [call for k in (256, 1, 64, 65, 128, 129, 192, 193) for call in [       # the last place, and both sides of each word's end
@@ -453,25 +463,25 @@ registries = [
         + [put(*change[:3]) for change in hop(12, 1558)] + [(reg(), said(12))]   # a twelfth hop: nothing wrong
         + damaged(*hop(13, 1559))),                              # a thirteenth, all else right
     (exact, both
-        + damaged((SLOTS, slot(0, 2), 1541, 1542), (SUMS, 1, 1541, 1542))        # 17, the figures right
-        + damaged((POOL, 0, 8, 0), *((SUMS, i, 0, n) for i, n in enumerate([1000, 1542, 1542])),
-                  *((SUMS, 24 + i, n, 0) for i, n in enumerate([1000, 1542, 1542])))     # 14, the figures right
-        + damaged((SLOTS, slot(0, 5), 13, 1))                    # a hop count of 13
-        + damaged((SLOTS, slot(0, 5), 0, 1))                     # a held flow without hops
-        + damaged((SLOTS, slot(1, 6), 0, 1))                     # a path that starts elsewhere
+        + damaged((STORE, slot(0, 2), 1541, 1542), (FIGURES, figure(0, 1), 1541, 1542))  # 17, the figures right
+        + damaged((STORE, entry(0), 8, 0), *((FIGURES, figure(0, i), 0, n) for i, n in enumerate([1000, 1542, 1542])),
+                  *((FIGURES, figure(8, i), n, 0) for i, n in enumerate([1000, 1542, 1542])))   # 14, the figures right
+        + damaged((STORE, slot(0, 5), 13, 1))                    # a hop count of 13
+        + damaged((STORE, slot(0, 5), 0, 1))                     # a held flow without hops
+        + damaged((STORE, slot(1, 6), 0, 1))                     # a path that starts elsewhere
         + damaged((BITS, 0, 0, 1))                               # a flow gone, its figures not
         + damaged((BITS, 2, 1, 0))                               # a slot held without a flow
         + damaged((BITS, 255, 1, 0))
-        + damaged((POOL, 0, 2, 0))                               # level 3: no such queue
-        + damaged((POOL, 0, 8, 0))                               # link 2
-        + damaged((POOL, 1, 999999999, 1))
-        + damaged((SUMS, 0, 1001, 1000))                         # a figure off by one
-        + damaged((SUMS, 1, 1541, 1542))
-        + damaged((SUMS, 5, 1541, 1542))
-        + damaged((SLOTS, slot(1, 0), 7, 8))                     # two flows of one number
-        + damaged((SLOTS, slot(1, 0), 0, 8))                     # flow number 0
-        + damaged((SLOTS, slot(0, 3), 1543, 1542))               # largest frame above burst
-        + damaged((SLOTS, slot(0, 4), 370, 1000))                # deadline below the threshold
+        + damaged((STORE, entry(0), 2, 0))                       # level 3: no such queue
+        + damaged((STORE, entry(0), 8, 0))                       # link 2
+        + damaged((STORE, entry(1), 999999999, 1))
+        + damaged((FIGURES, figure(0, 0), 1001, 1000))           # a figure off by one
+        + damaged((FIGURES, figure(0, 1), 1541, 1542))
+        + damaged((FIGURES, figure(1, 2), 1541, 1542))
+        + damaged((STORE, slot(1, 0), 7, 8))                     # two flows of one number
+        + damaged((STORE, slot(1, 0), 0, 8))                     # flow number 0
+        + damaged((STORE, slot(0, 3), 1543, 1542))               # largest frame above burst
+        + damaged((STORE, slot(0, 4), 370, 1000))                # deadline below the threshold
         + damaged((TABLE, link(0, 3), 0, 2))                     # number of levels
         + damaged((TABLE, link(0, 3), 9, 2))
         + damaged((TABLE, link(0, 0), 2, 1))                     # from equals to
@@ -482,15 +492,15 @@ registries = [
         + damaged((TABLE, COUNT, 0, 1))                          # paths without a link
         + damaged((TABLE, COUNT, 2, 1))                          # a link of no levels
         + damaged((TABLE, COUNT, 65, 1))
-        + [put(SLOTS, slot(2, k), 7) for k in range(7)] + [put(POOL, 2, 999), (reg(), said(12))]),   # a free slot, a free entry: nothing wrong
+        + [put(STORE, slot(2, k), 7) for k in range(7)] + [put(STORE, entry(2), 999), (reg(), said(12))]),      # a free slot, a free entry: nothing wrong
     (chain(1, 100000), [(along(k, 1), said(0, k)) for k in range(1, 5)] + [
         (gone(2), said(0, 2)),
-        *(put(SLOTS, slot(1, k), n) for k, n in enumerate([1, 0, 0, 1543, 0, 13, 999999999])),   # what stands in a free slot means nothing
+        *(put(STORE, slot(1, k), n) for k, n in enumerate([1, 0, 0, 1543, 0, 13, 999999999])),  # what stands in a free slot means nothing
         (along(1, 1), said(12)),
         (gone(2), said(13)),
         (along(9, 1), said(0, 2)),
         (gone(1), said(0, 1)),
-        *(put(SLOTS, slot(0, k), n) for k, n in enumerate([9, 0, 0, 0, 0, 12, 1])),
+        *(put(STORE, slot(0, k), n) for k, n in enumerate([9, 0, 0, 0, 0, 12, 1])),
         (gone(9), said(0, 2)),
         (along(9, 1), said(0, 1)),
         (gone(4), said(0, 4)),
@@ -513,19 +523,19 @@ registries = [
         written(0, 43),
         written(115, 0, HELD),
         written(300, 0, HELD),
-        put(SLOTS, slot(1, 0), 65535), put(SLOTS, slot(1, 5), 999999999),        # a free slot's numbers mean nothing
+        put(STORE, slot(1, 0), 65535), put(STORE, slot(1, 5), 999999999),       # a free slot's numbers mean nothing
         written(114, 0, HELD),
-        put(SUMS, 0, 4),                                         # a figure off by one
+        put(FIGURES, figure(0, 0), 4),                           # a figure off by one
         written(300, 42),
         written(113, 42),                                        # 42 before 43
         written(0, 42),
-        put(SUMS, 0, 3),
+        put(FIGURES, figure(0, 0), 3),
         put(BITS, 1, 1),                                         # a slot held without a flow
         written(300, 42),
         put(BITS, 1, 0),
-        put(SLOTS, slot(2, 6), 2),                               # a path that starts elsewhere
+        put(STORE, slot(2, 6), 2),                               # a path that starts elsewhere
         written(300, 42),
-        put(SLOTS, slot(2, 6), 3),
+        put(STORE, slot(2, 6), 3),
         written(114, 0, HELD),
         (gone(9), said(0, 3)),
         (gone(65535), said(0, 1)),

@@ -2,7 +2,7 @@
 //!
 //! 64 bits are enough. A burst at a hop is below 2^31 and 256 flows meet at a link at most, so burst
 //! sums and Y together stay below 2^40; a rate sum that passed 21 is at most 10,000,000. Then
-//! 8000 × (Y + burst sum) and rate sum × Y are below 2^64.
+//! 8000 × (Y + burst sum) and rate sum × Y are below 2^64, and so are Res × threshold and Res × buffer.
 
 use super::{Link, Queue, Slot, Table, LEVELS, QUEUES};
 use crate::answer::Answer;
@@ -104,12 +104,12 @@ fn check_link(
             continue;
         }
         let y = above + below + own.frame;
-        let delay = (8000 * (y + own.burst)).div_ceil(residual);
-        if u64::from(queue.threshold) < delay {
+        // ceil(a / b) is at most t exactly where a is at most t × b.
+        if u64::from(queue.threshold) * residual < 8000 * (y + own.burst) {
             return Err((22, number));
         }
-        let backlog = own.burst + (own.rate * y).div_ceil(residual);
-        if u64::from(queue.buffer) < backlog {
+        let room = u64::from(queue.buffer).checked_sub(own.burst);
+        if room.is_none_or(|room| room * residual < own.rate * y) {
             return Err((23, number));
         }
         residual -= own.rate;

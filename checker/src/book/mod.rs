@@ -1,8 +1,8 @@
 //! The proved registry's book in plain Rust: the same numbers and the same algorithms (a scan for a
 //! flow, a bit for each held slot, packed paths in slot order with their starts, figures kept up to
-//! date, two divisions a level and one a hop), written as one would without proofs. Nothing on the
-//! heap, and a scan whose result is at hand isn't made again. `Counted` in place of `Bits` makes it
-//! the book as it stood before W-203.
+//! date, one division a hop and none a level, links and flow numbers met marked by a bit), written as
+//! one would without proofs. Nothing on the heap, and a scan whose result is at hand isn't made again.
+//! `Counted` in place of `Bits` makes it the book as it stood before W-203.
 
 mod bits;
 mod check;

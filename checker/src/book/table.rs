@@ -183,13 +183,13 @@ impl Table {
                 entry % LEVELS as u32 + 1,
             ))
         };
-        for (at, &entry) in path.iter().enumerate() {
-            if path[..at]
-                .iter()
-                .any(|&before| link_of(before) == link_of(entry))
-            {
+        let mut met = 0_u64;
+        for &entry in path {
+            let link = 1 << link_of(entry);
+            if met & link != 0 {
                 return against(16, entry);
             }
+            met |= link;
         }
         for (&before, &entry) in path.iter().zip(path.iter().skip(1)) {
             if self.links[link_of(before)].to != self.links[link_of(entry)].from {

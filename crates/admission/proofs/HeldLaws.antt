@@ -1,8 +1,8 @@
 -- Held flows that are each right by themselves can be recounted.
 -- Assumes nothing.
 use Prim.Native.Nat.{ℕ, _≤_, _<_}
-use mathlib.Core.Path.{_≡_, refl, ap}
-use mathlib.Core.Bool.{Bool, true, false, _&&_}
+use mathlib.Core.Path.{_≡_, ap}
+use mathlib.Core.Bool.{true, _&&_}
 use mathlib.Core.List.{List, [], _∷_, _++_}
 use mathlib.Core.Option.{none}
 use native.Mathlib.Omega.{arith}
@@ -20,57 +20,52 @@ use Rattle.model.specs.Laws.All.{all-append, all-imp}
 use Rattle.model.specs.Laws.Finding.{none-applies, applies-none, is-none}
 use Rattle.model.specs.Laws.Consistent.{FlowRules}
 use Rattle.model.specs.Laws.Reached.{StateRules}
-use Rattle.queue_table.specs.View.{WellFormed, tableOf, AllQueues}
+use Rattle.queue_table.specs.View.{WellFormed, tableOf}
 use Rattle.path_check.proofs.EntryLaws.{all-queues}
 use Rattle.bit_words.specs.View.{isSet}
-use Rattle.flow_store.specs.View.{Store, slotsOf, flowAt, countAt, entriesIn, flowIn}
-use Rattle.flow_store.proofs.ViewLaws.{held-slot, count-free, entries-long, flow-long}
+use Rattle.flow_store.specs.View.{PackedStore, slotsOf, hopsAt, flowAt, entriesIn, flowIn}
+use Rattle.flow_store.specs.Laws.{held-slot}
+use Rattle.flow_store.proofs.ViewLaws.{path-inside, readable, entries-long, flow-long}
 use Rattle.flow_check.specs.View.{flowAlone}
 use Rattle.recount.specs.View.{Countable, OnQueues}
-use Rattle.admission.proofs.KeptLaws.{Ranges, ranges, hops-ranged}
+use Rattle.admission.proofs.ConsistentLaws.{Ranges, ranges, hops-ranged}
 
-module _ (table bits slots pool : List ℕ) (formed : WellFormed table) (store : Store bits slots pool)
+module _ (table bits store : List ℕ) (formed : WellFormed table) (stored : PackedStore bits store)
     (right : tableConsistent (tableOf table) ≡ true)
-    (alone : every (flowAlone (tableOf table) (heldFlows (slotsOf bits slots pool))) (heldFlows (slotsOf bits slots pool)) ≡ true) where
+    (alone : every (flowAlone (tableOf table) (heldFlows (slotsOf bits store))) (heldFlows (slotsOf bits store)) ≡ true) where
   abbrev t : Table
   t = tableOf table
 
   abbrev flow : ℕ → Flow
-  flow i = flowIn bits slots pool i
+  flow i = flowIn store i
 
   pub by-itself : (i : ℕ) → i < slotCount → isSet bits i ≡ true → (flowInRange (flow i) ≡ true) × (atHop 14 (noQueue t) [] (flow i .path) ≡ none)
   unfolding flowAlone lineFindings
   by-itself i lt held =
-      let found = held-slot bits slots i pool lt held in
-      let e = held-at (λ (f : Flow). flowAlone t (heldFlows (slotsOf bits slots pool)) f ≡ true) (slotsOf bits slots pool) i (every-all (flowAlone t (heldFlows (slotsOf bits slots pool))) (heldFlows (slotsOf bits slots pool)) alone) found in
-      let (e₁, causes) = and-both (flowInRange (flow i) && leb (withNumber (flow i .number) (heldFlows (slotsOf bits slots pool))) 1) _ e in
+      let found = held-slot bits store i lt held in
+      let e = held-at (λ (f : Flow). flowAlone t (heldFlows (slotsOf bits store)) f ≡ true) (slotsOf bits store) i (every-all (flowAlone t (heldFlows (slotsOf bits store))) (heldFlows (slotsOf bits store)) alone) found in
+      let (e₁, causes) = and-both (flowInRange (flow i) && leb (withNumber (flow i .number) (heldFlows (slotsOf bits store))) 1) _ e in
       let (range, number) = and-both (flowInRange (flow i)) _ e₁ in
       let passed = none-applies (lineFindings t (flow i) ++ deadlineFinding t (flow i) ∷ []) (is-none _ causes) in
       (range, passed .1 .0)
 
-  held-queues : (i : ℕ) → i < slotCount → isSet bits i ≡ true → AllQueues table (entriesIn bits slots pool i)
+  pub on-queues : OnQueues table bits store
   unfolding flowAt isNone
-  held-queues i lt held = all-queues table (entriesIn bits slots pool i) (ap isNone (by-itself i lt held .1))
+  on-queues i lt held = all-queues table (entriesIn store i) (ap isNone (by-itself i lt held .1))
 
-  pub on-queues : OnQueues table bits slots pool
-  on-queues i lt = go (isSet bits i) refl
-    where
-      go : (b : Bool) → isSet bits i ≡ b → AllQueues table (entriesIn bits slots pool i)
-      go true e = held-queues i lt e
-      go false e = rw (count-free bits slots i e) tt
-
-  pub countable : Countable table bits slots pool
+  pub countable : Countable table bits store
   unfolding flowAt
   countable =
       record {
-        store = store;
+        stored = readable bits store stored;
         each = λ i lt held.
             let range : Ranges (flow i) = ranges (flow i) (by-itself i lt held .0) in
-            let few : countAt bits slots i ≤ hopsMost = omega (arith, range .few, flow-long bits slots i pool lt store) in
+            let inside = path-inside bits store (stored .packed) i lt held in
+            let few : hopsAt store i ≤ hopsMost = omega (arith, range .few, flow-long store (stored .store-long) i inside) in
             record {
               few = few;
               share = (range .rate, range .burst, range .frame);
-              hops = hops-ranged table formed right (entriesIn bits slots pool i) (held-queues i lt held) (omega (arith, few, entries-long bits slots i pool lt store));
+              hops = hops-ranged table formed right (entriesIn store i) (on-queues i lt held) (omega (arith, few, entries-long store (stored .store-long) i inside));
             };
       }
 

@@ -1,5 +1,5 @@
 pub mod StepLaws
-pub mod KeptLaws
+pub mod ConsistentLaws
 pub mod HeldLaws
 pub mod ReadLaws
 pub mod ReleaseLaws

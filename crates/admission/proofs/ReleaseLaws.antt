@@ -10,7 +10,7 @@ use lib.ListN.{length, getD, set}
 use lib.Dec.{leb}
 use borrow.Author.Tests.{leb-true, leb-false, lt-ltb, le-ltb, eq-eqb, ne-eqb}
 use Rattle.model.specs.Words.{All, firstIndex}
-use Rattle.model.specs.Sizes.{queuesMost, hopsMost, slotCount}
+use Rattle.model.specs.Sizes.{queuesMost, slotCount}
 use Rattle.model.specs.Formula.{Aggregate}
 use Rattle.model.specs.QueueTable.{Table}
 use Rattle.model.specs.Orders.{Flow, release}
@@ -23,14 +23,14 @@ use Rattle.model.specs.Laws.Slot.{index-found, number-index, held-perm}
 use Rattle.model.specs.Laws.Reached.{StateRules, state-rules, rules-state, clear-keeps}
 use Rattle.queue_table.specs.View.{tableOf, hopAt}
 use Rattle.bit_words.specs.View.{isSet}
-use Rattle.flow_store.specs.View.{Store, slotsOf, slotOf, hopsAt, rateAt, shareAt, flowAt, entriesIn, flowIn}
-use Rattle.flow_store.proofs.ViewLaws.{length-slots, slot-at, held-slot, count-held}
+use Rattle.flow_store.specs.View.{PackedStore, slotsOf, slotOf, rateAt, shareAt, flowAt, entriesIn, flowIn}
+use Rattle.flow_store.specs.Laws.{length-slots, slot-at, held-slot}
 use Rattle.figures.specs.View.{Figures, FlowOf, PathCounted, Carried, Near, PathRemoved, figureAt, raised}
 use Rattle.queue_table.proofs.EntryLaws.{queue-low}
 use Rattle.recount.specs.View.{Ranged, OnQueues, FramesRaised}
 use Rattle.admission.specs.declared.Answer.the-variants.{Done}
-use Rattle.admission.specs.View.{stateOf, answerOf, Kept, Stepped}
-use Rattle.admission.proofs.KeptLaws.{ranges, filled}
+use Rattle.admission.specs.View.{stateOf, answerOf, ConsistentArrays, Stepped}
+use Rattle.admission.proofs.ConsistentLaws.{ranges, filled}
 use Rattle.admission.proofs.HeldLaws.{by-itself, on-queues, countable, kept-alone}
 
 -- A queue's figures that only lack their largest frame, once that is raised.
@@ -44,101 +44,98 @@ raised-right a b l = λ i. record { rate = l .rate i; burst = l .burst i; frame 
 left-right : {sure : Type 0} (a b : Aggregate) → sure → Near sure a b → a ≡ b
 left-right a b s l = λ i. record { rate = l .rate i; burst = l .burst i; frame = l .frame s i }
 
-module _ (table bits slots pool sums : List ℕ) (k : Kept table bits slots pool sums) where
+module _ (table bits store figures : List ℕ) (k : ConsistentArrays table bits store figures) where
   abbrev t : Table
   t = tableOf table
 
-  rules : StateRules (stateOf table bits slots pool)
-  rules = state-rules (stateOf table bits slots pool) (k .is-consistent)
+  rules : StateRules (stateOf table bits store)
+  rules = state-rules (stateOf table bits store) (k .is-consistent)
 
-  pub on : OnQueues table bits slots pool
-  on = on-queues table bits slots pool (k .formed) (k .store) (rules .table) (kept-alone (stateOf table bits slots pool) rules)
+  pub on : OnQueues table bits store
+  on = on-queues table bits store (k .formed) (k .stored) (rules .table) (kept-alone (stateOf table bits store) rules)
 
   module _ (slot : ℕ) (inside : slot < slotCount) (held : isSet bits slot ≡ true) where
     abbrev entries : List ℕ
-    entries = entriesIn bits slots pool slot
+    entries = entriesIn store slot
 
     abbrev flow : Flow
-    flow = flowIn bits slots pool slot
+    flow = flowIn store slot
 
     abbrev left : List Flow
-    left = heldFlows (set (slotsOf bits slots pool) slot none)
+    left = heldFlows (set (slotsOf bits store) slot none)
 
-    pub found : getD (slotsOf bits slots pool) slot none ≡ some flow
-    found = held-slot bits slots slot pool inside held
+    pub found : getD (slotsOf bits store) slot none ≡ some flow
+    found = held-slot bits store slot inside held
 
-    pub ranged : Ranged table bits slots pool slot
-    ranged = countable table bits slots pool (k .formed) (k .store) (rules .table) (kept-alone (stateOf table bits slots pool) rules) .each slot inside held
+    pub ranged : Ranged table store slot
+    ranged = countable table bits store (k .formed) (k .stored) (rules .table) (kept-alone (stateOf table bits store) rules) .each slot inside held
 
-    pub few : hopsAt slots slot ≤ hopsMost
-    few = omega (arith, ranged .few, count-held bits slots slot held)
-
-    some-rate : 1 ≤ rateAt slots slot
+    some-rate : 1 ≤ rateAt store slot
     unfolding flowAt
     some-rate =
-        ranges flow (by-itself table bits slots pool (k .formed) (k .store) (rules .table) (kept-alone (stateOf table bits slots pool) rules) slot inside held .0) .some-rate
+        ranges flow (by-itself table bits store (k .formed) (k .stored) (rules .table) (kept-alone (stateOf table bits store) rules) slot inside held .0) .some-rate
 
-    pub is : FlowOf (shareAt slots slot) entries flow
+    pub is : FlowOf (shareAt store slot) entries flow
     unfolding flowAt
     is = record { is = refl; path-is = refl }
 
-    pub with-flow : Figures t (flow ∷ left) sums
+    pub with-flow : Figures t (flow ∷ left) figures
     with-flow =
         record {
-          long = k .figures .long;
-          same = λ e lt. k .figures .same e lt ∙ aggregate-perm t (held-perm (slotsOf bits slots pool) slot found) (hopAt e);
+          long = k .exact .long;
+          same = λ e lt. k .exact .same e lt ∙ aggregate-perm t (held-perm (slotsOf bits store) slot found) (hopAt e);
         }
 
-    pub counted : PathCounted (shareAt slots slot) table entries sums
+    pub counted : PathCounted (shareAt store slot) table entries figures
     counted =
-        record { f = flow; fs = left; named = on slot inside; is = is; figures = with-flow }
+        record { f = flow; fs = left; named = on slot inside held; is = is; exact = with-flow }
 
     -- The slot is empty.
-    module _ {bits′ slots′ pool′ : List ℕ} (view : slotsOf bits′ slots′ pool′ ≡ set (slotsOf bits slots pool) slot none) (store : Store bits′ slots′ pool′) where
-      rules′ : StateRules (stateOf table bits′ slots′ pool′)
+    module _ {bits′ store′ : List ℕ} (view : slotsOf bits′ store′ ≡ set (slotsOf bits store) slot none) (stored : PackedStore bits′ store′) where
+      rules′ : StateRules (stateOf table bits′ store′)
       unfolding fill
       rules′ =
           subst (λ (l : List Slot). StateRules (record { table = t; slots = l })) (sym view)
-          (clear-keeps (stateOf table bits slots pool) slot rules)
+          (clear-keeps (stateOf table bits store) slot rules)
 
       carries : Carried t left
       carries =
           carried t left
           (subst (λ (l : List Slot). All (λ f. 1 ≤ f .rate) (heldFlows l)) view
-          (all-imp (heldFlows (slotsOf bits′ slots′ pool′)) (λ f r. ranges f (r .range) .some-rate) (rules′ .flows .flows)))
+          (all-imp (heldFlows (slotsOf bits′ store′)) (λ f r. ranges f (r .range) .some-rate) (rules′ .flows .flows)))
 
-      kept-again : {sums′ : List ℕ} → Figures t left sums′ → Kept table bits′ slots′ pool′ sums′
-      kept-again {sums′} figures =
+      kept-again : {figures′ : List ℕ} → Figures t left figures′ → ConsistentArrays table bits′ store′ figures′
+      kept-again {figures′} exact =
           record {
             formed = k .formed;
-            store = store;
-            is-consistent = rules-state (stateOf table bits′ slots′ pool′) rules′;
-            figures = subst (λ (l : List Slot). Figures t (heldFlows l) sums′) (sym view) figures;
+            stored = stored;
+            is-consistent = rules-state (stateOf table bits′ store′) rules′;
+            exact = subst (λ (l : List Slot). Figures t (heldFlows l) figures′) (sym view) exact;
           }
 
-      pub entries-low-left : (i : ℕ) → i < slotCount → All (λ e. e < queuesMost) (entriesIn bits′ slots′ pool′ i)
-      entries-low-left i lt =
-          all-imp (entriesIn bits′ slots′ pool′ i) (λ e q. queue-low table e q (k .formed .few))
-          (on-queues table bits′ slots′ pool′ (k .formed) store (rules′ .table) (kept-alone (stateOf table bits′ slots′ pool′) rules′) i lt)
+      pub entries-low-left : (i : ℕ) → i < slotCount → isSet bits′ i ≡ true → All (λ e. e < queuesMost) (entriesIn store′ i)
+      entries-low-left i lt set =
+          all-imp (entriesIn store′ i) (λ e q. queue-low table e q (k .formed .few))
+          (on-queues table bits′ store′ (k .formed) stored (rules′ .table) (kept-alone (stateOf table bits′ store′) rules′) i lt set)
 
-      module _ {again : Bool} {sums′ : List ℕ} (removed : PathRemoved (shareAt slots slot) table entries sums sums′ again) where
-        at-queue : (e : ℕ) → e < queuesMost → Near (again ≡ false) (figureAt sums′ e) (aggregateAt t left (hopAt e))
-        at-queue = removed .left flow left (on slot inside) is with-flow some-rate carries
+      module _ {again : Bool} {figures′ : List ℕ} (removed : PathRemoved (shareAt store slot) table entries figures figures′ again) where
+        at-queue : (e : ℕ) → e < queuesMost → Near (again ≡ false) (figureAt figures′ e) (aggregateAt t left (hopAt e))
+        at-queue = removed .left flow left (on slot inside held) is with-flow some-rate carries
 
-        pub kept-left : again ≡ false → Kept table bits′ slots′ pool′ sums′
+        pub kept-left : again ≡ false → ConsistentArrays table bits′ store′ figures′
         kept-left known =
             kept-again (record {
               long = removed .long;
               same = λ e lt. left-right _ _ known (at-queue e lt);
             })
 
-        pub kept-raised : {sums″ : List ℕ} → FramesRaised bits′ slots′ pool′ sums′ sums″ → Kept table bits′ slots′ pool′ sums″
+        pub kept-raised : {figures″ : List ℕ} → FramesRaised bits′ store′ figures′ figures″ → ConsistentArrays table bits′ store′ figures″
         kept-raised raise =
             kept-again (record {
               long = raise .long;
               same = λ e lt.
                   raise .same t e lt
-                  ∙ ap (λ (l : List Slot). raised (figureAt sums′ e) (aggregateAt t (heldFlows l) (hopAt e) .frame)) view
+                  ∙ ap (λ (l : List Slot). raised (figureAt figures′ e) (aggregateAt t (heldFlows l) (hopAt e) .frame)) view
                   ∙ raised-right _ _ (at-queue e lt);
             })
 
@@ -157,44 +154,44 @@ module _ (number : ℕ) where
   held-bit true f e = refl
   held-bit false f e = absurd (false≢true e)
 
-  module _ (bits slots pool : List ℕ) (slot : ℕ) (found : slot ≡ firstIndex (holds number) (slotsOf bits slots pool)) where
+  module _ (bits store : List ℕ) (slot : ℕ) (found : slot ≡ firstIndex (holds number) (slotsOf bits store)) where
     -- 13: no slot holds the number.
     pub not-held : (t : Table) → slot ≡ slotCount
-        → firstCause (findings (record { table = t; slots = slotsOf bits slots pool }) (release number)) ≡ some (record { code = 13; link = 0; level = 0 })
+        → firstCause (findings (record { table = t; slots = slotsOf bits store }) (release number)) ≡ some (record { code = 13; link = 0; level = 0 })
     unfolding findings firstCause whole
     not-held t none-holds =
-        let none-held : leb 1 (withNumber number (heldFlows (slotsOf bits slots pool))) ≡ false
-        = number-index number (slotsOf bits slots pool) ∙ le-ltb (firstIndex (holds number) (slotsOf bits slots pool)) (length (slotsOf bits slots pool)) (omega (arith, found, length-slots bits slots pool)) in
-        let zero-held : withNumber number (heldFlows (slotsOf bits slots pool)) ≡ 0 = omega (arith, leb-false 1 (withNumber number (heldFlows (slotsOf bits slots pool))) none-held) in
-        rw (eq-eqb (withNumber number (heldFlows (slotsOf bits slots pool))) 0 zero-held)
+        let none-held : leb 1 (withNumber number (heldFlows (slotsOf bits store))) ≡ false
+        = number-index number (slotsOf bits store) ∙ le-ltb (firstIndex (holds number) (slotsOf bits store)) (length (slotsOf bits store)) (omega (arith, found, length-slots bits store)) in
+        let zero-held : withNumber number (heldFlows (slotsOf bits store)) ≡ 0 = omega (arith, leb-false 1 (withNumber number (heldFlows (slotsOf bits store))) none-held) in
+        rw (eq-eqb (withNumber number (heldFlows (slotsOf bits store))) 0 zero-held)
 
     module _ (known : slot ≡ slotCount → ⊥) where
       pub slot-inside : slot < slotCount
-      slot-inside = omega (arith, found, index-most (slotsOf bits slots pool), length-slots bits slots pool, known)
+      slot-inside = omega (arith, found, index-most (slotsOf bits store), length-slots bits store, known)
 
       pub slot-set : isSet bits slot ≡ true
       slot-set =
           held-bit (isSet bits slot) _
-          (ap (holds number) (sym (slot-at bits slots slot pool slot-inside))
-          ∙ ap (λ (i : ℕ). holds number (getD (slotsOf bits slots pool) i none)) found
-          ∙ index-found (holds number) none (slotsOf bits slots pool) (omega (arith, sym found, slot-inside, length-slots bits slots pool)))
+          (ap (holds number) (sym (slot-at bits store slot slot-inside))
+          ∙ ap (λ (i : ℕ). holds number (getD (slotsOf bits store) i none)) found
+          ∙ index-found (holds number) none (slotsOf bits store) (omega (arith, sym found, slot-inside, length-slots bits store)))
 
-      nothing : (t : Table) → firstCause (findings (record { table = t; slots = slotsOf bits slots pool }) (release number)) ≡ none
+      nothing : (t : Table) → firstCause (findings (record { table = t; slots = slotsOf bits store }) (release number)) ≡ none
       unfolding findings firstCause whole
       nothing t =
-          let some-held : leb 1 (withNumber number (heldFlows (slotsOf bits slots pool))) ≡ true
-          = number-index number (slotsOf bits slots pool) ∙ lt-ltb (firstIndex (holds number) (slotsOf bits slots pool)) (length (slotsOf bits slots pool)) (omega (arith, sym found, slot-inside, length-slots bits slots pool)) in
-          rw (ne-eqb (withNumber number (heldFlows (slotsOf bits slots pool))) 0 (λ z. omega (arith, leb-true 1 (withNumber number (heldFlows (slotsOf bits slots pool))) some-held)))
+          let some-held : leb 1 (withNumber number (heldFlows (slotsOf bits store))) ≡ true
+          = number-index number (slotsOf bits store) ∙ lt-ltb (firstIndex (holds number) (slotsOf bits store)) (length (slotsOf bits store)) (omega (arith, sym found, slot-inside, length-slots bits store)) in
+          rw (ne-eqb (withNumber number (heldFlows (slotsOf bits store))) 0 (λ z. omega (arith, leb-true 1 (withNumber number (heldFlows (slotsOf bits store))) some-held)))
 
       -- The slot of the flow with the number is empty, and that slot is answered.
-      pub stepped-released : {table bits′ slots′ pool′ sums′ : List ℕ} → slotsOf bits′ slots′ pool′ ≡ set (slotsOf bits slots pool) slot none → Kept table bits′ slots′ pool′ sums′
-          → Stepped (release number) table bits slots pool bits′ slots′ pool′ sums′ (Done (slot + 1))
+      pub stepped-released : {table bits′ store′ figures′ : List ℕ} → slotsOf bits′ store′ ≡ set (slotsOf bits store) slot none → ConsistentArrays table bits′ store′ figures′
+          → Stepped (release number) table bits store bits′ store′ figures′ (Done (slot + 1))
       unfolding apply decide perform fill
       stepped-released {table} view kept =
-          let s : State = stateOf table bits slots pool in
-          let done : apply s (release number) ≡ fill s (firstIndex (holds number) (slotsOf bits slots pool)) none = ap (decide s (release number)) (nothing (tableOf table)) in
+          let s : State = stateOf table bits store in
+          let done : apply s (release number) ≡ fill s (firstIndex (holds number) (slotsOf bits store)) none = ap (decide s (release number)) (nothing (tableOf table)) in
           record {
-            answer = ap (λ (i : ℕ). answerOf (Done (i + 1))) found ∙ filled s (firstIndex (holds number) (slotsOf bits slots pool)) none ∙ sym (ap (λ (out : Outcome). out .answer) done);
-            next = ap (λ (l : List Slot). record { table = tableOf table; slots = l }) (view ∙ ap (λ (i : ℕ). set (slotsOf bits slots pool) i none) found) ∙ sym (ap (λ (out : Outcome). out .next) done);
+            answer = ap (λ (i : ℕ). answerOf (Done (i + 1))) found ∙ filled s (firstIndex (holds number) (slotsOf bits store)) none ∙ sym (ap (λ (out : Outcome). out .answer) done);
+            next = ap (λ (l : List Slot). record { table = tableOf table; slots = l }) (view ∙ ap (λ (i : ℕ). set (slotsOf bits store) i none) found) ∙ sym (ap (λ (out : Outcome). out .next) done);
             kept = kept;
           }

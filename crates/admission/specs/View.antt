@@ -14,14 +14,14 @@ use Rattle.orders.specs.declared.Order.{Order}
 use Rattle.orders.specs.declared.Order.the-variants.{Register, Release, Change, Malformed, OutOfRange}
 use Rattle.orders.specs.View.{hopNumbers, changeOf, lineFlow}
 use Rattle.queue_table.specs.View.{WellFormed, tableOf}
-use Rattle.flow_store.specs.View.{Store, slotsOf}
+use Rattle.flow_store.specs.View.{PackedStore, slotsOf}
 use Rattle.figures.specs.View.{Figures}
 use Rattle.admission.specs.declared.Answer.{Answer}
 use Rattle.admission.specs.declared.Answer.the-variants.{Done, Refused}
 
 -- The state that the arrays hold: the table's links, and a flow or none at each slot.
-abbrev pub stateOf : (table bits slots pool : List ℕ) → model.State
-stateOf table bits slots pool = record { table = tableOf table; slots = slotsOf bits slots pool }
+abbrev pub stateOf : (table bits store : List ℕ) → model.State
+stateOf table bits store = record { table = tableOf table; slots = slotsOf bits store }
 
 -- A refusal as an answer line has it.
 abbrev pub refusalOf : model.Cause → model.Answer
@@ -47,14 +47,14 @@ OrderRead Malformed hops = Unit {0}
 OrderRead OutOfRange hops = Unit {0}
 
 -- A consistent registry, whose figures are those of its flows.
-pub record Kept (table bits slots pool sums : List ℕ) : Type 0 where
+pub record ConsistentArrays (table bits store figures : List ℕ) : Type 0 where
   pub formed : WellFormed table
-  pub store : Store bits slots pool
-  pub is-consistent : consistent (stateOf table bits slots pool) ≡ true
-  pub figures : Figures (tableOf table) (model.heldFlows (slotsOf bits slots pool)) sums
+  pub stored : PackedStore bits store
+  pub is-consistent : consistent (stateOf table bits store) ≡ true
+  pub exact : Figures (tableOf table) (model.heldFlows (slotsOf bits store)) figures
 
 -- The order was done as the reference model does it, and the registry is consistent after it. Free: the numbers of free slots, unused hop entries.
-pub record Stepped (o : model-orders.Order) (table bits slots pool bits′ slots′ pool′ sums′ : List ℕ) (r : Answer) : Type 0 where
-  pub answer : answerOf r ≡ model.apply (stateOf table bits slots pool) o .answer
-  pub next : stateOf table bits′ slots′ pool′ ≡ model.apply (stateOf table bits slots pool) o .next
-  pub kept : Kept table bits′ slots′ pool′ sums′
+pub record Stepped (o : model-orders.Order) (table bits store bits′ store′ figures′ : List ℕ) (r : Answer) : Type 0 where
+  pub answer : answerOf r ≡ model.apply (stateOf table bits store) o .answer
+  pub next : stateOf table bits′ store′ ≡ model.apply (stateOf table bits store) o .next
+  pub kept : ConsistentArrays table bits′ store′ figures′

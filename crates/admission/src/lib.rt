@@ -1,7 +1,7 @@
 // What an order does to a consistent registry, in place on its arrays: a registration, a release, a change, or 10 and 11. Its cost doesn't
 // depend on the calls before.
 //
-// The arrays are those of `queue_table` (table), `flow_store` (bits, slots, pool) and `figures` (sums).
+// The arrays are those of `queue_table` (table), `flow_store` (bits, store) and `figures` (figures).
 ghost use mathlib.Core.Path.{_≡_};
 ghost use mathlib.Core.Bool.{true};
 ghost use mathlib.Core.Option.{none};
@@ -13,7 +13,7 @@ ghost use Rattle.model.specs.Reference.{indexOf};
 ghost use Rattle.orders.specs.View.{changeOf, lineFlow, orderWith};
 ghost use Rattle.bit_words.specs.View.{isSet};
 ghost use Rattle.flow_store.specs.View.{slotsOf};
-ghost use Rattle.admission.specs.View.{LineRead, OrderRead, Kept, Stepped};
+ghost use Rattle.admission.specs.View.{LineRead, OrderRead, ConsistentArrays, Stepped};
 use causes::Cause;
 use causes::Finding;
 use flow_store::SLOTS;
@@ -35,58 +35,50 @@ fn register_flow(
     hops: &[u32],
     table: &[u32],
     bits: &mut [u64],
-    slots: &mut [u32],
-    pool: &mut [u32],
-    sums: &mut [u64],
+    store: &mut [u32],
+    figures: &mut [u64],
 ) -> Answer
     requires { ⌜ LineRead flow (now hops) ⌝ }
-    requires { ⌜ Kept (now table) (now bits) (now slots) (now pool) (now sums) ⌝ }
-    ensures { λ r. ⌜ Stepped (register (lineFlow flow (now (hops .entry)))) (now (table .entry)) (now (bits .entry)) (now (slots .entry)) (now (pool .entry)) (now (bits .exit)) (now (slots .exit)) (now (pool .exit)) (now (sums .exit)) r ⌝ }
+    requires { ⌜ ConsistentArrays (now table) (now bits) (now store) (now figures) ⌝ }
+    ensures { λ r. ⌜ Stepped (register (lineFlow flow (now (hops .entry)))) (now (table .entry)) (now (bits .entry)) (now (store .entry)) (now (bits .exit)) (now (store .exit)) (now (figures .exit)) r ⌝ }
 {
     let count = flow.hops as usize;
-    let judged = flow_check::judge_flow(flow, hops, table, &bits[..], &slots[..]);
+    let judged = flow_check::judge_flow(flow, hops, table, &bits[..], &store[..]);
     let against = judged.finding;
     let entries = judged.entries;
     if let Finding::Against(cause) = against {
         return Answer::Refused(cause);
     }
-    let room = flow_check::judge_room(flow.hops, &bits[..], &slots[..]);
+    let room = flow_check::judge_room(flow.hops, &bits[..], &store[..]);
     let lack = room.finding;
     let slot = room.slot;
     if let Finding::Against(cause) = lack {
         return Answer::Refused(cause);
     }
     let path = &entries[..count];
-    let found = figures::check_links(flow.share, table, &sums[..], path);
+    let found = figures::check_links(flow.share, table, &figures[..], path);
     if let Finding::Against(cause) = found {
         return Answer::Refused(cause);
     }
     let share = flow.share;
-    flow_store::insert(slot, flow, path, bits, slots, pool);
-    figures::add_path(share, table, path, sums);
+    flow_store::insert(slot, flow, path, bits, store);
+    figures::add_path(share, table, path, figures);
     Answer::Done(slot as u32 + 1)
 }
 
 // Empties a held slot and takes its flow out at each queue.
-fn take_out(
-    slot: usize,
-    table: &[u32],
-    bits: &mut [u64],
-    slots: &mut [u32],
-    pool: &mut [u32],
-    sums: &mut [u64],
-)
-    requires { ⌜ Kept (now table) (now bits) (now slots) (now pool) (now sums) ⌝ }
+fn take_out(slot: usize, table: &[u32], bits: &mut [u64], store: &mut [u32], figures: &mut [u64])
+    requires { ⌜ ConsistentArrays (now table) (now bits) (now store) (now figures) ⌝ }
     requires { ⌜ (slot < slotCount) × (isSet (now bits) slot ≡ true) ⌝ }
-    ensures { λ _. ⌜ slotsOf (now (bits .exit)) (now (slots .exit)) (now (pool .exit)) ≡ set (slotsOf (now (bits .entry)) (now (slots .entry)) (now (pool .entry))) slot none ⌝ }
-    ensures { λ _. ⌜ Kept (now (table .entry)) (now (bits .exit)) (now (slots .exit)) (now (pool .exit)) (now (sums .exit)) ⌝ }
+    ensures { λ _. ⌜ slotsOf (now (bits .exit)) (now (store .exit)) ≡ set (slotsOf (now (bits .entry)) (now (store .entry))) slot none ⌝ }
+    ensures { λ _. ⌜ ConsistentArrays (now (table .entry)) (now (bits .exit)) (now (store .exit)) (now (figures .exit)) ⌝ }
 {
-    let flow = flow_store::flow_at(slot, &slots[..]);
+    let flow = flow_store::flow_at(slot, &store[..]);
     let mut entries = [0u32; orders::MOST_HOPS];
-    let hops = flow_store::path_into(slot, &slots[..], &pool[..], &mut entries);
-    flow_store::remove(slot, bits, slots, pool);
-    if figures::remove_path(flow.share, table, &entries[..hops], sums) {
-        recount::raise_frames(&bits[..], &slots[..], &pool[..], sums);
+    let hops = flow_store::path_into(slot, &store[..], &mut entries);
+    flow_store::remove(slot, bits, store);
+    if figures::remove_path(flow.share, table, &entries[..hops], figures) {
+        recount::raise_frames(&bits[..], &store[..], figures);
     }
 }
 
@@ -95,18 +87,17 @@ fn release_flow(
     number: u32,
     table: &[u32],
     bits: &mut [u64],
-    slots: &mut [u32],
-    pool: &mut [u32],
-    sums: &mut [u64],
+    store: &mut [u32],
+    figures: &mut [u64],
 ) -> Answer
-    requires { ⌜ Kept (now table) (now bits) (now slots) (now pool) (now sums) ⌝ }
-    ensures { λ r. ⌜ Stepped (release number) (now (table .entry)) (now (bits .entry)) (now (slots .entry)) (now (pool .entry)) (now (bits .exit)) (now (slots .exit)) (now (pool .exit)) (now (sums .exit)) r ⌝ }
+    requires { ⌜ ConsistentArrays (now table) (now bits) (now store) (now figures) ⌝ }
+    ensures { λ r. ⌜ Stepped (release number) (now (table .entry)) (now (bits .entry)) (now (store .entry)) (now (bits .exit)) (now (store .exit)) (now (figures .exit)) r ⌝ }
 {
-    let held = flow_store::find(number, &bits[..], &slots[..]);
+    let held = flow_store::find(number, &bits[..], &store[..]);
     if held == SLOTS {
         return Answer::Refused(Cause::NumberNotHeld);
     }
-    take_out(held, table, bits, slots, pool, sums);
+    take_out(held, table, bits, store, figures);
     Answer::Done(held as u32 + 1)
 }
 
@@ -116,16 +107,15 @@ fn change_held(
     given: Change,
     table: &[u32],
     bits: &[u64],
-    slots: &mut [u32],
-    pool: &[u32],
-    sums: &mut [u64],
+    store: &mut [u32],
+    figures: &mut [u64],
 ) -> Answer
-    requires { ⌜ Kept (now table) (now bits) (now slots) (now pool) (now sums) ⌝ }
-    requires { ⌜ (held ≡ indexOf (given .number) (slotsOf (now bits) (now slots) (now pool))) × (held < slotCount) ⌝ }
+    requires { ⌜ ConsistentArrays (now table) (now bits) (now store) (now figures) ⌝ }
+    requires { ⌜ (held ≡ indexOf (given .number) (slotsOf (now bits) (now store))) × (held < slotCount) ⌝ }
     requires { ⌜ changeInRange (changeOf given) ≡ true ⌝ }
-    ensures { λ r. ⌜ Stepped (change (changeOf given)) (now (table .entry)) (now (bits .entry)) (now (slots .entry)) (now (pool .entry)) (now (bits .entry)) (now (slots .exit)) (now (pool .entry)) (now (sums .exit)) r ⌝ }
+    ensures { λ r. ⌜ Stepped (change (changeOf given)) (now (table .entry)) (now (bits .entry)) (now (store .entry)) (now (bits .entry)) (now (store .exit)) (now (figures .exit)) r ⌝ }
 {
-    let flow = flow_store::flow_at(held, &slots[..]);
+    let flow = flow_store::flow_at(held, &store[..]);
     let was = flow.share;
     let rate = given.rate;
     let burst = given.burst;
@@ -135,14 +125,14 @@ fn change_held(
     }
     let share = Aggregate { rate, burst, frame };
     let mut entries = [0u32; orders::MOST_HOPS];
-    let hops = flow_store::path_into(held, &slots[..], pool, &mut entries);
+    let hops = flow_store::path_into(held, &store[..], &mut entries);
     let path = &entries[..hops];
-    let found = figures::check_change(was, share, table, &sums[..], path);
+    let found = figures::check_change(was, share, table, &figures[..], path);
     if let Finding::Against(cause) = found {
         return Answer::Refused(cause);
     }
-    flow_store::change(held, given, slots);
-    figures::change_path(was, share, table, path, sums);
+    flow_store::change(held, given, store);
+    figures::change_path(was, share, table, path, figures);
     Answer::Done(held as u32 + 1)
 }
 
@@ -151,39 +141,37 @@ fn change_flow(
     given: Change,
     table: &[u32],
     bits: &[u64],
-    slots: &mut [u32],
-    pool: &[u32],
-    sums: &mut [u64],
+    store: &mut [u32],
+    figures: &mut [u64],
 ) -> Answer
-    requires { ⌜ Kept (now table) (now bits) (now slots) (now pool) (now sums) ⌝ }
+    requires { ⌜ ConsistentArrays (now table) (now bits) (now store) (now figures) ⌝ }
     requires { ⌜ changeInRange (changeOf given) ≡ true ⌝ }
-    ensures { λ r. ⌜ Stepped (change (changeOf given)) (now (table .entry)) (now (bits .entry)) (now (slots .entry)) (now (pool .entry)) (now (bits .entry)) (now (slots .exit)) (now (pool .entry)) (now (sums .exit)) r ⌝ }
+    ensures { λ r. ⌜ Stepped (change (changeOf given)) (now (table .entry)) (now (bits .entry)) (now (store .entry)) (now (bits .entry)) (now (store .exit)) (now (figures .exit)) r ⌝ }
 {
-    let held = flow_store::find(given.number, bits, &slots[..]);
+    let held = flow_store::find(given.number, bits, &store[..]);
     if held == SLOTS {
         return Answer::Refused(Cause::NumberNotHeld);
     }
-    change_held(held, given, table, bits, slots, pool, sums)
+    change_held(held, given, table, bits, store, figures)
 }
 
 // Carries out the order of a line.
-pub fn perform(
+pub fn apply(
     order: Order,
     hops: &[u32],
     table: &[u32],
     bits: &mut [u64],
-    slots: &mut [u32],
-    pool: &mut [u32],
-    sums: &mut [u64],
+    store: &mut [u32],
+    figures: &mut [u64],
 ) -> Answer
     requires { ⌜ OrderRead order (now hops) ⌝ }
-    requires { ⌜ Kept (now table) (now bits) (now slots) (now pool) (now sums) ⌝ }
-    ensures { λ r. ⌜ Stepped (orderWith order (now (hops .entry))) (now (table .entry)) (now (bits .entry)) (now (slots .entry)) (now (pool .entry)) (now (bits .exit)) (now (slots .exit)) (now (pool .exit)) (now (sums .exit)) r ⌝ }
+    requires { ⌜ ConsistentArrays (now table) (now bits) (now store) (now figures) ⌝ }
+    ensures { λ r. ⌜ Stepped (orderWith order (now (hops .entry))) (now (table .entry)) (now (bits .entry)) (now (store .entry)) (now (bits .exit)) (now (store .exit)) (now (figures .exit)) r ⌝ }
 {
     match order {
-        Order::Register(flow) => register_flow(flow, hops, table, bits, slots, pool, sums),
-        Order::Release(number) => release_flow(number, table, bits, slots, pool, sums),
-        Order::Change(given) => change_flow(given, table, &bits[..], slots, &pool[..], sums),
+        Order::Register(flow) => register_flow(flow, hops, table, bits, store, figures),
+        Order::Release(number) => release_flow(number, table, bits, store, figures),
+        Order::Change(given) => change_flow(given, table, &bits[..], store, figures),
         Order::Malformed => Answer::Refused(Cause::Malformed),
         Order::OutOfRange => Answer::Refused(Cause::OutOfRange),
     }

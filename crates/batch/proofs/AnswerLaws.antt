@@ -15,23 +15,23 @@ use Rattle.model.specs.Laws.Answers.{line-length}
 use Rattle.model.specs.Laws.Columns.{lines-nothing}
 use Rattle.model.specs.Batch.{lineAnswers, answerText, doneBatch}
 use Rattle.admission.specs.declared.Answer.{Answer}
-use Rattle.admission.specs.View.{stateOf, answerOf, Kept, Stepped}
+use Rattle.admission.specs.View.{stateOf, answerOf, ConsistentArrays, Stepped}
 use Rattle.batch.specs.declared.Advance.{Advance}
 use Rattle.batch.specs.View.{LineDone, Answerable}
 
 -- The first line was carried out.
-module _ (orders : List ℕ) (at next : ℕ) (table bits slots pool bits′ slots′ pool′ sums′ : List ℕ) (a : Answer) (l : Line)
-    (stepped : Stepped (orderLine l) table bits slots pool bits′ slots′ pool′ sums′ a) (first : lines (drop at orders) ≡ l ∷ lines (drop next orders)) where
-  answers-on : lineAnswers (stateOf table bits slots pool) (l ∷ lines (drop next orders))
-      ≡ answerOf a ∷ lineAnswers (stateOf table bits′ slots′ pool′) (lines (drop next orders))
+module _ (orders : List ℕ) (at next : ℕ) (table bits store bits′ store′ figures′ : List ℕ) (a : Answer) (l : Line)
+    (stepped : Stepped (orderLine l) table bits store bits′ store′ figures′ a) (first : lines (drop at orders) ≡ l ∷ lines (drop next orders)) where
+  answers-on : lineAnswers (stateOf table bits store) (l ∷ lines (drop next orders))
+      ≡ answerOf a ∷ lineAnswers (stateOf table bits′ store′) (lines (drop next orders))
   unfolding lineAnswers reference.orderAnswers
   answers-on =
       ap₂ (λ (x : reference.Answer) (s : reference.State). x ∷ lineAnswers s (lines (drop next orders))) (sym (stepped .answer)) (sym (stepped .next))
 
-  pub line-done : at < next → next ≤ length orders → LineDone orders at table bits slots pool bits′ slots′ pool′ sums′ (record { answer = a; next = next })
+  pub line-done : at < next → next ≤ length orders → LineDone orders at table bits store bits′ store′ figures′ (record { answer = a; next = next })
   line-done on within =
       record {
-        same = ap (lineAnswers (stateOf table bits slots pool)) first ∙ answers-on;
+        same = ap (lineAnswers (stateOf table bits store)) first ∙ answers-on;
         counted = ap length first;
         kept = stepped .kept;
         on = on;
@@ -39,8 +39,8 @@ module _ (orders : List ℕ) (at next : ℕ) (table bits slots pool bits′ slot
       }
 
 -- What holds before each order line: `whole` is the area in the end. What is left is answered from `offset` on.
-pub record Answering (whole orders : List ℕ) (table bits slots pool sums : List ℕ) (size : ℕ) (area : List ℕ) (at number offset : ℕ) : Type 0 where
-  pub kept : Kept table bits slots pool sums
+pub record Answering (whole orders : List ℕ) (table bits store figures : List ℕ) (size : ℕ) (area : List ℕ) (at number offset : ℕ) : Type 0 where
+  pub kept : ConsistentArrays table bits store figures
   pub within : at ≤ length orders
   pub same-size : length area ≡ size
   pub placed : offset ≡ answerBytes * number
@@ -48,7 +48,7 @@ pub record Answering (whole orders : List ℕ) (table bits slots pool sums : Lis
   pub room : answerBytes * (number + length (lines (drop at orders))) ≤ length area
   pub left :
       take offset area
-      ++ (answerText (number + 1) (lineAnswers (stateOf table bits slots pool) (lines (drop at orders)))
+      ++ (answerText (number + 1) (lineAnswers (stateOf table bits store) (lines (drop at orders)))
       ++ drop (answerBytes * (number + length (lines (drop at orders)))) area)
       ≡ whole
 
@@ -58,10 +58,10 @@ answer-next number a more =
     let e : suc number ≡ number + 1 = omega arith in
     ap (λ (k : ℕ). answerLine number a ++ answerText k more) e
 
-pub answering-first : (orders : List ℕ) (table bits slots pool sums area : List ℕ) → Kept table bits slots pool sums → Answerable orders area
-    → Answering (doneBatch (stateOf table bits slots pool) (lines orders) area .area) orders table bits slots pool sums (length area) area 0 0 0
+pub answering-first : (orders : List ℕ) (table bits store figures area : List ℕ) → ConsistentArrays table bits store figures → Answerable orders area
+    → Answering (doneBatch (stateOf table bits store) (lines orders) area .area) orders table bits store figures (length area) area 0 0 0
 unfolding doneBatch
-answering-first orders table bits slots pool sums area kept room =
+answering-first orders table bits store figures area kept room =
     let none-done : 0 + length (lines orders) ≡ length (lines orders) = omega arith in
     record {
       kept = kept;
@@ -70,23 +70,23 @@ answering-first orders table bits slots pool sums area kept room =
       placed = refl;
       few = rw none-done (room .few);
       room = rw none-done (room .long);
-      left = ap (λ (k : ℕ). answerText 1 (lineAnswers (stateOf table bits slots pool) (lines orders)) ++ drop (answerBytes * k) area) none-done;
+      left = ap (λ (k : ℕ). answerText 1 (lineAnswers (stateOf table bits store) (lines orders)) ++ drop (answerBytes * k) area) none-done;
     }
 
-module _ {whole orders : List ℕ} {table bits slots pool sums : List ℕ} {size : ℕ} {area : List ℕ} {at number offset : ℕ}
-    (now : Answering whole orders table bits slots pool sums size area at number offset) where
+module _ {whole orders : List ℕ} {table bits store figures : List ℕ} {size : ℕ} {area : List ℕ} {at number offset : ℕ}
+    (now : Answering whole orders table bits store figures size area at number offset) where
   -- There is room for a line where one is left.
-  pub room-left : {bits′ slots′ pool′ sums′ : List ℕ} {r : Advance} → LineDone orders at table bits slots pool bits′ slots′ pool′ sums′ r
+  pub room-left : {bits′ store′ figures′ : List ℕ} {r : Advance} → LineDone orders at table bits store bits′ store′ figures′ r
       → (offset + answerBytes ≤ length area) × (number + 1 ≤ orderLines)
   room-left done = (omega (arith, now .room, now .placed, done .counted), omega (arith, now .few, done .counted))
 
-  pub answering-next : {bits′ slots′ pool′ sums′ : List ℕ} {r : Advance} → LineDone orders at table bits slots pool bits′ slots′ pool′ sums′ r → (area′ : List ℕ)
+  pub answering-next : {bits′ store′ figures′ : List ℕ} {r : Advance} → LineDone orders at table bits store bits′ store′ figures′ r → (area′ : List ℕ)
       → area′ ≡ take offset area ++ (answerLine (number + 1) (answerOf (r .answer)) ++ drop (offset + answerBytes) area)
-      → Answering whole orders table bits′ slots′ pool′ sums′ size area′ (r .next) (number + 1) (offset + answerBytes)
-  answering-next {bits′} {slots′} {pool′} {sums′} {r} done area′ is =
+      → Answering whole orders table bits′ store′ figures′ size area′ (r .next) (number + 1) (offset + answerBytes)
+  answering-next {bits′} {store′} {figures′} {r} done area′ is =
       let a = answerOf (r .answer) in
       let line = answerLine (number + 1) a in
-      let rest = lineAnswers (stateOf table bits′ slots′ pool′) (lines (drop (r .next) orders)) in
+      let rest = lineAnswers (stateOf table bits′ store′) (lines (drop (r .next) orders)) in
       let m = length (lines (drop (r .next) orders)) in
       let long = line-length (number + 1) a in
       let ends : number + length (lines (drop at orders)) ≡ number + 1 + m = omega (arith, done .counted) in
@@ -115,6 +115,6 @@ module _ {whole orders : List ℕ} {table bits slots pool sums : List ℕ} {size
       sym (take-append-drop offset area)
       ∙ ap (λ (k : ℕ). take offset area ++ drop k area) all-done
       ∙ ap
-      (λ (ls : List Line). take offset area ++ (answerText (number + 1) (lineAnswers (stateOf table bits slots pool) ls) ++ drop (answerBytes * (number + length ls)) area))
+      (λ (ls : List Line). take offset area ++ (answerText (number + 1) (lineAnswers (stateOf table bits store) ls) ++ drop (answerBytes * (number + length ls)) area))
       (sym (lines-nothing orders at end))
       ∙ now .left

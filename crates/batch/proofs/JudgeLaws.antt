@@ -5,7 +5,7 @@ use mathlib.Core.Path.{_≡_, refl, ap, ap₂}
 use mathlib.Core.List.{List}
 use borrow.Author.Tests.{lt-ltb, le-ltb}
 use lib.ListN.{length}
-use Rattle.model.specs.Sizes.{hopEntries, orderBytes, orderLines, answerBytes}
+use Rattle.model.specs.Sizes.{orderBytes, orderLines, answerBytes}
 use Rattle.model.specs.Columns.{lines}
 use Rattle.model.specs.QueueTable.{Table, TableText, accepted}
 use Rattle.model.specs.Reference.{State, opened}
@@ -13,11 +13,11 @@ use Rattle.model.specs.Batch.{Batch, refusedBatch, doneBatch, tooLong, tooShort
 use Rattle.queue_table.specs.declared.Fault.{Fault}
 use Rattle.queue_table.specs.declared.Verdict.the-variants.{Accepted, Refused}
 use Rattle.queue_table.specs.View.{tableOf, faultCode, TableFilled}
-use Rattle.flow_store.specs.View.{slotWords, slotNumbers}
-use Rattle.figures.specs.View.{sumNumbers}
-use Rattle.admission.specs.View.{stateOf, Kept}
-use Rattle.admission.proofs.OpenLaws.{empty, empty-kept}
-use Rattle.batch.specs.View.{noBits, noFlows, noHops, noSums}
+use Rattle.flow_store.specs.View.{slotWords, storeNumbers}
+use Rattle.figures.specs.View.{figureNumbers}
+use Rattle.admission.specs.View.{stateOf, ConsistentArrays}
+use Rattle.admission.proofs.OpenLaws.{empty, empty-consistent}
+use Rattle.batch.specs.View.{noBits, noFlows, noFigures}
 
 module _ (t : Table) (s : State) (orders area : List ℕ) where
   abbrev judged : Batch
@@ -45,16 +45,16 @@ module _ (t : Table) (s : State) (orders area : List ℕ) where
 
 -- A table that was accepted.
 module _ (text table : List ℕ) (filled : TableFilled text Accepted table) where
-  pub empty-registry : Kept table noBits noFlows noHops noSums
-  unfolding noBits noFlows noHops noSums
-  empty-registry = empty-kept text table Accepted filled slotWords slotNumbers hopEntries sumNumbers refl refl refl refl
+  pub empty-registry : ConsistentArrays table noBits noFlows noFigures
+  unfolding noBits noFlows noFigures
+  empty-registry = empty-consistent text table Accepted filled slotWords storeNumbers figureNumbers refl refl refl
 
-  starts : stateOf table noBits noFlows noHops ≡ opened text
-  unfolding noBits noFlows noHops
-  starts = empty text table Accepted filled slotWords slotNumbers hopEntries sumNumbers refl refl refl refl
+  starts : stateOf table noBits noFlows ≡ opened text
+  unfolding noBits noFlows
+  starts = empty text table Accepted filled slotWords storeNumbers figureNumbers refl refl refl
 
   pub from-table : (orders area : List ℕ)
-      → afterTable (accepted (tableOf table)) (stateOf table noBits noFlows noHops) orders area ≡ batch text orders area
+      → afterTable (accepted (tableOf table)) (stateOf table noBits noFlows) orders area ≡ batch text orders area
   unfolding batch
   from-table orders area = ap₂ (λ (t : TableText) (s : State). afterTable t s orders area) (filled .same) starts
 

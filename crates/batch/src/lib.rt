@@ -7,16 +7,15 @@ ghost use mathlib.Core.List.{List};
 ghost use Prim.Native.Nat.{ℕ, _+_, _≤_, _<_};
 ghost use lib.ListN.{length, drop};
 ghost use Rattle.model.specs.Columns.{lines};
-ghost use Rattle.admission.specs.View.{Kept};
-ghost use Rattle.batch.specs.View.{noBits, noFlows, noHops, noSums, LineDone, Answerable, Answered, OrdersDone, resultOf, refusedWith, Batched};
+ghost use Rattle.admission.specs.View.{ConsistentArrays};
+ghost use Rattle.batch.specs.View.{noBits, noFlows, noFigures, LineDone, Answerable, Answered, OrdersDone, resultOf, refusedWith, Batched};
 use admission::Answer;
 use causes::Cause;
 use columns::LF;
 use columns::NextLine;
-use figures::SUMS;
-use flow_store::POOL;
-use flow_store::SLOT_NUMBERS;
+use figures::FIGURE_NUMBERS;
 use flow_store::SLOT_WORDS;
+use flow_store::STORE_NUMBERS;
 use queue_table::Fault;
 use queue_table::TABLE_NUMBERS;
 use queue_table::Verdict;
@@ -110,12 +109,11 @@ fn answer_next(
     at: usize,
     table: &[u32],
     bits: &mut [u64],
-    slots: &mut [u32],
-    pool: &mut [u32],
-    sums: &mut [u64],
+    store: &mut [u32],
+    figures: &mut [u64],
 ) -> Advance
-    requires { ⌜ (at < length (now orders)) × Kept (now table) (now bits) (now slots) (now pool) (now sums) ⌝ }
-    ensures { λ r. ⌜ LineDone (now (orders .entry)) at (now (table .entry)) (now (bits .entry)) (now (slots .entry)) (now (pool .entry)) (now (bits .exit)) (now (slots .exit)) (now (pool .exit)) (now (sums .exit)) r ⌝ }
+    requires { ⌜ (at < length (now orders)) × ConsistentArrays (now table) (now bits) (now store) (now figures) ⌝ }
+    ensures { λ r. ⌜ LineDone (now (orders .entry)) at (now (table .entry)) (now (bits .entry)) (now (store .entry)) (now (bits .exit)) (now (store .exit)) (now (figures .exit)) r ⌝ }
 {
     let NextLine::Ended(end) = columns::next_line(orders, at) else {
         return Advance {
@@ -126,7 +124,7 @@ fn answer_next(
     let line = orders::read_order(&orders[at..end]);
     let order = line.order;
     let hops = line.hops;
-    let answer = admission::perform(order, &hops, table, bits, slots, pool, sums);
+    let answer = admission::apply(order, &hops, table, bits, store, figures);
     Advance {
         answer,
         next: end + 1,
@@ -138,20 +136,19 @@ fn answer_all(
     orders: &[u8],
     table: &[u32],
     bits: &mut [u64],
-    slots: &mut [u32],
-    pool: &mut [u32],
-    sums: &mut [u64],
+    store: &mut [u32],
+    figures: &mut [u64],
     answers: &mut [u8],
 )
-    requires { ⌜ Kept (now table) (now bits) (now slots) (now pool) (now sums) ⌝ }
+    requires { ⌜ ConsistentArrays (now table) (now bits) (now store) (now figures) ⌝ }
     requires { ⌜ Answerable (now orders) (now answers) ⌝ }
-    ensures { λ _. ⌜ Answered (now (orders .entry)) (now (table .entry)) (now (bits .entry)) (now (slots .entry)) (now (pool .entry)) (now (answers .entry)) (now (answers .exit)) ⌝ }
+    ensures { λ _. ⌜ Answered (now (orders .entry)) (now (table .entry)) (now (bits .entry)) (now (store .entry)) (now (answers .entry)) (now (answers .exit)) ⌝ }
 {
     let mut at = 0;
     let mut number: u32 = 0;
     let mut offset = 0;
     while at < orders.len() {
-        let advance = answer_next(orders, at, table, bits, slots, pool, sums);
+        let advance = answer_next(orders, at, table, bits, store, figures);
         let answer = advance.answer;
         number += 1;
         answer_line::write_line(number, answer, &mut answers[offset..]);
@@ -162,23 +159,14 @@ fn answer_all(
 
 // The answers to the orders on an empty registry.
 fn run(orders: &[u8], table: &[u32], answers: &mut [u8])
-    requires { ⌜ Kept (now table) noBits noFlows noHops noSums ⌝ }
+    requires { ⌜ ConsistentArrays (now table) noBits noFlows noFigures ⌝ }
     requires { ⌜ Answerable (now orders) (now answers) ⌝ }
-    ensures { λ _. ⌜ Answered (now (orders .entry)) (now (table .entry)) noBits noFlows noHops (now (answers .entry)) (now (answers .exit)) ⌝ }
+    ensures { λ _. ⌜ Answered (now (orders .entry)) (now (table .entry)) noBits noFlows (now (answers .entry)) (now (answers .exit)) ⌝ }
 {
     let mut bits = [0u64; SLOT_WORDS];
-    let mut slots = [0u32; SLOT_NUMBERS];
-    let mut pool = [0u32; POOL];
-    let mut sums = [0u64; SUMS];
-    answer_all(
-        orders,
-        table,
-        &mut bits,
-        &mut slots,
-        &mut pool,
-        &mut sums,
-        answers,
-    );
+    let mut store = [0u32; STORE_NUMBERS];
+    let mut figures = [0u64; FIGURE_NUMBERS];
+    answer_all(orders, table, &mut bits, &mut store, &mut figures, answers);
 }
 
 // Document 01's code and line of a refusal.
@@ -197,7 +185,7 @@ fn refused(refusal: Refusal) -> BatchResult
 
 // 41, then 40, then the orders, on a table that was accepted.
 fn judge_orders(orders: &[u8], table: &[u32], answers: &mut [u8]) -> BatchResult
-    requires { ⌜ Kept (now table) noBits noFlows noHops noSums ⌝ }
+    requires { ⌜ ConsistentArrays (now table) noBits noFlows noFigures ⌝ }
     ensures { λ r. ⌜ OrdersDone (now (table .entry)) (now (orders .entry)) (now (answers .entry)) (now (answers .exit)) r ⌝ }
 {
     if ORDER_BYTES < orders.len() {

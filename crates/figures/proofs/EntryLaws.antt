@@ -21,7 +21,7 @@ use Rattle.model.specs.Laws.Aggregates.{same-hop, hop-same}
 use Rattle.model.specs.Laws.Figures.{shares-nothing, shares-other, shares-here, aggregate-alone, aggregate-more}
 use Rattle.units.specs.View.{AtSource}
 use Rattle.queue_table.specs.View.{entryAt, linkIn, speedAt, tableOf, hopAt, isQueue, AllQueues}
-use Rattle.figures.specs.View.{growthAt, ShareBounded, Hops, Speeds, FlowOf}
+use Rattle.figures.specs.View.{growthAt, LimitedShare, Hops, Speeds, FlowOf}
 use Rattle.queue_table.proofs.EntryLaws.{threshold-named, speed-named}
 use Rattle.link_check.proofs.Laws.{mapped-next, mapped-end}
 
@@ -109,8 +109,8 @@ module _ {share : Aggregate} {entries : List ℕ} {f : Flow} (is : FlowOf share 
     left-other e other = ap (sharesAt (hopAt e)) shares-next ∙ shares-other (hopAt e) here later (other-entry e x other)
 
 -- A share at a hop, in the ranges of document 01.
-pub share-bounded : {share : Aggregate} {sum : ℕ} → AtSource share → sum ≤ thresholdsMost → ShareBounded (model.grown share sum)
+pub share-limited : {share : Aggregate} {sum : ℕ} → AtSource share → sum ≤ thresholdsMost → LimitedShare (model.grown share sum)
 unfolding burstAtHop
-share-bounded {share} {sum} source s =
+share-limited {share} {sum} source s =
     let product : share .rate * sum ≤ 10000000 * thresholdsMost = mul-le-mul {n₂ = 10000000} {m₂ = thresholdsMost} (source .0) s in
     (source .0, omega (arith, source .1, ceilDiv-le (share .rate * sum) 8000 1500000000 (omega arith) (omega arith)), source .2)

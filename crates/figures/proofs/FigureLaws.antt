@@ -13,7 +13,7 @@ use Rattle.model.specs.Laws.Formula.{AtMost}
 use Rattle.model.specs.QueueTable.{Table}
 use Rattle.model.specs.Orders.{Flow}
 use Rattle.model.specs.WithFlow.{together}
-use Rattle.figures.specs.View.{figureAt, replaced, Below, ShareBounded, figureStored, Figures}
+use Rattle.figures.specs.View.{ownNumbers, burstPosition, framePosition, figureAt, replaced, Below, LimitedShare, figureStored, Figures}
 
 set-below : (bound : ℕ) (l : List ℕ) (i v : ℕ) → Below bound l → v ≤ bound → Below bound (set l i v)
 set-below bound [] i v b h k = b k
@@ -22,62 +22,62 @@ set-below bound (x ∷ l) zero v b h (suc k) = b (suc k)
 set-below bound (x ∷ l) (suc i) v b h zero = b 0
 set-below bound (x ∷ l) (suc i) v b h (suc k) = set-below bound l i v (λ j. b (suc j)) h k
 
-module _ (sums : List ℕ) (e : ℕ) (a : Aggregate) where
+module _ (figures : List ℕ) (e : ℕ) (a : Aggregate) where
   abbrev one : List ℕ
-  one = set sums (3 * e) (a .rate)
+  one = set figures (ownNumbers * e) (a .rate)
 
   abbrev two : List ℕ
-  two = set one (3 * e + 1) (a .burst)
+  two = set one (burstPosition e) (a .burst)
 
-  pub stored-length : length (figureStored sums e a) ≡ length sums
+  pub stored-length : length (figureStored figures e a) ≡ length figures
   unfolding figureStored
-  stored-length = length-set two (3 * e + 2) (a .frame) ∙ length-set one (3 * e + 1) (a .burst) ∙ length-set sums (3 * e) (a .rate)
+  stored-length = length-set two (framePosition e) (a .frame) ∙ length-set one (burstPosition e) (a .burst) ∙ length-set figures (ownNumbers * e) (a .rate)
 
-  pub stored-other : (d : ℕ) → (d ≡ e → ⊥) → figureAt (figureStored sums e a) d ≡ figureAt sums d
+  pub stored-other : (d : ℕ) → (d ≡ e → ⊥) → figureAt (figureStored figures e a) d ≡ figureAt figures d
   unfolding figureAt figureStored
   stored-other d ne =
       λ i. record { rate = (rw (add-zero (3 * d)) at (other 0 (omega arith))) i; burst = other 1 (omega arith) i; frame = other 2 (omega arith) i }
     where
-      other : (j : ℕ) → j < 3 → getD (set two (3 * e + 2) (a .frame)) (3 * d + j) 0 ≡ getD sums (3 * d + j) 0
+      other : (j : ℕ) → j < 3 → getD (set two (framePosition e) (a .frame)) (3 * d + j) 0 ≡ getD figures (3 * d + j) 0
       other j lt =
-          getD-set-other two (3 * e + 2) (3 * d + j) (a .frame) 0 (omega arith)
-          ∙ getD-set-other one (3 * e + 1) (3 * d + j) (a .burst) 0 (omega arith)
-          ∙ getD-set-other sums (3 * e) (3 * d + j) (a .rate) 0 (omega arith)
+          getD-set-other two (framePosition e) (3 * d + j) (a .frame) 0 (omega arith)
+          ∙ getD-set-other one (burstPosition e) (3 * d + j) (a .burst) 0 (omega arith)
+          ∙ getD-set-other figures (ownNumbers * e) (3 * d + j) (a .rate) 0 (omega arith)
 
-  pub stored-here : 3 * e + 3 ≤ length sums → figureAt (figureStored sums e a) e ≡ a
+  pub stored-here : ownNumbers * e + 3 ≤ length figures → figureAt (figureStored figures e a) e ≡ a
   unfolding figureAt figureStored
   stored-here within =
-      let long : length two ≡ length sums = length-set one (3 * e + 1) (a .burst) ∙ length-set sums (3 * e) (a .rate) in
+      let long : length two ≡ length figures = length-set one (burstPosition e) (a .burst) ∙ length-set figures (ownNumbers * e) (a .rate) in
       λ i.
       record {
         rate =
-            (getD-set-other two (3 * e + 2) (3 * e) (a .frame) 0 (omega arith)
-            ∙ getD-set-other one (3 * e + 1) (3 * e) (a .burst) 0 (omega arith)
-            ∙ getD-set-same sums (3 * e) (a .rate) 0 (omega arith))
+            (getD-set-other two (framePosition e) (ownNumbers * e) (a .frame) 0 (omega arith)
+            ∙ getD-set-other one (burstPosition e) (ownNumbers * e) (a .burst) 0 (omega arith)
+            ∙ getD-set-same figures (ownNumbers * e) (a .rate) 0 (omega arith))
             i;
         burst =
-            (getD-set-other two (3 * e + 2) (3 * e + 1) (a .frame) 0 (omega arith)
-            ∙ getD-set-same one (3 * e + 1) (a .burst) 0 (omega (arith, length-set sums (3 * e) (a .rate))))
+            (getD-set-other two (framePosition e) (burstPosition e) (a .frame) 0 (omega arith)
+            ∙ getD-set-same one (burstPosition e) (a .burst) 0 (omega (arith, length-set figures (ownNumbers * e) (a .rate))))
             i;
-        frame = getD-set-same two (3 * e + 2) (a .frame) 0 (omega (arith, long)) i;
+        frame = getD-set-same two (framePosition e) (a .frame) 0 (omega (arith, long)) i;
       }
 
-  stored-below : (bound : ℕ) → Below bound sums → a .rate ≤ bound → a .burst ≤ bound → a .frame ≤ bound → Below bound (figureStored sums e a)
+  stored-below : (bound : ℕ) → Below bound figures → a .rate ≤ bound → a .burst ≤ bound → a .frame ≤ bound → Below bound (figureStored figures e a)
   unfolding figureStored
   stored-below bound b r s f =
-      set-below bound two (3 * e + 2) (a .frame) (set-below bound one (3 * e + 1) (a .burst) (set-below bound sums (3 * e) (a .rate) b r) s) f
+      set-below bound two (framePosition e) (a .frame) (set-below bound one (burstPosition e) (a .burst) (set-below bound figures (ownNumbers * e) (a .rate) b r) s) f
 
 -- No aggregate is more than itself.
 pub at-most : (a : Aggregate) → AtMost a a
 at-most a = record { rate = omega arith; burst = omega arith; frame = omega arith }
 
 -- No number grows by more than a share where the figures of a queue don't.
-pub stored-more : (sums : List ℕ) (e : ℕ) {share a : Aggregate} → ShareBounded share → AtMost a (together (figureAt sums e) share)
-    → (bound : ℕ) → Below bound sums → Below (bound + 2 ^ 31) (figureStored sums e a)
+pub stored-more : (figures : List ℕ) (e : ℕ) {share a : Aggregate} → LimitedShare share → AtMost a (together (figureAt figures e) share)
+    → (bound : ℕ) → Below bound figures → Below (bound + 2 ^ 31) (figureStored figures e a)
 unfolding figureAt together
-stored-more sums e {a = a} small most bound b =
-    stored-below sums e a (bound + 2 ^ 31) (λ j. omega (arith, b j)) (omega (arith, small .0, most .rate, b (3 * e))) (omega (arith, small .1, most .burst, b (3 * e + 1)))
-    (omega (arith, small .2, most .frame, b (3 * e + 2)))
+stored-more figures e {a = a} small most bound b =
+    stored-below figures e a (bound + 2 ^ 31) (λ j. omega (arith, b j)) (omega (arith, small .0, most .rate, b (ownNumbers * e))) (omega (arith, small .1, most .burst, b (burstPosition e)))
+    (omega (arith, small .2, most .frame, b (framePosition e)))
 
 -- A share with the largest frame of another.
 abbrev pub keptFrame : (was share : Aggregate) → Aggregate
@@ -103,52 +103,52 @@ unfolding replaced together
 replaced-most own was share = record { rate = omega arith; burst = omega arith; frame = omega arith }
 
 -- A number of the array has room for one more flow.
-pub sum-fits : (sums : List ℕ) (k more : ℕ) → Below (2 ^ 63) sums → more ≤ 2 ^ 31 → getD sums k 0 + more < 2 ^ 64
-sum-fits sums k more below small = omega (arith, below k)
+pub sum-fits : (figures : List ℕ) (k more : ℕ) → Below (2 ^ 63) figures → more ≤ 2 ^ 31 → getD figures k 0 + more < 2 ^ 64
+sum-fits figures k more below small = omega (arith, below k)
 
 -- The stores at a queue, one after the other.
-module _ (sums : List ℕ) (e rate burst : ℕ) where
+module _ (figures : List ℕ) (e rate burst : ℕ) where
   abbrev sumsStored : List ℕ
-  sumsStored = set (set sums (3 * e) rate) (3 * e + 1) burst
+  sumsStored = set (set figures (ownNumbers * e) rate) (burstPosition e) burst
 
-  pub frame-stored : (frame : ℕ) → set sumsStored (3 * e + 2) frame ≡ figureStored sums e (record { rate = rate; burst = burst; frame = frame })
+  pub frame-stored : (frame : ℕ) → set sumsStored (framePosition e) frame ≡ figureStored figures e (record { rate = rate; burst = burst; frame = frame })
   unfolding figureStored
   frame-stored frame = refl
 
   -- The largest frame isn't stored where it stays as it was.
-  pub frame-kept : sumsStored ≡ figureStored sums e (record { rate = rate; burst = burst; frame = getD sums (3 * e + 2) 0 })
+  pub frame-kept : sumsStored ≡ figureStored figures e (record { rate = rate; burst = burst; frame = getD figures (framePosition e) 0 })
   frame-kept =
-      let same : getD sumsStored (3 * e + 2) 0 ≡ getD sums (3 * e + 2) 0
-      = getD-set-other (set sums (3 * e) rate) (3 * e + 1) (3 * e + 2) burst 0 (omega arith)
-      ∙ getD-set-other sums (3 * e) (3 * e + 2) rate 0 (omega arith) in
-      sym (set-getD sumsStored (3 * e + 2) 0) ∙ ap (set sumsStored (3 * e + 2)) same ∙ frame-stored (getD sums (3 * e + 2) 0)
+      let same : getD sumsStored (framePosition e) 0 ≡ getD figures (framePosition e) 0
+      = getD-set-other (set figures (ownNumbers * e) rate) (burstPosition e) (framePosition e) burst 0 (omega arith)
+      ∙ getD-set-other figures (ownNumbers * e) (framePosition e) rate 0 (omega arith) in
+      sym (set-getD sumsStored (framePosition e) 0) ∙ ap (set sumsStored (framePosition e)) same ∙ frame-stored (getD figures (framePosition e) 0)
 
 -- The stores that count a flow in.
-module _ (sums : List ℕ) (e : ℕ) (share : Aggregate) where
+module _ (figures : List ℕ) (e : ℕ) (share : Aggregate) where
   abbrev sumsMore : List ℕ
-  sumsMore = sumsStored sums e (getD sums (3 * e) 0 + share .rate) (getD sums (3 * e + 1) 0 + share .burst)
+  sumsMore = sumsStored figures e (getD figures (ownNumbers * e) 0 + share .rate) (getD figures (burstPosition e) 0 + share .burst)
 
-  more-stored : (largest : ℕ) → largest ≡ max (getD sums (3 * e + 2) 0) (share .frame)
-      → figureStored sums e (record { rate = getD sums (3 * e) 0 + share .rate; burst = getD sums (3 * e + 1) 0 + share .burst; frame = largest })
-      ≡ figureStored sums e (together (figureAt sums e) share)
+  more-stored : (largest : ℕ) → largest ≡ max (getD figures (framePosition e) 0) (share .frame)
+      → figureStored figures e (record { rate = getD figures (ownNumbers * e) 0 + share .rate; burst = getD figures (burstPosition e) 0 + share .burst; frame = largest })
+      ≡ figureStored figures e (together (figureAt figures e) share)
   unfolding figureAt together
   more-stored largest most = rw most
 
-  pub frame-grows : getD sums (3 * e + 2) 0 < share .frame
-      → set sumsMore (3 * e + 2) (share .frame) ≡ figureStored sums e (together (figureAt sums e) share)
-  frame-grows lt = frame-stored sums e _ _ (share .frame) ∙ more-stored (share .frame) (omega arith)
+  pub frame-grows : getD figures (framePosition e) 0 < share .frame
+      → set sumsMore (framePosition e) (share .frame) ≡ figureStored figures e (together (figureAt figures e) share)
+  frame-grows lt = frame-stored figures e _ _ (share .frame) ∙ more-stored (share .frame) (omega arith)
 
-  pub frame-stays : share .frame ≤ getD sums (3 * e + 2) 0 → sumsMore ≡ figureStored sums e (together (figureAt sums e) share)
-  frame-stays le = frame-kept sums e _ _ ∙ more-stored (getD sums (3 * e + 2) 0) (omega arith)
+  pub frame-stays : share .frame ≤ getD figures (framePosition e) 0 → sumsMore ≡ figureStored figures e (together (figureAt figures e) share)
+  frame-stays le = frame-kept figures e _ _ ∙ more-stored (getD figures (framePosition e) 0) (omega arith)
 
 -- Two arrays with the figures of the same flows are equal.
 module _ {t : Table} {fs : List Flow} {a b : List ℕ} (fa : Figures t fs a) (fb : Figures t fs b) where
   figure-same : (e : ℕ) → e < queuesMost → figureAt a e ≡ figureAt b e
   figure-same e lt = fa .same e lt ∙ sym (fb .same e lt)
 
-  place-same : (e k : ℕ) → e < queuesMost → k < 3 → getD a (3 * e + k) 0 ≡ getD b (3 * e + k) 0
+  place-same : (e k : ℕ) → e < queuesMost → k < 3 → getD a (ownNumbers * e + k) 0 ≡ getD b (ownNumbers * e + k) 0
   unfolding figureAt
-  place-same e zero lt h = rw (add-zero (3 * e)) (ap (λ (x : Aggregate). x .rate) (figure-same e lt))
+  place-same e zero lt h = rw (add-zero (ownNumbers * e)) (ap (λ (x : Aggregate). x .rate) (figure-same e lt))
   place-same e (suc zero) lt h = ap (λ (x : Aggregate). x .burst) (figure-same e lt)
   place-same e (suc (suc zero)) lt h = ap (λ (x : Aggregate). x .frame) (figure-same e lt)
   place-same e (suc (suc (suc k))) lt h = absurd (omega arith)

@@ -5,7 +5,7 @@ pub mod RemoveLaws
 pub mod RaiseLaws
 pub mod ClearLaws
 pub mod LoadLaws
-pub mod BoundLaws
+pub mod SizeLaws
 pub mod LinkLaws
 pub mod CheckLaws
 pub mod ChangeLaws

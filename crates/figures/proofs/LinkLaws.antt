@@ -58,12 +58,12 @@ module _ (table : List ℕ) where
   abbrev pub eightOf : (fs : List Flow) (link : ℕ) → List Aggregate
   eightOf fs i = model.levelAggregates t fs (i + 1) 1 (upTo levelsMost (queueAt table i))
 
-  figure-levels : (fs : List Flow) (sums : List ℕ) (i : ℕ) → i < linksMost → Figures t fs sums → eightOf fs i ≡ levelFigures sums i
+  figure-levels : (fs : List Flow) (figures : List ℕ) (i : ℕ) → i < linksMost → Figures t fs figures → eightOf fs i ≡ levelFigures figures i
   unfolding levelFigures
-  figure-levels fs sums i h figures =
+  figure-levels fs figures i h exact =
       levels-up t fs (i + 1) levelsMost (queueAt table i)
-      ∙ up-same levelsMost (λ p. model.aggregateAt t fs (record { link = i + 1; level = p + 1 })) (λ p. figureAt sums (entryAt i p))
-      (λ p lt. sym (figures .same (entryAt i p) (omega arith) ∙ ap (model.aggregateAt t fs) (entry-hop i p lt)))
+      ∙ up-same levelsMost (λ p. model.aggregateAt t fs (record { link = i + 1; level = p + 1 })) (λ p. figureAt figures (entryAt i p))
+      (λ p lt. sym (exact .same (entryAt i p) (omega arith) ∙ ap (model.aggregateAt t fs) (entry-hop i p lt)))
 
   -- Eight levels say what the link's own levels say.
   eight-levels : (fs : List Flow) (i speed bestEffort : ℕ) → i < linkCount table → levelsAt table i ≤ levelsMost → All (λ g. All (Named t) (g .path)) fs
@@ -86,13 +86,13 @@ module _ (table : List ℕ) where
       (sym (levels-length t fs (i + 1) 1 own)))
 
   -- The link of queue `e`.
-  module _ (e : ℕ) (named : isQueue table e ≡ true) (sums : List ℕ) where
+  module _ (e : ℕ) (named : isQueue table e ≡ true) (figures : List ℕ) where
     abbrev i : ℕ
     i = linkIn e
 
     -- The finding there, where the levels with the figures `own` at the queue are those of the flows.
-    pub hop-cause : WellFormed table → (fs : List Flow) → All (λ g. All (Named t) (g .path)) fs → (own : Aggregate) → eightOf fs i ≡ levelsWith sums e own
-        → causeAt t fs (hopAt e .link) (model.linkAt t (hopAt e .link)) ≡ causeWith table sums e own
+    pub hop-cause : WellFormed table → (fs : List Flow) → All (λ g. All (Named t) (g .path)) fs → (own : Aggregate) → eightOf fs i ≡ levelsWith figures e own
+        → causeAt t fs (hopAt e .link) (model.linkAt t (hopAt e .link)) ≡ causeWith table figures e own
     unfolding causeAt linkAt hopAt
     hop-cause well fs on own levels =
         let within = queue-within table e named in
@@ -111,57 +111,57 @@ module _ (table : List ℕ) where
       unfolding counted hopAt
       one-level = levels-more t f fs c 1 (levelIn e) (upTo levelsMost (queueAt table i)) (omega arith)
 
-      pub own-level : e < queuesMost → Figures t (f ∷ fs) sums → figureAt sums e ≡ withFlow
+      pub own-level : e < queuesMost → Figures t (f ∷ fs) figures → figureAt figures e ≡ withFlow
       unfolding counted model.levelAggregates
-      own-level low figures =
-          figures .same e low ∙ ap (λ l. getD l 0 noFlow) (levels-more t f fs c (hopAt e .level) 0 (queueAt table 0 0 ∷ []) (omega arith))
+      own-level low exact =
+          exact .same e low ∙ ap (λ l. getD l 0 noFlow) (levels-more t f fs c (hopAt e .level) 0 (queueAt table 0 0 ∷ []) (omega arith))
 
     few : WellFormed table → i < linksMost
     few well = omega (arith, queue-within table e named .0, well .few)
 
     module _ (well : WellFormed table) (fs : List Flow) {before after : List Hop} where
       -- A flow more.
-      pub levels-counted : Figures t fs sums → (f : Flow) → Crossed (f .path) before (hopAt e) after
-          → eightOf (f ∷ fs) i ≡ levelsWith sums e (countedAt (model.source f) sums e (growthSum t before))
+      pub levels-counted : Figures t fs figures → (f : Flow) → Crossed (f .path) before (hopAt e) after
+          → eightOf (f ∷ fs) i ≡ levelsWith figures e (countedAt (model.source f) figures e (growthSum t before))
       unfolding levelsWith
-      levels-counted figures f c =
+      levels-counted exact f c =
           one-level f fs c
-          ∙ ap₂ (λ (l : List Aggregate) (a : Aggregate). set l (levelIn e) (together a (model.grown (model.source f) (growthSum t before)))) (figure-levels fs sums i (few well) figures) (sym (figures .same e (queue-low table e named (well .few))))
+          ∙ ap₂ (λ (l : List Aggregate) (a : Aggregate). set l (levelIn e) (together a (model.grown (model.source f) (growthSum t before)))) (figure-levels fs figures i (few well) exact) (sym (exact .same e (queue-low table e named (well .few))))
 
       -- A flow in place of another with its largest frame.
-      pub levels-changed : (f : Flow) → Figures t (f ∷ fs) sums → (g : Flow) → f .frame ≡ g .frame
+      pub levels-changed : (f : Flow) → Figures t (f ∷ fs) figures → (g : Flow) → f .frame ≡ g .frame
           → Crossed (f .path) before (hopAt e) after
           → Crossed (g .path) before (hopAt e) after
-          → eightOf (g ∷ fs) i ≡ levelsWith sums e (changedAt (model.source f) (model.source g) sums e (growthSum t before))
+          → eightOf (g ∷ fs) i ≡ levelsWith figures e (changedAt (model.source f) (model.source g) figures e (growthSum t before))
       unfolding levelsWith
-      levels-changed f figures g same c d =
+      levels-changed f exact g same c d =
           let was : Aggregate = model.grown (model.source f) (growthSum t before) in
           let share : Aggregate = model.grown (model.source g) (growthSum t before) in
           let others : Aggregate = model.aggregateAt t fs (hopAt e) in
-          let own : replaced (figureAt sums e) was share ≡ together others share
-          = ap (λ a. replaced a was share) (own-level f fs c (queue-low table e named (well .few)) figures ∙ sym (shares-nothing (hopAt e) (together others was)))
+          let own : replaced (figureAt figures e) was share ≡ together others share
+          = ap (λ a. replaced a was share) (own-level f fs c (queue-low table e named (well .few)) exact ∙ sym (shares-nothing (hopAt e) (together others was)))
           ∙ replaced-own (model.sharesAt (hopAt e) []) others was share
           ∙ shares-nothing (hopAt e) (together others (keptFrame was share))
           ∙ ap (together others) (kept-same was share same) in
           one-level g fs d
           ∙ sym (set-set (eightOf fs i) (levelIn e) (withFlow f fs c) (withFlow g fs d))
-          ∙ ap₂ (λ (l : List Aggregate) (a : Aggregate). set l (levelIn e) a) (sym (one-level f fs c) ∙ figure-levels (f ∷ fs) sums i (few well) figures) (sym own)
+          ∙ ap₂ (λ (l : List Aggregate) (a : Aggregate). set l (levelIn e) a) (sym (one-level f fs c) ∙ figure-levels (f ∷ fs) figures i (few well) exact) (sym own)
 
   -- The finding at a link as the flows are.
-  module _ (well : WellFormed table) (fs : List Flow) (sums : List ℕ) (figures : Figures t fs sums) (on : All (λ g. All (Named t) (g .path)) fs) where
+  module _ (well : WellFormed table) (fs : List Flow) (figures : List ℕ) (exact : Figures t fs figures) (on : All (λ g. All (Named t) (g .path)) fs) where
     own-code : (i : ℕ) → i < linkCount table
         → linkFinding (linkAt table i .speed) (linkAt table i .bestEffort) (linkAt table i .levels) (model.levelAggregates t fs (i + 1) 1 (linkAt table i .levels)) .code
-        ≡ codeAt table sums i
+        ≡ codeAt table figures i
     unfolding linkAt
     own-code i h =
         ap (λ (w : Finding). w .code)
         (sym (eight-levels fs i (speedAt table i) (bestEffortAt table i) h (well .shallow i h) on)
-        ∙ ap (findingAt table i) (figure-levels fs sums i (omega (arith, well .few)) figures))
+        ∙ ap (findingAt table i) (figure-levels fs figures i (omega (arith, well .few)) exact))
 
-    pub meets-code : (i : ℕ) → i < linkCount table → LinkMeets t fs (i + 1) → codeAt table sums i ≡ 0
+    pub meets-code : (i : ℕ) → i < linkCount table → LinkMeets t fs (i + 1) → codeAt table figures i ≡ 0
     meets-code i h m = sym (own-code i h) ∙ m .meets (linkAt table i) (link-found table i h)
 
-    code-meets : (i : ℕ) → codeAt table sums i ≡ 0 → i < linkCount table → LinkMeets t fs (i + 1)
+    code-meets : (i : ℕ) → codeAt table figures i ≡ 0 → i < linkCount table → LinkMeets t fs (i + 1)
     code-meets i z h =
         record {
           meets = λ k e.
@@ -171,7 +171,7 @@ module _ (table : List ℕ) where
         }
 
     -- A number past the links names none.
-    pub codes-meet : ((i : ℕ) → i < linkCount table → codeAt table sums i ≡ 0) → (link : ℕ) → LinkMeets t fs link
+    pub codes-meet : ((i : ℕ) → i < linkCount table → codeAt table figures i ≡ 0) → (link : ℕ) → LinkMeets t fs link
     unfolding model.linkAt nth
     codes-meet z zero = record { meets = λ k e. absurd (Option·none-ne-some _ e) }
     codes-meet z (suc i) = go (decLt i (linkCount table))

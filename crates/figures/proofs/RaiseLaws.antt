@@ -18,7 +18,7 @@ use Rattle.model.specs.Aggregates.{sharesAt}
 use Rattle.model.specs.Laws.Aggregates.{hop-same}
 use Rattle.model.specs.Laws.Figures.{aggregate-alone}
 use Rattle.queue_table.specs.View.{hopAt}
-use Rattle.figures.specs.View.{sumNumbers, figureAt, raised, FrameRaised}
+use Rattle.figures.specs.View.{ownNumbers, burstPosition, framePosition, figureNumbers, figureAt, raised, FrameRaised}
 use Rattle.figures.proofs.EntryLaws.{other-entry}
 
 -- The largest frame that a hop at queue `x` has at queue `e`, and that the hops of a path have there.
@@ -56,80 +56,80 @@ raised-twice a m n = λ i. record { rate = a .rate; burst = a .burst; frame = mo
     most = omega arith
 
 -- The largest frame at queue `x` stored anew.
-module _ (sums : List ℕ) (x : ℕ) (inside : 3 * x + 2 < length sums) (frame : ℕ) where
-  figure-raised : {largest : ℕ} → max (getD sums (3 * x + 2) 0) frame ≡ largest → (e : ℕ) → Dec (e ≡ x)
-      → figureAt (set sums (3 * x + 2) largest) e ≡ raised (figureAt sums e) (hopFrame frame e x)
+module _ (figures : List ℕ) (x : ℕ) (inside : framePosition x < length figures) (frame : ℕ) where
+  figure-raised : {largest : ℕ} → max (getD figures (framePosition x) 0) frame ≡ largest → (e : ℕ) → Dec (e ≡ x)
+      → figureAt (set figures (framePosition x) largest) e ≡ raised (figureAt figures e) (hopFrame frame e x)
   unfolding figureAt raised
   figure-raised {largest} most e (yes same) =
       rw (same, hop-same (hopAt x) (hopAt x) refl)
       (λ i.
       record {
-        rate = getD-set-other sums (3 * x + 2) (3 * x) largest 0 (omega arith) i;
-        burst = getD-set-other sums (3 * x + 2) (3 * x + 1) largest 0 (omega arith) i;
-        frame = (getD-set-same sums (3 * x + 2) largest 0 inside ∙ sym most) i;
+        rate = getD-set-other figures (framePosition x) (ownNumbers * x) largest 0 (omega arith) i;
+        burst = getD-set-other figures (framePosition x) (burstPosition x) largest 0 (omega arith) i;
+        frame = (getD-set-same figures (framePosition x) largest 0 inside ∙ sym most) i;
       })
   figure-raised {largest} most e (no other) =
       rw (other-entry e x other)
       ((λ i.
       record {
-        rate = getD-set-other sums (3 * x + 2) (3 * e) largest 0 (omega arith) i;
-        burst = getD-set-other sums (3 * x + 2) (3 * e + 1) largest 0 (omega arith) i;
-        frame = getD-set-other sums (3 * x + 2) (3 * e + 2) largest 0 (omega arith) i;
+        rate = getD-set-other figures (framePosition x) (ownNumbers * e) largest 0 (omega arith) i;
+        burst = getD-set-other figures (framePosition x) (burstPosition e) largest 0 (omega arith) i;
+        frame = getD-set-other figures (framePosition x) (framePosition e) largest 0 (omega arith) i;
       })
-      ∙ sym (raised-none (figureAt sums e)))
+      ∙ sym (raised-none (figureAt figures e)))
 
-  raised-grows : getD sums (3 * x + 2) 0 < frame → (e : ℕ) → figureAt (set sums (3 * x + 2) frame) e ≡ raised (figureAt sums e) (hopFrame frame e x)
+  raised-grows : getD figures (framePosition x) 0 < frame → (e : ℕ) → figureAt (set figures (framePosition x) frame) e ≡ raised (figureAt figures e) (hopFrame frame e x)
   raised-grows lt e = figure-raised (omega arith) e (ℕ-discrete e x)
 
-  raised-stays : frame ≤ getD sums (3 * x + 2) 0 → (e : ℕ) → figureAt sums e ≡ raised (figureAt sums e) (hopFrame frame e x)
+  raised-stays : frame ≤ getD figures (framePosition x) 0 → (e : ℕ) → figureAt figures e ≡ raised (figureAt figures e) (hopFrame frame e x)
   raised-stays le e =
-      ap (λ l. figureAt l e) (sym (set-getD sums (3 * x + 2) 0)) ∙ figure-raised (omega arith) e (ℕ-discrete e x)
+      ap (λ l. figureAt l e) (sym (set-getD figures (framePosition x) 0)) ∙ figure-raised (omega arith) e (ℕ-discrete e x)
 
--- The figures so far, `sums`, with the hops from `i` on left.
-pub record Raising (frame : ℕ) (entries before sums : List ℕ) (i : ℕ) : Type 0 where
-  pub long : length sums ≡ sumNumbers
-  pub left : (e : ℕ) → raised (figureAt sums e) (frameAt frame (drop i entries) e) ≡ raised (figureAt before e) (frameAt frame entries e)
+-- The figures so far, `figures`, with the hops from `i` on left.
+pub record Raising (frame : ℕ) (entries before figures : List ℕ) (i : ℕ) : Type 0 where
+  pub long : length figures ≡ figureNumbers
+  pub left : (e : ℕ) → raised (figureAt figures e) (frameAt frame (drop i entries) e) ≡ raised (figureAt before e) (frameAt frame entries e)
 
 module _ (frame : ℕ) (entries before : List ℕ) where
-  pub raising-none : length before ≡ sumNumbers → Raising frame entries before before 0
+  pub raising-none : length before ≡ figureNumbers → Raising frame entries before before 0
   raising-none long = record { long = long; left = λ e. refl }
 
-  module _ {sums : List ℕ} {i : ℕ} (so-far : Raising frame entries before sums i) where
-    pub raising-all : length entries ≤ i → FrameRaised frame entries before sums
+  module _ {figures : List ℕ} {i : ℕ} (so-far : Raising frame entries before figures i) where
+    pub raising-all : length entries ≤ i → FrameRaised frame entries before figures
     unfolding largest
     raising-all end =
         record {
           long = so-far .long;
           same = λ t f is path e lt.
-              sym (raised-none (figureAt sums e))
-              ∙ sym (ap (λ l. raised (figureAt sums e) (frameAt frame l e)) (drop-of-length-le entries {i = i} end))
+              sym (raised-none (figureAt figures e))
+              ∙ sym (ap (λ l. raised (figureAt figures e) (frameAt frame l e)) (drop-of-length-le entries {i = i} end))
               ∙ so-far .left e
               ∙ ap (raised (figureAt before e)) (sym (frame-alone t f entries path e ∙ ap (λ m. frameAt m entries e) is));
         }
 
     -- The hop at `i` is raised, whose largest frame stands at `place`.
-    module _ (more : i < length entries) {place : ℕ} (there : (place ≡ 3 * getD entries i 0 + 2) × (place < sumNumbers)) where
+    module _ (more : i < length entries) {place : ℕ} (there : (place ≡ framePosition (getD entries i 0)) × (place < figureNumbers)) where
       abbrev x : ℕ
       x = getD entries i 0
 
-      next : {sums′ : List ℕ} → length sums′ ≡ sumNumbers → ((e : ℕ) → figureAt sums′ e ≡ raised (figureAt sums e) (hopFrame frame e x))
-          → Raising frame entries before sums′ (i + 1)
+      next : {figures′ : List ℕ} → length figures′ ≡ figureNumbers → ((e : ℕ) → figureAt figures′ e ≡ raised (figureAt figures e) (hopFrame frame e x))
+          → Raising frame entries before figures′ (i + 1)
       unfolding largest
-      next {sums′} long same =
+      next {figures′} long same =
           let hops : drop i entries ≡ x ∷ drop (i + 1) entries = rw add-one (drop-cons entries i 0 more) in
           record {
             long = long;
             left = λ e.
                 ap (λ a. raised a (frameAt frame (drop (i + 1) entries) e)) (same e)
-                ∙ raised-twice (figureAt sums e) (hopFrame frame e x) (frameAt frame (drop (i + 1) entries) e)
-                ∙ ap (λ l. raised (figureAt sums e) (frameAt frame l e)) (sym hops)
+                ∙ raised-twice (figureAt figures e) (hopFrame frame e x) (frameAt frame (drop (i + 1) entries) e)
+                ∙ ap (λ l. raised (figureAt figures e) (frameAt frame l e)) (sym hops)
                 ∙ so-far .left e;
           }
 
-      pub raising-grows : getD sums place 0 < frame → Raising frame entries before (set sums place frame) (i + 1)
+      pub raising-grows : getD figures place 0 < frame → Raising frame entries before (set figures place frame) (i + 1)
       raising-grows lt =
           rw (there .0)
-          (next (length-set sums (3 * x + 2) frame ∙ so-far .long) (raised-grows sums x (omega (arith, so-far .long, there)) frame (rw (there .0) at lt)))
+          (next (length-set figures (framePosition x) frame ∙ so-far .long) (raised-grows figures x (omega (arith, so-far .long, there)) frame (rw (there .0) at lt)))
 
-      pub raising-stays : frame ≤ getD sums place 0 → Raising frame entries before sums (i + 1)
-      raising-stays le = next (so-far .long) (raised-stays sums x (omega (arith, so-far .long, there)) frame (rw (there .0) at le))
+      pub raising-stays : frame ≤ getD figures place 0 → Raising frame entries before figures (i + 1)
+      raising-stays le = next (so-far .long) (raised-stays figures x (omega (arith, so-far .long, there)) frame (rw (there .0) at le))

@@ -18,28 +18,28 @@ use Rattle.model.specs.WithFlow.{together}
 use Rattle.model.specs.Laws.All.{all-getD}
 use Rattle.model.specs.Laws.Figures.{shares-carried}
 use Rattle.queue_table.specs.View.{tableOf, hopAt, AllQueues}
-use Rattle.figures.specs.View.{sumNumbers, figureAt, growthAt, figureStored, FlowOf, Figures, PathCounted, Carried, FrameLeft, no-flow, unknown, another, HopRemoved, Once, PathRemoved, Near}
+use Rattle.figures.specs.View.{ownNumbers, burstPosition, framePosition, figureNumbers, figureAt, growthAt, figureStored, FlowOf, Figures, PathCounted, Carried, FrameLeft, no-flow, unknown, another, HopRemoved, Once, PathRemoved, Near}
 use Rattle.figures.proofs.FigureLaws.{stored-length, stored-here, stored-other, frame-stored, frame-kept}
 use Rattle.figures.proofs.EntryLaws.{leftAt, left-whole, left-none, left-here, left-other}
 
 -- The stores that take a flow out at a queue.
-module _ (sums : List ℕ) (e : ℕ) (share : Aggregate) (counted : (share .rate ≤ figureAt sums e .rate) × (share .burst ≤ figureAt sums e .burst)) where
+module _ (figures : List ℕ) (e : ℕ) (share : Aggregate) (counted : (share .rate ≤ figureAt figures e .rate) × (share .burst ≤ figureAt figures e .burst)) where
   abbrev rates : ℕ
-  rates = getD sums (3 * e) 0 - share .rate
+  rates = getD figures (ownNumbers * e) 0 - share .rate
 
   abbrev bursts : ℕ
-  bursts = getD sums (3 * e + 1) 0 - share .burst
+  bursts = getD figures (burstPosition e) 0 - share .burst
 
   abbrev sumsLess : List ℕ
-  sumsLess = set (set sums (3 * e) rates) (3 * e + 1) bursts
+  sumsLess = set (set figures (ownNumbers * e) rates) (burstPosition e) bursts
 
-  less : (largest : ℕ) {sums′ : List ℕ} {again : Bool} → sums′ ≡ figureStored sums e (record { rate = rates; burst = bursts; frame = largest })
-      → FrameLeft rates (share .frame) (getD sums (3 * e + 2) 0) largest again
-      → HopRemoved share sums e sums′ again
+  less : (largest : ℕ) {figures′ : List ℕ} {again : Bool} → figures′ ≡ figureStored figures e (record { rate = rates; burst = bursts; frame = largest })
+      → FrameLeft rates (share .frame) (getD figures (framePosition e) 0) largest again
+      → HopRemoved share figures e figures′ again
   unfolding figureAt
   less largest stored left =
-      let r : share .rate ≤ getD sums (3 * e) 0 = counted .0 in
-      let b : share .burst ≤ getD sums (3 * e + 1) 0 = counted .1 in
+      let r : share .rate ≤ getD figures (ownNumbers * e) 0 = counted .0 in
+      let b : share .burst ≤ getD figures (burstPosition e) 0 = counted .1 in
       record {
         left = record { rate = rates; burst = bursts; frame = largest };
         stored = stored;
@@ -48,31 +48,31 @@ module _ (sums : List ℕ) (e : ℕ) (share : Aggregate) (counted : (share .rate
         frame-left = left;
       }
 
-  pub less-none : rates ≡ 0 → HopRemoved share sums e (set sumsLess (3 * e + 2) 0) false
-  less-none z = less 0 (frame-stored sums e rates bursts 0) (no-flow refl z refl)
+  pub less-none : rates ≡ 0 → HopRemoved share figures e (set sumsLess (framePosition e) 0) false
+  less-none z = less 0 (frame-stored figures e rates bursts 0) (no-flow refl z refl)
 
-  pub less-own : (rates ≡ 0 → ⊥) → getD sums (3 * e + 2) 0 ≤ share .frame → HopRemoved share sums e (set sumsLess (3 * e + 2) 0) true
-  less-own some le = less 0 (frame-stored sums e rates bursts 0) (unknown refl (omega (arith, some)) le refl)
+  pub less-own : (rates ≡ 0 → ⊥) → getD figures (framePosition e) 0 ≤ share .frame → HopRemoved share figures e (set sumsLess (framePosition e) 0) true
+  less-own some le = less 0 (frame-stored figures e rates bursts 0) (unknown refl (omega (arith, some)) le refl)
 
-  pub less-kept : (rates ≡ 0 → ⊥) → share .frame < getD sums (3 * e + 2) 0 → HopRemoved share sums e sumsLess false
-  less-kept some lt = less (getD sums (3 * e + 2) 0) (frame-kept sums e rates bursts) (another refl (omega (arith, some)) lt refl)
+  pub less-kept : (rates ≡ 0 → ⊥) → share .frame < getD figures (framePosition e) 0 → HopRemoved share figures e sumsLess false
+  less-kept some lt = less (getD figures (framePosition e) 0) (frame-kept figures e rates bursts) (another refl (omega (arith, some)) lt refl)
 
 -- The queue at this index of the path has flows left, and its largest frame must be raised.
-abbrev MustRaise : (entries sums : List ℕ) (j : ℕ) → Type 0
-MustRaise entries sums j = (j < length entries) × (1 ≤ figureAt sums (getD entries j 0) .rate) × (figureAt sums (getD entries j 0) .frame ≡ 0)
+abbrev MustRaise : (entries figures : List ℕ) (j : ℕ) → Type 0
+MustRaise entries figures j = (j < length entries) × (1 ≤ figureAt figures (getD entries j 0) .rate) × (figureAt figures (getD entries j 0) .frame ≡ 0)
 
--- The figures so far, `sums`, with the hops from `i` on left, before which S is `sum`.
-pub record Removing (share : Aggregate) (table entries before sums : List ℕ) (sum i : ℕ) (again : Bool) : Type 0 where
-  pub long : length sums ≡ sumNumbers
+-- The figures so far, `figures`, with the hops from `i` on left, before which S is `sum`.
+pub record Removing (share : Aggregate) (table entries before figures : List ℕ) (sum i : ℕ) (again : Bool) : Type 0 where
+  pub long : length figures ≡ figureNumbers
   pub sum-below : sum ≤ i * 100000
   pub left : (f : Flow) (fs : List Flow) → AllQueues table entries → FlowOf share entries f → Figures (tableOf table) (f ∷ fs) before
       → (e : ℕ) → e < queuesMost
-      → Near ((1 ≤ share .rate) × Carried (tableOf table) fs × (again ≡ false)) (figureAt sums e)
+      → Near ((1 ≤ share .rate) × Carried (tableOf table) fs × (again ≡ false)) (figureAt figures e)
       (together (leftAt table f sum i e) (model.aggregateAt (tableOf table) fs (hopAt e)))
-  pub others : (e : ℕ) → All (λ x. e ≡ x → ⊥) entries → figureAt sums e ≡ figureAt before e
-  pub kept : (e : ℕ) → 1 ≤ figureAt sums e .rate → share .frame < figureAt before e .frame → figureAt sums e .frame ≡ figureAt before e .frame
+  pub others : (e : ℕ) → All (λ x. e ≡ x → ⊥) entries → figureAt figures e ≡ figureAt before e
+  pub kept : (e : ℕ) → 1 ≤ figureAt figures e .rate → share .frame < figureAt before e .frame → figureAt figures e .frame ≡ figureAt before e .frame
   pub must : again ≡ true → Once entries
-      → (j : ℕ) × (j < i) × MustRaise entries sums j
+      → (j : ℕ) × (j < i) × MustRaise entries figures j
 
 near-same : {sure : Type 0} {a b : Aggregate} → a ≡ b → Near sure a b
 near-same {a = a} {b = b} e = record { rate = rates; burst = ap (λ (x : Aggregate). x .burst) e; low = omega (arith, frames); frame = λ s. frames }
@@ -117,24 +117,24 @@ module _ (share : Aggregate) (table entries before : List ℕ) where
   abbrev t : Table
   t = tableOf table
 
-  pub removing-none : length before ≡ sumNumbers → Removing share table entries before before 0 0 false
+  pub removing-none : length before ≡ figureNumbers → Removing share table entries before before 0 0 false
   removing-none long =
       record {
         long = long;
         sum-below = omega arith;
-        left = λ f fs named is figures e lt. near-same (figures .same e lt ∙ left-whole table f fs e);
+        left = λ f fs named is exact e lt. near-same (exact .same e lt ∙ left-whole table f fs e);
         others = λ e off. refl;
         kept = λ e some lt. refl;
         must = λ again once. absurd (true≢false (sym again));
       }
 
-  module _ {sums : List ℕ} {sum i : ℕ} {again : Bool} (so-far : Removing share table entries before sums sum i again) where
-    pub removing-all : length entries ≤ i → PathRemoved share table entries before sums again
+  module _ {figures : List ℕ} {sum i : ℕ} {again : Bool} (so-far : Removing share table entries before figures sum i again) where
+    pub removing-all : length entries ≤ i → PathRemoved share table entries before figures again
     removing-all end =
         record {
           long = so-far .long;
-          left = λ f fs named is figures one carried e lt.
-              let near = subst (Near ((1 ≤ share .rate) × Carried t fs × (again ≡ false)) (figureAt sums e)) (left-none is table sum i end e (model.aggregateAt t fs (hopAt e))) (so-far .left f fs named is figures e lt) in
+          left = λ f fs named is exact one carried e lt.
+              let near = subst (Near ((1 ≤ share .rate) × Carried t fs × (again ≡ false)) (figureAt figures e)) (left-none is table sum i end e (model.aggregateAt t fs (hopAt e))) (so-far .left f fs named is exact e lt) in
               record { rate = near .rate; burst = near .burst; low = near .low; frame = λ known. near .frame (one, carried, known) };
           others = so-far .others;
           kept = so-far .kept;
@@ -148,7 +148,7 @@ module _ (share : Aggregate) (table entries before : List ℕ) where
       abbrev there : Aggregate
       there = model.grown share sum
 
-      module _ (f : Flow) (fs : List Flow) (named : AllQueues table entries) (is : FlowOf share entries f) (figures : Figures t (f ∷ fs) before) where
+      module _ (f : Flow) (fs : List Flow) (named : AllQueues table entries) (is : FlowOf share entries f) (exact : Figures t (f ∷ fs) before) where
         abbrev past : ℕ
         past = sum + growthAt table x
 
@@ -158,11 +158,11 @@ module _ (share : Aggregate) (table entries before : List ℕ) where
         abbrev Sure : Bool → Type 0
         Sure again = (1 ≤ share .rate) × Carried t fs × (again ≡ false)
 
-        left-here-now : Near (Sure again) (figureAt sums x) (together (rest x) (together (model.aggregateAt t fs (hopAt x)) there))
+        left-here-now : Near (Sure again) (figureAt figures x) (together (rest x) (together (model.aggregateAt t fs (hopAt x)) there))
         left-here-now =
-            subst (Near (Sure again) (figureAt sums x)) (left-here is table sum i named more (model.aggregateAt t fs (hopAt x))) (so-far .left f fs named is figures x e₁)
+            subst (Near (Sure again) (figureAt figures x)) (left-here is table sum i named more (model.aggregateAt t fs (hopAt x))) (so-far .left f fs named is exact x e₁)
 
-        here-room : (there .rate ≤ figureAt sums x .rate) × (there .burst ≤ figureAt sums x .burst)
+        here-room : (there .rate ≤ figureAt figures x .rate) × (there .burst ≤ figureAt figures x .burst)
         unfolding together
         here-room = (omega (arith, left-here-now .rate), omega (arith, left-here-now .burst))
 
@@ -175,53 +175,53 @@ module _ (share : Aggregate) (table entries before : List ℕ) where
               carried (hopAt x) (omega arith),
             )
 
-        module _ {sums′ : List ℕ} {own again′ : Bool} (removed : HopRemoved there sums x sums′ own) (both : again′ ≡ false → (again ≡ false) × (own ≡ false)) where
+        module _ {figures′ : List ℕ} {own again′ : Bool} (removed : HopRemoved there figures x figures′ own) (both : again′ ≡ false → (again ≡ false) × (own ≡ false)) where
           step : (e : ℕ) → e < queuesMost → Dec (e ≡ x)
-              → Near (Sure again′) (figureAt sums′ e) (together (rest e) (model.aggregateAt t fs (hopAt e)))
+              → Near (Sure again′) (figureAt figures′ e) (together (rest e) (model.aggregateAt t fs (hopAt e)))
           step e lt (yes same) =
-              rw (same, removed .stored, stored-here sums x (removed .left) (omega (arith, so-far .long)))
-              (taken-out there (figureAt sums x) (removed .left) (rest x) (model.aggregateAt t fs (hopAt x))
+              rw (same, removed .stored, stored-here figures x (removed .left) (omega (arith, so-far .long)))
+              (taken-out there (figureAt figures x) (removed .left) (rest x) (model.aggregateAt t fs (hopAt x))
               (removed .rate-left) (removed .burst-left) left-here-now
               (λ s. let no = both (s .2) in ((s .0, s .1, no .0), no .1, none-left (s .0) (s .1))) (removed .frame-left))
           step e lt (no other) =
-              rw (removed .stored, stored-other sums x (removed .left) e other)
+              rw (removed .stored, stored-other figures x (removed .left) e other)
               (near-less (λ s. (s .0, s .1, both (s .2) .0))
-              (subst (λ a. Near (Sure again) (figureAt sums e) (together a (model.aggregateAt t fs (hopAt e))))
-              (left-other is table sum i named more e other) (so-far .left f fs named is figures e lt)))
+              (subst (λ a. Near (Sure again) (figureAt figures e) (together a (model.aggregateAt t fs (hopAt e))))
+              (left-other is table sum i named more e other) (so-far .left f fs named is exact e lt)))
 
       -- The flow is counted in at the hop.
       pub removing-room : PathCounted share table entries before → {own : Aggregate} → own ≡ there
-          → (own .rate ≤ figureAt sums x .rate) × (own .burst ≤ figureAt sums x .burst)
+          → (own .rate ≤ figureAt figures x .rate) × (own .burst ≤ figureAt figures x .burst)
       removing-room counted own-is =
-          rw own-is (here-room (counted .f) (counted .fs) (counted .named) (counted .is) (counted .figures))
+          rw own-is (here-room (counted .f) (counted .fs) (counted .named) (counted .is) (counted .exact))
 
-      module _ {sums′ : List ℕ} {own : Bool} (removed : HopRemoved there sums x sums′ own) where
+      module _ {figures′ : List ℕ} {own : Bool} (removed : HopRemoved there figures x figures′ own) where
         abbrev left : Aggregate
         left = removed .left
 
-        at-hop : figureAt sums′ x ≡ left
-        at-hop = ap (λ l. figureAt l x) (removed .stored) ∙ stored-here sums x left (omega (arith, so-far .long))
+        at-hop : figureAt figures′ x ≡ left
+        at-hop = ap (λ l. figureAt l x) (removed .stored) ∙ stored-here figures x left (omega (arith, so-far .long))
 
-        elsewhere : (e : ℕ) → (e ≡ x → ⊥) → figureAt sums′ e ≡ figureAt sums e
-        elsewhere e other = ap (λ l. figureAt l e) (removed .stored) ∙ stored-other sums x left e other
+        elsewhere : (e : ℕ) → (e ≡ x → ⊥) → figureAt figures′ e ≡ figureAt figures e
+        elsewhere e other = ap (λ l. figureAt l e) (removed .stored) ∙ stored-other figures x left e other
 
-        hop-kept : FrameLeft (left .rate) (share .frame) (figureAt sums x .frame) (left .frame) own
+        hop-kept : FrameLeft (left .rate) (share .frame) (figureAt figures x .frame) (left .frame) own
             → 1 ≤ left .rate → share .frame < figureAt before x .frame → left .frame ≡ figureAt before x .frame
         hop-kept (no-flow o z l) some lt = absurd (omega (arith, z))
         hop-kept (another o some₁ lt₁ l) some lt = l ∙ so-far .kept x (omega (arith, removed .rate-left)) lt
         hop-kept (unknown o some₁ le l) some lt = absurd (omega (arith, le, so-far .kept x (omega (arith, removed .rate-left)) lt))
 
-        step-kept : (e : ℕ) → Dec (e ≡ x) → 1 ≤ figureAt sums′ e .rate → share .frame < figureAt before e .frame → figureAt sums′ e .frame ≡ figureAt before e .frame
+        step-kept : (e : ℕ) → Dec (e ≡ x) → 1 ≤ figureAt figures′ e .rate → share .frame < figureAt before e .frame → figureAt figures′ e .frame ≡ figureAt before e .frame
         step-kept e (yes same) some lt =
             rw (same, at-hop) (hop-kept (removed .frame-left) (rw (same, at-hop) at some) (rw same at lt))
         step-kept e (no other) some lt = rw (elsewhere e other) (so-far .kept e (rw (elsewhere e other) at some) lt)
 
-        hop-must : FrameLeft (left .rate) (share .frame) (figureAt sums x .frame) (left .frame) own → own ≡ true → MustRaise entries sums′ i
+        hop-must : FrameLeft (left .rate) (share .frame) (figureAt figures x .frame) (left .frame) own → own ≡ true → MustRaise entries figures′ i
         hop-must (no-flow o z l) raise = absurd (true≢false (sym raise ∙ o))
         hop-must (another o some lt l) raise = absurd (true≢false (sym raise ∙ o))
         hop-must (unknown o some le l) raise = rw at-hop (more, some, l)
 
-        step-must : {again′ : Bool} → (again′ ≡ true → (again ≡ true) ⊎ (own ≡ true)) → again′ ≡ true → Once entries → (j : ℕ) × (j < i + 1) × MustRaise entries sums′ j
+        step-must : {again′ : Bool} → (again′ ≡ true → (again ≡ true) ⊎ (own ≡ true)) → again′ ≡ true → Once entries → (j : ℕ) × (j < i + 1) × MustRaise entries figures′ j
         step-must from raise once =
             ⊎-elim
             (λ earlier.
@@ -231,22 +231,22 @@ module _ (share : Aggregate) (table entries before : List ℕ) where
             (from raise)
 
       -- The flow is taken out at the hop.
-      pub removing-next : (low : growthAt table x ≤ 100000) {share′ : Aggregate} {past : ℕ} {sums′ : List ℕ} {own again′ : Bool}
+      pub removing-next : (low : growthAt table x ≤ 100000) {share′ : Aggregate} {past : ℕ} {figures′ : List ℕ} {own again′ : Bool}
           → share′ ≡ there → past ≡ sum + growthAt table x
-          → HopRemoved share′ sums x sums′ own
+          → HopRemoved share′ figures x figures′ own
           → (again′ ≡ false → (again ≡ false) × (own ≡ false))
           → (again′ ≡ true → (again ≡ true) ⊎ (own ≡ true))
-          → Removing share table entries before sums′ past (i + 1) again′
-      removing-next low {sums′ = sums′} {own = own} same past-is removed both from =
-          let now = subst (λ (a : Aggregate). HopRemoved a sums x sums′ own) same removed in
+          → Removing share table entries before figures′ past (i + 1) again′
+      removing-next low {figures′ = figures′} {own = own} same past-is removed both from =
+          let now = subst (λ (a : Aggregate). HopRemoved a figures x figures′ own) same removed in
           rw past-is
           (record {
-            long = ap length (removed .stored) ∙ stored-length sums x (removed .left) ∙ so-far .long;
+            long = ap length (removed .stored) ∙ stored-length figures x (removed .left) ∙ so-far .long;
             sum-below = omega (arith, so-far .sum-below);
-            left = λ f fs named is figures e lt. step f fs named is figures now both e lt (ℕ-discrete e x);
+            left = λ f fs named is exact e lt. step f fs named is exact now both e lt (ℕ-discrete e x);
             others = λ e off.
                 ap (λ l. figureAt l e) (removed .stored)
-                ∙ stored-other sums x (removed .left) e (all-getD (λ d. e ≡ d → ⊥) entries i 0 off more)
+                ∙ stored-other figures x (removed .left) e (all-getD (λ d. e ≡ d → ⊥) entries i 0 off more)
                 ∙ so-far .others e off;
             kept = λ e. step-kept now e (ℕ-discrete e x);
             must = step-must now from;

@@ -4,13 +4,14 @@ ghost use mathlib.Core.Path.{_≡_};
 ghost use Prim.Native.Nat.{_+_, _≤_, _<_};
 ghost use lib.ListN.{length};
 ghost use lib.Dec.{eqb};
+ghost use Rattle.model.specs.Words.{All};
 ghost use Rattle.model.specs.Sizes.{linksMost, levelsMost, queuesMost};
 ghost use Rattle.model.specs.Reference.{linkCause};
 ghost use Rattle.units.specs.View.{aggregateOf, AtSource};
 ghost use Rattle.queue_table.specs.View.{upTo, tableNumbers, linkIn, speedAt, queueAt, WellFormed};
 ghost use Rattle.causes.specs.View.{findingOf};
-ghost use Rattle.link_check.specs.View.{aggregatesOf, queuesOf};
-ghost use Rattle.figures.specs.View.{Summable, LevelBounded, Hops, Bounded, Speeds, OnTable, PathCounted, findingAt, causeWith, PathChecked, ChangeChecked, codeAt, LinkSpeeds, LinksMet};
+ghost use Rattle.link_check.specs.View.{aggregatesOf, queuesOf, Narrow};
+ghost use Rattle.figures.specs.View.{Summable, LimitedLevel, Hops, Limited, Speeds, OnTable, PathCounted, findingAt, causeWith, PathChecked, ChangeChecked, codeAt, LinkSpeeds, LinksMet};
 use crate::link_levels;
 use crate::shares::changed_at;
 use crate::shares::counted_at;
@@ -31,7 +32,7 @@ use units::Micros;
 // The queues of a link's eight levels, the link counted from 0.
 fn link_queues(link: usize, table: &[u32]) -> [Queue; LEVELS]
     requires { ⌜ (link < linksMost) × (length (now table) ≡ tableNumbers) ⌝ }
-    ensures { λ r. ⌜ queuesOf r ≡ upTo levelsMost (queueAt (now (table .entry)) link) ⌝ }
+    ensures { λ r. ⌜ (queuesOf r ≡ upTo levelsMost (queueAt (now (table .entry)) link)) × All Narrow r ⌝ }
 {
     let mut queues = [Queue {
         threshold: Micros(0),
@@ -65,14 +66,14 @@ fn find_on(link: usize, levels: [Aggregate; LEVELS], table: &[u32]) -> Finding
 }
 
 // The check of the link of queue e, with these figures there.
-fn check_hop(e: usize, own: Aggregate, table: &[u32], sums: &[u64]) -> Finding
-    requires { ⌜ (e < queuesMost) × ((length (now table) ≡ tableNumbers) × Bounded (now sums)) ⌝ }
+fn check_hop(e: usize, own: Aggregate, table: &[u32], figures: &[u64]) -> Finding
+    requires { ⌜ (e < queuesMost) × ((length (now table) ≡ tableNumbers) × Limited (now figures)) ⌝ }
     requires { ⌜ speedAt (now table) (linkIn e) ≤ 10000 ⌝ }
-    requires { ⌜ LevelBounded (aggregateOf own) ⌝ }
-    ensures { λ r. ⌜ findingOf r ≡ causeWith (now (table .entry)) (now (sums .entry)) e (aggregateOf own) ⌝ }
+    requires { ⌜ LimitedLevel (aggregateOf own) ⌝ }
+    ensures { λ r. ⌜ findingOf r ≡ causeWith (now (table .entry)) (now (figures .entry)) e (aggregateOf own) ⌝ }
 {
     let link = link_of(e);
-    let mut levels = link_levels(link, sums);
+    let mut levels = link_levels(link, figures);
     levels[level_of(e)] = own;
     find_on(link, levels, table)
 }
@@ -80,18 +81,18 @@ fn check_hop(e: usize, own: Aggregate, table: &[u32], sums: &[u64]) -> Finding
 // The links of a path one by one, with the flow counted in at its level and with its share there: 21 for the link, then
 // level by level 22 before 23. The answer is free where the path meets a link twice or leaves the table, or where the
 // figures are no flows' on the table.
-pub fn check_links(share: Aggregate, table: &[u32], sums: &[u64], entries: &[u32]) -> Finding
+pub fn check_links(share: Aggregate, table: &[u32], figures: &[u64], entries: &[u32]) -> Finding
     requires { ⌜ AtSource (aggregateOf share) ⌝ }
     requires { ⌜ Hops (now table) (now entries) ⌝ }
-    requires { ⌜ Speeds (now table) (now entries) × Bounded (now sums) ⌝ }
-    ensures { λ r. ⌜ PathChecked (aggregateOf share) (now (table .entry)) (now (sums .entry)) (now (entries .entry)) r ⌝ }
+    requires { ⌜ Speeds (now table) (now entries) × Limited (now figures) ⌝ }
+    ensures { λ r. ⌜ PathChecked (aggregateOf share) (now (table .entry)) (now (figures .entry)) (now (entries .entry)) r ⌝ }
 {
     let mut sum = Micros(0);
     let mut i = 0;
     while i < entries.len() {
         let e = entries[i] as usize;
-        let there = counted_at(share, sum, e, table, sums);
-        let found = check_hop(e, there.own, table, sums);
+        let there = counted_at(share, sum, e, table, figures);
+        let found = check_hop(e, there.own, table, figures);
         let Finding::Nothing = found else {
             return found;
         };
@@ -106,21 +107,21 @@ pub fn check_change(
     was: Aggregate,
     share: Aggregate,
     table: &[u32],
-    sums: &[u64],
+    figures: &[u64],
     entries: &[u32],
 ) -> Finding
     requires { ⌜ AtSource (aggregateOf was) × AtSource (aggregateOf share) ⌝ }
     requires { ⌜ Hops (now table) (now entries) ⌝ }
-    requires { ⌜ Speeds (now table) (now entries) × Bounded (now sums) ⌝ }
-    requires { ⌜ OnTable (now table) (now entries) × PathCounted (aggregateOf was) (now table) (now entries) (now sums) ⌝ }
-    ensures { λ r. ⌜ ChangeChecked (aggregateOf was) (aggregateOf share) (now (table .entry)) (now (sums .entry)) (now (entries .entry)) r ⌝ }
+    requires { ⌜ Speeds (now table) (now entries) × Limited (now figures) ⌝ }
+    requires { ⌜ OnTable (now table) (now entries) × PathCounted (aggregateOf was) (now table) (now entries) (now figures) ⌝ }
+    ensures { λ r. ⌜ ChangeChecked (aggregateOf was) (aggregateOf share) (now (table .entry)) (now (figures .entry)) (now (entries .entry)) r ⌝ }
 {
     let mut sum = Micros(0);
     let mut i = 0;
     while i < entries.len() {
         let e = entries[i] as usize;
-        let there = changed_at(was, share, sum, e, table, sums);
-        let found = check_hop(e, there.own, table, sums);
+        let there = changed_at(was, share, sum, e, table, figures);
+        let found = check_hop(e, there.own, table, figures);
         let Finding::Nothing = found else {
             return found;
         };
@@ -131,12 +132,12 @@ pub fn check_change(
 }
 
 // Whether a link, counted from 0, meets 21 to 23 with these figures.
-fn link_meets(link: usize, table: &[u32], sums: &[u64]) -> bool
-    requires { ⌜ (link < linksMost) × ((length (now table) ≡ tableNumbers) × Bounded (now sums)) ⌝ }
+fn link_meets(link: usize, table: &[u32], figures: &[u64]) -> bool
+    requires { ⌜ (link < linksMost) × ((length (now table) ≡ tableNumbers) × Limited (now figures)) ⌝ }
     requires { ⌜ speedAt (now table) link ≤ 10000 ⌝ }
-    ensures { λ r. ⌜ r ≡ eqb (codeAt (now (table .entry)) (now (sums .entry)) link) 0 ⌝ }
+    ensures { λ r. ⌜ r ≡ eqb (codeAt (now (table .entry)) (now (figures .entry)) link) 0 ⌝ }
 {
-    let levels = link_levels(link, sums);
+    let levels = link_levels(link, figures);
     let found = find_on(link, levels, table);
     match found {
         Finding::Nothing => true,
@@ -145,15 +146,15 @@ fn link_meets(link: usize, table: &[u32], sums: &[u64]) -> bool
 }
 
 // Whether every link meets 21 to 23 with these figures. The answer is free where they are no flows' on the table.
-pub fn links_meet(table: &[u32], sums: &[u64]) -> bool
-    requires { ⌜ WellFormed (now table) × Bounded (now sums) ⌝ }
+pub fn links_meet(table: &[u32], figures: &[u64]) -> bool
+    requires { ⌜ WellFormed (now table) × Limited (now figures) ⌝ }
     requires { ⌜ LinkSpeeds (now table) ⌝ }
-    ensures { λ r. ⌜ LinksMet (now (table .entry)) (now (sums .entry)) r ⌝ }
+    ensures { λ r. ⌜ LinksMet (now (table .entry)) (now (figures .entry)) r ⌝ }
 {
     let n = link_count(table);
     let mut i = 0;
     while i < n {
-        if !link_meets(i, table, sums) {
+        if !link_meets(i, table, figures) {
             return false;
         }
         i += 1;

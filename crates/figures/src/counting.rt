@@ -7,8 +7,10 @@ ghost use Rattle.model.specs.Words.{All};
 ghost use Rattle.model.specs.Sizes.{queuesMost};
 ghost use Rattle.model.specs.WithFlow.{together};
 ghost use Rattle.units.specs.View.{aggregateOf, AtSource};
-ghost use Rattle.figures.specs.View.{figureNumbers, sumNumbers, figureAt, Below, ShareBounded, figureStored, Hops, PathAdded, PathCounted, PathChanged, HopRemoved, PathRemoved, FrameRaised};
-use crate::FIGURE_NUMBERS;
+ghost use Rattle.figures.specs.View.{framePosition, figureNumbers, figureAt, Below, LimitedShare, figureStored, Hops, PathAdded, PathCounted, PathChanged, HopRemoved, PathRemoved, FrameRaised};
+use crate::BURST;
+use crate::FRAME;
+use crate::OWN_NUMBERS;
 use crate::shares::changed_at;
 use crate::shares::share_at;
 use units::Aggregate;
@@ -16,49 +18,49 @@ use units::Bytes;
 use units::Micros;
 
 // Counts a flow in at queue e, with its share there.
-fn add_hop(e: usize, share: Aggregate, sums: &mut [u64])
-    requires { ⌜ (e < queuesMost) × ((length (now sums) ≡ sumNumbers) × Below (2 ^ 63) (now sums)) ⌝ }
-    requires { ⌜ ShareBounded (aggregateOf share) ⌝ }
-    ensures { λ _. ⌜ now (sums .exit) ≡ figureStored (now (sums .entry)) e (together (figureAt (now (sums .entry)) e) (aggregateOf share)) ⌝ }
+fn add_hop(e: usize, share: Aggregate, figures: &mut [u64])
+    requires { ⌜ (e < queuesMost) × ((length (now figures) ≡ figureNumbers) × Below (2 ^ 63) (now figures)) ⌝ }
+    requires { ⌜ LimitedShare (aggregateOf share) ⌝ }
+    ensures { λ _. ⌜ now (figures .exit) ≡ figureStored (now (figures .entry)) e (together (figureAt (now (figures .entry)) e) (aggregateOf share)) ⌝ }
 {
-    let at = FIGURE_NUMBERS * e;
+    let at = OWN_NUMBERS * e;
     let frame = share.frame;
-    let rates = sums[at] + share.rate.0;
-    let bursts = sums[at + 1] + share.burst.0;
-    let largest = sums[at + 2];
-    sums[at] = rates;
-    sums[at + 1] = bursts;
+    let rates = figures[at] + share.rate.0;
+    let bursts = figures[at + BURST] + share.burst.0;
+    let largest = figures[at + FRAME];
+    figures[at] = rates;
+    figures[at + BURST] = bursts;
     if largest < frame.0 {
-        sums[at + 2] = frame.0;
+        figures[at + FRAME] = frame.0;
     }
 }
 
 // Counts a flow in at each queue of its path.
-pub fn add_path(share: Aggregate, table: &[u32], entries: &[u32], sums: &mut [u64])
+pub fn add_path(share: Aggregate, table: &[u32], entries: &[u32], figures: &mut [u64])
     requires { ⌜ AtSource (aggregateOf share) ⌝ }
     requires { ⌜ Hops (now table) (now entries) ⌝ }
-    requires { ⌜ (length (now sums) ≡ sumNumbers) × Below (2 ^ 62) (now sums) ⌝ }
-    ensures { λ _. ⌜ PathAdded (aggregateOf share) (now (table .entry)) (now (entries .entry)) (now (sums .entry)) (now (sums .exit)) ⌝ }
+    requires { ⌜ (length (now figures) ≡ figureNumbers) × Below (2 ^ 62) (now figures) ⌝ }
+    ensures { λ _. ⌜ PathAdded (aggregateOf share) (now (table .entry)) (now (entries .entry)) (now (figures .entry)) (now (figures .exit)) ⌝ }
 {
     let mut sum = Micros(0);
     let mut i = 0;
     while i < entries.len() {
         let e = entries[i] as usize;
         let there = share_at(share, sum, e, table);
-        add_hop(e, there.share, sums);
+        add_hop(e, there.share, figures);
         sum = there.past;
         i += 1;
     }
 }
 
 // Stores the figures of queue e.
-fn store_hop(e: usize, own: Aggregate, sums: &mut [u64])
-    requires { ⌜ (e < queuesMost) × (length (now sums) ≡ sumNumbers) ⌝ }
-    ensures { λ _. ⌜ now (sums .exit) ≡ figureStored (now (sums .entry)) e (aggregateOf own) ⌝ }
+fn store_hop(e: usize, own: Aggregate, figures: &mut [u64])
+    requires { ⌜ (e < queuesMost) × (length (now figures) ≡ figureNumbers) ⌝ }
+    ensures { λ _. ⌜ now (figures .exit) ≡ figureStored (now (figures .entry)) e (aggregateOf own) ⌝ }
 {
-    sums[FIGURE_NUMBERS * e] = own.rate.0;
-    sums[FIGURE_NUMBERS * e + 1] = own.burst.0;
-    sums[FIGURE_NUMBERS * e + 2] = own.frame.0;
+    figures[OWN_NUMBERS * e] = own.rate.0;
+    figures[OWN_NUMBERS * e + BURST] = own.burst.0;
+    figures[OWN_NUMBERS * e + FRAME] = own.frame.0;
 }
 
 // Counts a flow by `share` in place of `was` at each queue of its path. Largest frames stay.
@@ -67,55 +69,55 @@ pub fn change_path(
     share: Aggregate,
     table: &[u32],
     entries: &[u32],
-    sums: &mut [u64],
+    figures: &mut [u64],
 )
     requires { ⌜ AtSource (aggregateOf was) × AtSource (aggregateOf share) ⌝ }
     requires { ⌜ Hops (now table) (now entries) ⌝ }
-    requires { ⌜ Below (2 ^ 62) (now sums) × PathCounted (aggregateOf was) (now table) (now entries) (now sums) ⌝ }
-    ensures { λ _. ⌜ PathChanged (aggregateOf was) (aggregateOf share) (now (table .entry)) (now (entries .entry)) (now (sums .entry)) (now (sums .exit)) ⌝ }
+    requires { ⌜ Below (2 ^ 62) (now figures) × PathCounted (aggregateOf was) (now table) (now entries) (now figures) ⌝ }
+    ensures { λ _. ⌜ PathChanged (aggregateOf was) (aggregateOf share) (now (table .entry)) (now (entries .entry)) (now (figures .entry)) (now (figures .exit)) ⌝ }
 {
     let mut sum = Micros(0);
     let mut i = 0;
     while i < entries.len() {
         let e = entries[i] as usize;
-        let there = changed_at(was, share, sum, e, table, &sums[..]);
-        store_hop(e, there.own, sums);
+        let there = changed_at(was, share, sum, e, table, &figures[..]);
+        store_hop(e, there.own, figures);
         sum = there.past;
         i += 1;
     }
 }
 
 // Takes a flow out at queue e, with its share there. Answers whether the largest frame, 0 then, must be worked out anew.
-fn remove_hop(e: usize, share: Aggregate, sums: &mut [u64]) -> bool
-    requires { ⌜ (e < queuesMost) × (length (now sums) ≡ sumNumbers) ⌝ }
-    requires { ⌜ (share .rate .0 ≤ figureAt (now sums) e .rate) × (share .burst .0 ≤ figureAt (now sums) e .burst) ⌝ }
-    ensures { λ r. ⌜ HopRemoved (aggregateOf share) (now (sums .entry)) e (now (sums .exit)) r ⌝ }
+fn remove_hop(e: usize, share: Aggregate, figures: &mut [u64]) -> bool
+    requires { ⌜ (e < queuesMost) × (length (now figures) ≡ figureNumbers) ⌝ }
+    requires { ⌜ (share .rate .0 ≤ figureAt (now figures) e .rate) × (share .burst .0 ≤ figureAt (now figures) e .burst) ⌝ }
+    ensures { λ r. ⌜ HopRemoved (aggregateOf share) (now (figures .entry)) e (now (figures .exit)) r ⌝ }
 {
-    let first = FIGURE_NUMBERS * e;
+    let first = OWN_NUMBERS * e;
     let frame = share.frame;
-    let rates = sums[first] - share.rate.0;
-    let bursts = sums[first + 1] - share.burst.0;
-    let largest = sums[first + 2];
-    sums[first] = rates;
-    sums[first + 1] = bursts;
+    let rates = figures[first] - share.rate.0;
+    let bursts = figures[first + BURST] - share.burst.0;
+    let largest = figures[first + FRAME];
+    figures[first] = rates;
+    figures[first + BURST] = bursts;
     if rates == 0 {
-        sums[first + 2] = 0;
+        figures[first + FRAME] = 0;
         return false;
     }
     if frame.0 < largest {
         return false;
     }
-    sums[first + 2] = 0;
+    figures[first + FRAME] = 0;
     true
 }
 
 // Takes a flow out at each queue of its path. Answers whether a queue of it may hold too small a largest frame then: one
 // that was the flow's own is 0 until the frames are raised again.
-pub fn remove_path(share: Aggregate, table: &[u32], entries: &[u32], sums: &mut [u64]) -> bool
+pub fn remove_path(share: Aggregate, table: &[u32], entries: &[u32], figures: &mut [u64]) -> bool
     requires { ⌜ AtSource (aggregateOf share) ⌝ }
     requires { ⌜ Hops (now table) (now entries) ⌝ }
-    requires { ⌜ PathCounted (aggregateOf share) (now table) (now entries) (now sums) ⌝ }
-    ensures { λ r. ⌜ PathRemoved (aggregateOf share) (now (table .entry)) (now (entries .entry)) (now (sums .entry)) (now (sums .exit)) r ⌝ }
+    requires { ⌜ PathCounted (aggregateOf share) (now table) (now entries) (now figures) ⌝ }
+    ensures { λ r. ⌜ PathRemoved (aggregateOf share) (now (table .entry)) (now (entries .entry)) (now (figures .entry)) (now (figures .exit)) r ⌝ }
 {
     let mut sum = Micros(0);
     let mut again = false;
@@ -123,7 +125,7 @@ pub fn remove_path(share: Aggregate, table: &[u32], entries: &[u32], sums: &mut 
     while i < entries.len() {
         let e = entries[i] as usize;
         let there = share_at(share, sum, e, table);
-        let own = remove_hop(e, there.share, sums);
+        let own = remove_hop(e, there.share, figures);
         sum = there.past;
         i += 1;
         if own {
@@ -136,20 +138,20 @@ pub fn remove_path(share: Aggregate, table: &[u32], entries: &[u32], sums: &mut 
 // Where the largest frame of the queue of entry i stands.
 fn frame_index(i: usize, entries: &[u32]) -> usize
     requires { ⌜ All (λ e. e < queuesMost) (now entries) × (i < length (now entries)) ⌝ }
-    ensures { λ r. ⌜ r ≡ figureNumbers * getD (now (entries .entry)) i 0 + 2 ⌝ }
-    ensures { λ r. ⌜ r < sumNumbers ⌝ }
+    ensures { λ r. ⌜ r ≡ framePosition (getD (now (entries .entry)) i 0) ⌝ }
+    ensures { λ r. ⌜ r < figureNumbers ⌝ }
 {
-    FIGURE_NUMBERS * (entries[i] as usize) + 2
+    OWN_NUMBERS * (entries[i] as usize) + FRAME
 }
 
 // Whether a queue of the path may have a smaller largest frame. It only reads, which is faster than a loop that may store.
-fn any_lower(frame: Bytes, entries: &[u32], sums: &[u64]) -> bool
-    requires { ⌜ All (λ e. e < queuesMost) (now entries) × (length (now sums) ≡ sumNumbers) ⌝ }
-    ensures { λ r. ⌜ (r ≡ false → FrameRaised (frame .0) (now (entries .entry)) (now (sums .entry)) (now (sums .entry))) ⌝ }
+fn any_lower(frame: Bytes, entries: &[u32], figures: &[u64]) -> bool
+    requires { ⌜ All (λ e. e < queuesMost) (now entries) × (length (now figures) ≡ figureNumbers) ⌝ }
+    ensures { λ r. ⌜ (r ≡ false → FrameRaised (frame .0) (now (entries .entry)) (now (figures .entry)) (now (figures .entry))) ⌝ }
 {
     let mut i = 0;
     while i < entries.len() {
-        if sums[frame_index(i, entries)] < frame.0 {
+        if figures[frame_index(i, entries)] < frame.0 {
             return true;
         }
         i += 1;
@@ -158,26 +160,26 @@ fn any_lower(frame: Bytes, entries: &[u32], sums: &[u64]) -> bool
 }
 
 // Raises the largest frame at each queue of a path to at least this one, queue by queue.
-fn raise_each(frame: Bytes, entries: &[u32], sums: &mut [u64])
-    requires { ⌜ All (λ e. e < queuesMost) (now entries) × (length (now sums) ≡ sumNumbers) ⌝ }
-    ensures { λ _. ⌜ FrameRaised (frame .0) (now (entries .entry)) (now (sums .entry)) (now (sums .exit)) ⌝ }
+fn raise_each(frame: Bytes, entries: &[u32], figures: &mut [u64])
+    requires { ⌜ All (λ e. e < queuesMost) (now entries) × (length (now figures) ≡ figureNumbers) ⌝ }
+    ensures { λ _. ⌜ FrameRaised (frame .0) (now (entries .entry)) (now (figures .entry)) (now (figures .exit)) ⌝ }
 {
     let mut i = 0;
     while i < entries.len() {
         let at = frame_index(i, entries);
-        if sums[at] < frame.0 {
-            sums[at] = frame.0;
+        if figures[at] < frame.0 {
+            figures[at] = frame.0;
         }
         i += 1;
     }
 }
 
 // Raises the largest frame at each queue of a path to at least this one.
-pub fn raise_path(frame: Bytes, entries: &[u32], sums: &mut [u64])
-    requires { ⌜ All (λ e. e < queuesMost) (now entries) × (length (now sums) ≡ sumNumbers) ⌝ }
-    ensures { λ _. ⌜ FrameRaised (frame .0) (now (entries .entry)) (now (sums .entry)) (now (sums .exit)) ⌝ }
+pub fn raise_path(frame: Bytes, entries: &[u32], figures: &mut [u64])
+    requires { ⌜ All (λ e. e < queuesMost) (now entries) × (length (now figures) ≡ figureNumbers) ⌝ }
+    ensures { λ _. ⌜ FrameRaised (frame .0) (now (entries .entry)) (now (figures .entry)) (now (figures .exit)) ⌝ }
 {
-    if any_lower(frame, entries, &sums[..]) {
-        raise_each(frame, entries, sums);
+    if any_lower(frame, entries, &figures[..]) {
+        raise_each(frame, entries, figures);
     }
 }

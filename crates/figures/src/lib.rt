@@ -3,7 +3,7 @@
 // a path with its flow counted in, and of every link.
 //
 // A hop entry names a queue as in `queue_table`. Queue e has its rate sum, burst sum and largest frame one after the
-// other in `sums`; only this crate indexes that array. Why nothing overflows is said in `units`.
+// other in `figures`; only this crate indexes that array. Why nothing overflows is said in `units`.
 mod checking;
 mod counting;
 mod shares;
@@ -16,7 +16,7 @@ ghost use lib.ListN.{length};
 ghost use Rattle.model.specs.Sizes.{linksMost, queuesMost};
 ghost use Rattle.units.specs.View.{aggregateOf};
 ghost use Rattle.link_check.specs.View.{aggregatesOf};
-ghost use Rattle.figures.specs.View.{sumNumbers, figureAt, levelFigures, Below, Bounded};
+ghost use Rattle.figures.specs.View.{figureNumbers, figureAt, levelFigures, Below, Limited};
 pub use checking::check_change;
 pub use checking::check_links;
 pub use checking::links_meet;
@@ -31,27 +31,32 @@ use units::Aggregate;
 use units::Bytes;
 use units::Rate;
 
-// How many numbers a queue has in the array, and the array.
-const FIGURE_NUMBERS: usize = 3;
+// How many numbers a queue has in the array, and where they stand among these: the rate sum stands first.
+const OWN_NUMBERS: usize = 3;
 
-pub const SUMS: usize = FIGURE_NUMBERS * QUEUES;
+const BURST: usize = 1;
+
+const FRAME: usize = 2;
+
+// How many numbers the array has.
+pub const FIGURE_NUMBERS: usize = OWN_NUMBERS * QUEUES;
 
 // The figures of queue e.
-pub fn figure(e: usize, sums: &[u64]) -> Aggregate
-    requires { ⌜ (e < queuesMost) × (length (now sums) ≡ sumNumbers) ⌝ }
-    ensures { λ r. ⌜ aggregateOf r ≡ figureAt (now (sums .entry)) e ⌝ }
+pub fn figure(e: usize, figures: &[u64]) -> Aggregate
+    requires { ⌜ (e < queuesMost) × (length (now figures) ≡ figureNumbers) ⌝ }
+    ensures { λ r. ⌜ aggregateOf r ≡ figureAt (now (figures .entry)) e ⌝ }
 {
     Aggregate {
-        rate: Rate(sums[FIGURE_NUMBERS * e]),
-        burst: Bytes(sums[FIGURE_NUMBERS * e + 1]),
-        frame: Bytes(sums[FIGURE_NUMBERS * e + 2]),
+        rate: Rate(figures[OWN_NUMBERS * e]),
+        burst: Bytes(figures[OWN_NUMBERS * e + BURST]),
+        frame: Bytes(figures[OWN_NUMBERS * e + FRAME]),
     }
 }
 
 // The figures of a link's eight levels, the link counted from 0.
-pub(crate) fn link_levels(link: usize, sums: &[u64]) -> [Aggregate; LEVELS]
-    requires { ⌜ (link < linksMost) × (length (now sums) ≡ sumNumbers) ⌝ }
-    ensures { λ r. ⌜ aggregatesOf r ≡ levelFigures (now (sums .entry)) link ⌝ }
+pub(crate) fn link_levels(link: usize, figures: &[u64]) -> [Aggregate; LEVELS]
+    requires { ⌜ (link < linksMost) × (length (now figures) ≡ figureNumbers) ⌝ }
+    ensures { λ r. ⌜ aggregatesOf r ≡ levelFigures (now (figures .entry)) link ⌝ }
 {
     let mut levels = [Aggregate {
         rate: Rate(0),
@@ -60,20 +65,20 @@ pub(crate) fn link_levels(link: usize, sums: &[u64]) -> [Aggregate; LEVELS]
     }; LEVELS];
     let mut p = 0;
     while p < LEVELS {
-        levels[p] = figure(entry_at(link, p), sums);
+        levels[p] = figure(entry_at(link, p), figures);
         p += 1;
     }
     levels
 }
 
 // Whether the figures are small enough for the formulas. Those of a consistent registry are.
-pub fn bounded(sums: &[u64]) -> bool
-    requires { ⌜ length (now sums) ≡ sumNumbers ⌝ }
-    ensures { λ r. ⌜ (r ≡ true) ↔ Bounded (now (sums .entry)) ⌝ }
+pub fn limited(figures: &[u64]) -> bool
+    requires { ⌜ length (now figures) ≡ figureNumbers ⌝ }
+    ensures { λ r. ⌜ (r ≡ true) ↔ Limited (now (figures .entry)) ⌝ }
 {
     let mut e = 0;
     while e < QUEUES {
-        let own = figure(e, sums);
+        let own = figure(e, figures);
         if own.rate.0 > 10_000_000 {
             return false;
         }
@@ -89,25 +94,25 @@ pub fn bounded(sums: &[u64]) -> bool
 }
 
 // The figures of no flow.
-pub fn clear(sums: &mut [u64])
-    requires { ⌜ length (now sums) ≡ sumNumbers ⌝ }
-    ensures { λ _. ⌜ (length (now (sums .exit)) ≡ sumNumbers) × Below 0 (now (sums .exit)) ⌝ }
+pub fn clear(figures: &mut [u64])
+    requires { ⌜ length (now figures) ≡ figureNumbers ⌝ }
+    ensures { λ _. ⌜ (length (now (figures .exit)) ≡ figureNumbers) × Below 0 (now (figures .exit)) ⌝ }
 {
     let mut i = 0;
-    while i < SUMS {
-        sums[i] = 0;
+    while i < FIGURE_NUMBERS {
+        figures[i] = 0;
         i += 1;
     }
 }
 
 // Whether two arrays of figures are equal.
 pub fn same(a: &[u64], b: &[u64]) -> bool
-    requires { ⌜ (length (now a) ≡ sumNumbers) × (length (now b) ≡ sumNumbers) ⌝ }
+    requires { ⌜ (length (now a) ≡ figureNumbers) × (length (now b) ≡ figureNumbers) ⌝ }
     ensures { λ r. ⌜ (r ≡ true → now (a .entry) ≡ now (b .entry)) ⌝ }
     ensures { λ r. ⌜ (r ≡ false → now (a .entry) ≡ now (b .entry) → ⊥) ⌝ }
 {
     let mut i = 0;
-    while i < SUMS {
+    while i < FIGURE_NUMBERS {
         if a[i] != b[i] {
             return false;
         }

@@ -7,7 +7,7 @@ ghost use Rattle.model.specs.Sizes.{queuesMost, thresholdsMost};
 ghost use Rattle.model.specs.Aggregates.{grown};
 ghost use Rattle.units.specs.View.{aggregateOf, AtSource};
 ghost use Rattle.queue_table.specs.View.{tableNumbers};
-ghost use Rattle.figures.specs.View.{sumNumbers, Below, Bounded, growthAt, countedAt, replaced, changedAt, RoomAt};
+ghost use Rattle.figures.specs.View.{figureNumbers, Below, Limited, growthAt, countedAt, replaced, changedAt, RoomAt};
 use crate::figure;
 use queue_table::link_at;
 use queue_table::link_of;
@@ -53,16 +53,16 @@ pub(crate) fn counted_at(
     sum: Micros,
     e: usize,
     table: &[u32],
-    sums: &[u64],
+    figures: &[u64],
 ) -> AtQueue
     requires { ⌜ AtSource (aggregateOf share) × (sum .0 ≤ thresholdsMost) ⌝ }
-    requires { ⌜ (e < queuesMost) × ((length (now table) ≡ tableNumbers) × Bounded (now sums)) ⌝ }
-    ensures { λ r. ⌜ aggregateOf (r .own) ≡ countedAt (aggregateOf share) (now (sums .entry)) e (sum .0) ⌝ }
+    requires { ⌜ (e < queuesMost) × ((length (now table) ≡ tableNumbers) × Limited (now figures)) ⌝ }
+    ensures { λ r. ⌜ aggregateOf (r .own) ≡ countedAt (aggregateOf share) (now (figures .entry)) e (sum .0) ⌝ }
     ensures { λ r. ⌜ r .past .0 ≡ sum .0 + growthAt (now (table .entry)) e ⌝ }
 {
     let there = share_at(share, sum, e, table);
     let past = there.past;
-    let own = figure(e, sums);
+    let own = figure(e, figures);
     AtQueue {
         own: own.with_flow(there.share),
         past,
@@ -92,19 +92,19 @@ pub(crate) fn changed_at(
     sum: Micros,
     e: usize,
     table: &[u32],
-    sums: &[u64],
+    figures: &[u64],
 ) -> AtQueue
     requires { ⌜ AtSource (aggregateOf was) × (AtSource (aggregateOf share) × (sum .0 ≤ thresholdsMost)) ⌝ }
     requires { ⌜ (e < queuesMost) × (length (now table) ≡ tableNumbers) ⌝ }
-    requires { ⌜ (length (now sums) ≡ sumNumbers) × Below (2 ^ 63) (now sums) ⌝ }
-    requires { ⌜ RoomAt (aggregateOf was) (now sums) e (sum .0) ⌝ }
-    ensures { λ r. ⌜ aggregateOf (r .own) ≡ changedAt (aggregateOf was) (aggregateOf share) (now (sums .entry)) e (sum .0) ⌝ }
+    requires { ⌜ (length (now figures) ≡ figureNumbers) × Below (2 ^ 63) (now figures) ⌝ }
+    requires { ⌜ RoomAt (aggregateOf was) (now figures) e (sum .0) ⌝ }
+    ensures { λ r. ⌜ aggregateOf (r .own) ≡ changedAt (aggregateOf was) (aggregateOf share) (now (figures .entry)) e (sum .0) ⌝ }
     ensures { λ r. ⌜ r .past .0 ≡ sum .0 + growthAt (now (table .entry)) e ⌝ }
 {
     let there = share_at(was, sum, e, table);
     let past = there.past;
     let more = share.grown(sum);
-    let own = figure(e, sums);
+    let own = figure(e, figures);
     AtQueue {
         own: replaced(own, there.share, more),
         past,

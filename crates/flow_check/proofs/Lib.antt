@@ -1,3 +1,4 @@
 pub mod CauseLaws
 pub mod HeldLaws
+pub mod MarkLaws
 pub mod SlotLaws

@@ -1,6 +1,6 @@
 -- A slot judged test by test: what the tests of its numbers say of the flow that it holds.
 -- Assumes nothing.
-use Prim.Native.Nat.{ℕ, zero, suc, _≤_, _<_}
+use Prim.Native.Nat.{ℕ, zero, suc, _+_, _≤_, _<_}
 use mathlib.Core.Path.{_≡_, refl, sym, ap, _∙_}
 use mathlib.Core.Bool.{Bool, true, false, _&&_, true≢false}
 use mathlib.Core.List.{List, _∷_, map}
@@ -10,20 +10,23 @@ use borrow.Author.Tests.{eq-eqb, ne-eqb, le-leb, lt-leb, lt-ltb, le-ltb}
 use lib.ListN.{length, getD}
 use lib.Dec.{leb, ltb, eqb}
 use Rattle.model.specs.Words.{firstIndex, isNone}
-use Rattle.model.specs.Sizes.{hopsMost, slotCount}
+use Rattle.model.specs.Sizes.{numberMost, hopsMost, slotCount}
 use Rattle.model.specs.Columns.{between}
 use Rattle.model.specs.Orders as model
 use Rattle.model.specs.QueueTable.{Table}
 use Rattle.model.specs.Laws.Test.{both-and}
+use Rattle.model.specs.Laws.Admissible.{flow-bounds}
 use Rattle.model.specs.Consistent.{flowInRange, headOf}
 use Rattle.model.specs.Reference.{Cause, Slot, firstCause, whole, holds, lineFindings, deadlineFinding}
 use Rattle.orders.specs.declared.Flow.{Flow}
 use Rattle.orders.specs.View.{fieldsOf}
 use Rattle.queue_table.specs.View.{hopAt}
-use Rattle.bit_words.specs.View.{isSet}
-use Rattle.flow_store.specs.View.{Store, hopsAt, headAt, flowAt, slotOf, slotsOf, flowIn, entriesNamed}
-use Rattle.flow_store.proofs.ViewLaws.{slot-at, flow-long, count-held, path-named, entries-long}
-use Rattle.flow_check.specs.View.{entryFindings, pathFindings, slotAlone}
+use Rattle.bit_words.specs.View.{isSet, BitChanged}
+use Rattle.flow_store.specs.View.{PackedStore, hopsAt, headAt, flowAt, slotOf, slotsOf, flowIn, entriesIn}
+use Rattle.flow_store.specs.Laws.{length-slots, slot-at, held-slot}
+use Rattle.flow_store.proofs.ViewLaws.{path-inside, flow-long}
+use Rattle.flow_check.specs.View.{entryFindings, pathFindings, slotAlone, Marked}
+use Rattle.flow_check.proofs.MarkLaws.{marked-free, marked-twice, marked-first, marked-next}
 
 -- The first of the findings is one, or none.
 pub first-some : (x : Option Cause) (l : List (Option Cause)) → isNone x ≡ false → isNone (firstCause (x ∷ l)) ≡ false
@@ -68,45 +71,41 @@ pos : (n : ℕ) → (n ≡ 0 → ⊥) → 1 ≤ n
 pos zero ne = absurd (ne refl)
 pos (suc n) ne = omega arith
 
--- A held slot's path has as many entries as its hop count says.
-pub path-long : (i : ℕ) {bits slots pool : List ℕ} → Store bits slots pool → i < slotCount → isSet bits i ≡ true → length (entriesNamed slots pool i) ≡ hopsAt slots i
-path-long i {bits} {slots} {pool} store inside held =
-    ap length (path-named bits slots pool store i inside held) ∙ entries-long bits slots i pool inside store ∙ count-held bits slots i held
-
-module _ (t : Table) (i : ℕ) {bits slots pool : List ℕ} (store : Store bits slots pool) (inside : i < slotCount) where
+module _ (t : Table) (i : ℕ) {bits store : List ℕ} (stored : PackedStore bits store) (inside : i < slotCount) where
   abbrev all : List Slot
-  all = slotsOf bits slots pool
+  all = slotsOf bits store
 
   abbrev here : Bool
   here = slotAlone t all i (getD all i none)
 
   abbrev flow : model.Flow
-  flow = flowIn bits slots pool i
+  flow = flowIn store i
 
-  by-bit : {b : Bool} → isSet bits i ≡ b → here ≡ slotAlone t all i (slotOf b flow)
-  by-bit e = ap (slotAlone t all i) (slot-at bits slots i pool inside ∙ ap (λ (b : Bool). slotOf b flow) e)
+  long : i < length all
+  long = omega (arith, inside, length-slots bits store)
 
-  pub judged-free : isSet bits i ≡ false → here ≡ true
+  pub judged-free : {marks : List ℕ} → Marked all i marks → isSet bits i ≡ false → (here ≡ true) × Marked all (i + 1) marks
   unfolding slotAlone slotOf
-  judged-free free = by-bit free
+  judged-free marked free =
+      let nothing : getD all i none ≡ none = slot-at bits store i inside ∙ ap (λ (b : Bool). slotOf b flow) free in
+      (ap (slotAlone t all i) nothing, marked-free all i marked long nothing)
 
   module _ (held : isSet bits i ≡ true) where
     there : here ≡ slotAlone t all i (some flow)
-    unfolding slotOf
-    there = by-bit held
+    there = ap (slotAlone t all i) (held-slot bits store i inside held)
 
-    range-at : flowInRange flow ≡ (model.headInRange (headAt slots i) && between 1 hopsMost (hopsAt slots i))
+    range-at : flowInRange flow ≡ (model.headInRange (headAt store i) && between 1 hopsMost (hopsAt store i))
     unfolding flowInRange headOf model.headInRange model.hopsInRange flowAt
     range-at =
-        ap (λ (n : ℕ). model.headInRange (headAt slots i) && between 1 hopsMost n)
-        (flow-long bits slots i pool inside store ∙ count-held bits slots i held)
+        ap (λ (n : ℕ). model.headInRange (headAt store i) && between 1 hopsMost n)
+        (flow-long store (stored .store-long) i (path-inside bits store (stored .packed) i inside held))
 
-    outside : between 1 hopsMost (hopsAt slots i) ≡ false → here ≡ false
-    outside o = there ∙ alone-range t all i flow (range-at ∙ and-false (model.headInRange (headAt slots i)) o)
+    outside : between 1 hopsMost (hopsAt store i) ≡ false → here ≡ false
+    outside o = there ∙ alone-range t all i flow (range-at ∙ and-false (model.headInRange (headAt store i)) o)
 
     -- By the numbers read from the slot.
-    module _ (g : Flow) (e : fieldsOf g ≡ headAt slots i) where
-      hops : g .hops ≡ hopsAt slots i
+    module _ (g : Flow) (e : fieldsOf g ≡ headAt store i) where
+      hops : g .hops ≡ hopsAt store i
       hops = ap (λ (h : model.Head). h .hops) e
 
       pub judged-none : g .hops ≡ 0 → here ≡ false
@@ -115,10 +114,10 @@ module _ (t : Table) (i : ℕ) {bits slots pool : List ℕ} (store : Store bits 
 
       pub judged-many : hopsMost < g .hops → here ≡ false
       unfolding between
-      judged-many h = outside (and-false (leb 1 (hopsAt slots i)) (lt-leb (hopsAt slots i) hopsMost (omega (arith, hops))))
+      judged-many h = outside (and-false (leb 1 (hopsAt store i)) (lt-leb (hopsAt store i) hopsMost (omega (arith, hops))))
 
       module _ (some-hops : g .hops ≡ 0 → ⊥) (few : g .hops ≤ hopsMost) where
-        fits : between 1 hopsMost (hopsAt slots i) ≡ true
+        fits : between 1 hopsMost (hopsAt store i) ≡ true
         unfolding between
         fits = rw (← hops) (both-and (le-leb 1 (g .hops) (pos (g .hops) some-hops)) (le-leb (g .hops) hopsMost few))
 
@@ -128,27 +127,72 @@ module _ (t : Table) (i : ℕ) {bits slots pool : List ℕ} (store : Store bits 
         pub judged-range : model.headInRange (fieldsOf g) ≡ false → here ≡ false
         judged-range r = there ∙ alone-range t all i flow (range-here ∙ r)
 
-        module _ (range : model.headInRange (fieldsOf g) ≡ true) where
-          own-index : firstIndex (holds (flow .number)) all ≡ firstIndex (holds (g .number)) all
-          unfolding flowAt
-          own-index = ap (λ (h : model.Head). firstIndex (holds (h .number)) all) (sym e)
+-- What the tests up to 11 tell of a slot: it is held, and the numbers read from it are in range.
+pub record Ranged (i : ℕ) (bits store : List ℕ) (g : Flow) : Type 0 where
+  pub stored : PackedStore bits store
+  pub inside : i < slotCount
+  pub held : isSet bits i ≡ true
+  pub fields : fieldsOf g ≡ headAt store i
+  pub some-hops : g .hops ≡ 0 → ⊥
+  pub few : g .hops ≤ hopsMost
+  pub range : model.headInRange (fieldsOf g) ≡ true
 
-          pub judged-number : (firstIndex (holds (g .number)) all ≡ i → ⊥) → here ≡ false
-          judged-number ne = there ∙ alone-number t all i flow (range-here ∙ range) (ne-eqb _ i (λ z. ne (sym own-index ∙ z)))
+module _ (t : Table) {i : ℕ} {bits store : List ℕ} {g : Flow} (r : Ranged i bits store g) where
+  abbrev view : List Slot
+  view = slotsOf bits store
 
-          module _ (own : firstIndex (holds (g .number)) all ≡ i) where
-            frame-here : ltb (flow .burst) (flow .frame) ≡ ltb (g .share .burst .0) (g .share .frame .0)
-            unfolding flowAt
-            frame-here = ap (λ (h : model.Head). ltb (h .burst) (h .frame)) (sym e)
+  abbrev f : model.Flow
+  f = flowIn store i
 
-            pub judged-frame : g .share .burst .0 < g .share .frame .0 → here ≡ false
-            judged-frame h = there ∙ alone-frame t all i flow (range-here ∙ range) (eq-eqb _ i (own-index ∙ own)) (frame-here ∙ lt-ltb _ _ h)
+  found : getD view i none ≡ some f
+  found = held-slot bits store i (r .inside) (r .held)
 
-            pub judged-path : g .share .frame .0 ≤ g .share .burst .0
-                → here ≡ isNone (firstCause (pathFindings t (g .deadline .0) (map hopAt (entriesNamed slots pool i))))
-            unfolding flowAt
-            judged-path h =
-                there
-                ∙ alone-path t all i flow (range-here ∙ range) (eq-eqb _ i (own-index ∙ own)) (frame-here ∙ le-ltb _ _ h)
-                ∙ rw (← path-named bits slots pool store i inside held)
-                (ap (λ (x : model.Head). isNone (firstCause (pathFindings t (x .deadline) (map hopAt (entriesNamed slots pool i))))) (sym e))
+  ranged : flowInRange f ≡ true
+  ranged = range-here t i (r .stored) (r .inside) (r .held) g (r .fields) (r .some-hops) (r .few) ∙ r .range
+
+  number : f .number ≡ g .number
+  unfolding flowAt
+  number = ap (λ (h : model.Head). h .number) (sym (r .fields))
+
+  -- So its number has a bit.
+  pub judged-small : g .number ≤ numberMost
+  judged-small = omega (arith, number, flow-bounds f ranged .number)
+
+  holds-here : holds (g .number) (getD view i none) ≡ true
+  unfolding holds
+  holds-here = ap (holds (g .number)) found ∙ eq-eqb (f .number) (g .number) number
+
+  own-index : firstIndex (holds (f .number)) view ≡ firstIndex (holds (g .number)) view
+  own-index = ap (λ (n : ℕ). firstIndex (holds n) view) number
+
+  module _ {marks : List ℕ} (marked : Marked view i marks) where
+    abbrev stands : Bool
+    stands = slotAlone t view i (getD view i none)
+
+    pub judged-twice : isSet marks (g .number) ≡ true → stands ≡ false
+    judged-twice set =
+        ap (slotAlone t view i) found
+        ∙ alone-number t view i f ranged
+        (ne-eqb _ i (λ z. marked-twice view i marked (g .number) judged-small set (sym own-index ∙ z)))
+
+    module _ (new : isSet marks (g .number) ≡ false) where
+      pub judged-marked : {marks′ : List ℕ} → BitChanged (g .number) true marks marks′ → Marked view (i + 1) marks′
+      judged-marked = marked-next view i marked (g .number) judged-small holds-here new (long t i (r .stored) (r .inside))
+
+      own : eqb (firstIndex (holds (f .number)) view) i ≡ true
+      own = eq-eqb _ i (own-index ∙ marked-first view i marked (g .number) judged-small holds-here new)
+
+      frame-here : ltb (f .burst) (f .frame) ≡ ltb (g .share .burst .0) (g .share .frame .0)
+      unfolding flowAt
+      frame-here = ap (λ (h : model.Head). ltb (h .burst) (h .frame)) (sym (r .fields))
+
+      pub judged-frame : g .share .burst .0 < g .share .frame .0 → stands ≡ false
+      judged-frame h = ap (slotAlone t view i) found ∙ alone-frame t view i f ranged own (frame-here ∙ lt-ltb _ _ h)
+
+      pub judged-path : g .share .frame .0 ≤ g .share .burst .0
+          → stands ≡ isNone (firstCause (pathFindings t (g .deadline .0) (map hopAt (entriesIn store i))))
+      unfolding flowAt
+      judged-path h =
+          ap (slotAlone t view i) found
+          ∙ alone-path t view i f ranged own (frame-here ∙ le-ltb _ _ h)
+          ∙ ap (λ (x : model.Head). isNone (firstCause (pathFindings t (x .deadline) (map hopAt (entriesIn store i))))) (sym (r .fields))

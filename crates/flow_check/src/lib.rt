@@ -1,25 +1,31 @@
 // The causes against a registration before its links are checked (document 01, "Order"): 12, 17, 14, 16, 15, 20, and
 // then 30 and 31; and whether each held flow meets 11 and those before 30 beside the others.
 ghost use mathlib.Core.Path.{_≡_};
+ghost use mathlib.Core.Bool.{true};
 ghost use mathlib.Core.List.{map};
 ghost use mathlib.Core.Option.{none};
-ghost use Prim.Native.Nat.{_≤_, _<_};
+ghost use Prim.Native.Nat.{_+_, _≤_, _<_};
 ghost use lib.ListN.{length, getD};
 ghost use Rattle.model.specs.Words.{every, isNone};
-ghost use Rattle.model.specs.Sizes.{hopsMost, slotCount};
+ghost use Rattle.model.specs.Sizes.{numberMost, hopsMost, slotCount};
 ghost use Rattle.model.specs.Reference.{firstCause, heldFlows};
 ghost use Rattle.queue_table.specs.View.{WellFormed, hopAt, tableOf, AllQueues};
-ghost use Rattle.flow_store.specs.View.{Packed, Store, slotWords, slotNumbers, slotsOf};
+ghost use Rattle.bit_words.specs.View.{isSet, BitChanged};
+ghost use Rattle.flow_store.specs.View.{PackedStore, slotWords, storeNumbers, slotsOf};
 ghost use Rattle.orders.specs.View.{hopNumbers};
 ghost use Rattle.causes.specs.View.{findingOf};
-ghost use Rattle.flow_check.specs.View.{entryFindings, PathJudged, FlowJudged, RoomJudged, flowAlone, slotAlone, pathFindings};
+ghost use Rattle.flow_check.specs.View.{entryFindings, PathJudged, FlowJudged, RoomJudged, flowAlone, slotAlone, pathFindings, numberWords, Marked};
 use causes::Cause;
 use causes::Finding;
 use flow_store::POOL;
 use flow_store::SLOTS;
 use orders::Flow;
 use orders::MOST_HOPS;
+use orders::MOST_NUMBER;
 use units::Micros;
+
+// How many words mark flow numbers: number n at bit n % 64 of word n / 64.
+const NUMBER_WORDS: usize = MOST_NUMBER / bit_words::WORD + 1;
 
 // What is against a flow by itself; where that is nothing, the entries name its path, else they are free.
 pub struct Judged {
@@ -80,15 +86,15 @@ fn judge_path(flow: Flow, hops: &[u32], table: &[u32]) -> Judged
 }
 
 // 12, 17, 14, 16, 15 and 20.
-pub fn judge_flow(flow: Flow, hops: &[u32], table: &[u32], bits: &[u64], slots: &[u32]) -> Judged
-    requires { ⌜ WellFormed (now table) × (length (now hops) ≡ hopNumbers) × (flow .hops ≤ hopsMost) × (length (now bits) ≡ slotWords) × (length (now slots) ≡ slotNumbers) ⌝ }
-    ensures { λ r. ⌜ FlowJudged flow (now (hops .entry)) (now (table .entry)) (now (bits .entry)) (now (slots .entry)) r ⌝ }
+pub fn judge_flow(flow: Flow, hops: &[u32], table: &[u32], bits: &[u64], store: &[u32]) -> Judged
+    requires { ⌜ WellFormed (now table) × (length (now hops) ≡ hopNumbers) × (flow .hops ≤ hopsMost) × (length (now bits) ≡ slotWords) × (length (now store) ≡ storeNumbers) ⌝ }
+    ensures { λ r. ⌜ FlowJudged flow (now (hops .entry)) (now (table .entry)) (now (bits .entry)) (now (store .entry)) r ⌝ }
 {
     let number = flow.number;
     let share = flow.share;
     let burst = share.burst.0;
     let frame = share.frame.0;
-    if flow_store::find(number, bits, slots) < SLOTS {
+    if flow_store::find(number, bits, store) < SLOTS {
         return Judged {
             finding: Finding::Against(Cause::NumberHeld),
             entries: [0; MOST_HOPS],
@@ -104,9 +110,9 @@ pub fn judge_flow(flow: Flow, hops: &[u32], table: &[u32], bits: &[u64], slots: 
 }
 
 // 30, then 31 for a path of so many hops.
-pub fn judge_room(hops: u32, bits: &[u64], slots: &[u32]) -> FreeSlot
-    requires { ⌜ (length (now bits) ≡ slotWords) × (length (now slots) ≡ slotNumbers) × Packed (now bits) (now slots) × (hops ≤ hopsMost) ⌝ }
-    ensures { λ r. ⌜ RoomJudged hops (now (bits .entry)) (now (slots .entry)) r ⌝ }
+pub fn judge_room(hops: u32, bits: &[u64], store: &[u32]) -> FreeSlot
+    requires { ⌜ PackedStore (now bits) (now store) × (hops ≤ hopsMost) ⌝ }
+    ensures { λ r. ⌜ RoomJudged hops (now (bits .entry)) (now (store .entry)) r ⌝ }
 {
     let slot = flow_store::first_free(bits);
     if SLOTS <= slot {
@@ -115,7 +121,7 @@ pub fn judge_room(hops: u32, bits: &[u64], slots: &[u32]) -> FreeSlot
             slot,
         };
     }
-    if POOL - (hops as usize) < flow_store::held_entries(bits, slots) {
+    if POOL - (hops as usize) < flow_store::held_entries(bits, store) {
         return FreeSlot {
             finding: Finding::Against(Cause::NoEntries),
             slot,
@@ -147,15 +153,28 @@ fn path_stands(deadline: Micros, table: &[u32], entries: &[u32]) -> bool
     is_nothing(judge_entries(deadline, table, entries))
 }
 
-// Whether a slot is free, or its flow meets 11, 12, 17, 14, 16, 15 and 20; its numbers can have any value.
-fn slot_stands(slot: usize, table: &[u32], bits: &[u64], slots: &[u32], pool: &[u32]) -> bool
-    requires { ⌜ WellFormed (now table) × Store (now bits) (now slots) (now pool) × (slot < slotCount) ⌝ }
-    ensures { λ r. ⌜ r ≡ slotAlone (tableOf (now (table .entry))) (slotsOf (now (bits .entry)) (now (slots .entry)) (now (pool .entry))) slot (getD (slotsOf (now (bits .entry)) (now (slots .entry)) (now (pool .entry))) slot none) ⌝ }
+// Marks a flow number, and says whether it was marked before.
+fn mark(number: u32, marks: &mut [u64]) -> bool
+    requires { ⌜ (length (now marks) ≡ numberWords) × (number ≤ numberMost) ⌝ }
+    ensures { λ r. ⌜ (r ≡ isSet (now (marks .entry)) number) × BitChanged number true (now (marks .entry)) (now (marks .exit)) ⌝ }
+{
+    let at = number as usize;
+    let known = bit_words::is_set(at, &marks[..]);
+    bit_words::set_bit(at, marks);
+    known
+}
+
+// Whether a slot is free, or its flow meets 11, 12, 17, 14, 16, 15 and 20; its numbers can have any value. Its flow number is
+// marked beside those of the slots before it.
+fn slot_stands(slot: usize, table: &[u32], bits: &[u64], store: &[u32], marks: &mut [u64]) -> bool
+    requires { ⌜ WellFormed (now table) × PackedStore (now bits) (now store) × (slot < slotCount) × Marked (slotsOf (now bits) (now store)) slot (now marks) ⌝ }
+    ensures { λ r. ⌜ r ≡ slotAlone (tableOf (now (table .entry))) (slotsOf (now (bits .entry)) (now (store .entry))) slot (getD (slotsOf (now (bits .entry)) (now (store .entry))) slot none) ⌝ }
+    ensures { λ r. ⌜ (r ≡ true → Marked (slotsOf (now (bits .entry)) (now (store .entry))) (slot + 1) (now (marks .exit))) ⌝ }
 {
     if !flow_store::is_held(slot, bits) {
         return true;
     }
-    let flow = flow_store::flow_at(slot, slots);
+    let flow = flow_store::flow_at(slot, store);
     let number = flow.number;
     let share = flow.share;
     let burst = share.burst.0;
@@ -170,26 +189,35 @@ fn slot_stands(slot: usize, table: &[u32], bits: &[u64], slots: &[u32], pool: &[
     if !orders::in_range(flow) {
         return false;
     }
-    if flow_store::find(number, bits, slots) != slot {
+    if mark(number, marks) {
         return false;
     }
     if burst < largest {
         return false;
     }
-    path_stands(flow.deadline, table, flow_store::path_of(slot, slots, pool))
+    path_stands(flow.deadline, table, flow_store::path_of(slot, store))
 }
 
-// Whether each held flow meets 11, 12, 17, 14, 16, 15 and 20 beside the others.
-pub fn held_flows(table: &[u32], bits: &[u64], slots: &[u32], pool: &[u32]) -> bool
-    requires { ⌜ WellFormed (now table) × Store (now bits) (now slots) (now pool) ⌝ }
-    ensures { λ r. ⌜ r ≡ every (flowAlone (tableOf (now (table .entry))) (heldFlows (slotsOf (now (bits .entry)) (now (slots .entry)) (now (pool .entry))))) (heldFlows (slotsOf (now (bits .entry)) (now (slots .entry)) (now (pool .entry)))) ⌝ }
+// Whether each held flow meets 11, 12, 17, 14, 16, 15 and 20 beside the others; no flow number is marked yet.
+fn slots_stand(table: &[u32], bits: &[u64], store: &[u32], marks: &mut [u64]) -> bool
+    requires { ⌜ WellFormed (now table) × PackedStore (now bits) (now store) × Marked (slotsOf (now bits) (now store)) 0 (now marks) ⌝ }
+    ensures { λ r. ⌜ r ≡ every (flowAlone (tableOf (now (table .entry))) (heldFlows (slotsOf (now (bits .entry)) (now (store .entry))))) (heldFlows (slotsOf (now (bits .entry)) (now (store .entry)))) ⌝ }
 {
     let mut slot = 0;
     while slot < SLOTS {
-        if !slot_stands(slot, table, bits, slots, pool) {
+        if !slot_stands(slot, table, bits, store, marks) {
             return false;
         }
         slot += 1;
     }
     true
+}
+
+// Whether each held flow meets 11, 12, 17, 14, 16, 15 and 20 beside the others.
+pub fn held_flows(table: &[u32], bits: &[u64], store: &[u32]) -> bool
+    requires { ⌜ WellFormed (now table) × PackedStore (now bits) (now store) ⌝ }
+    ensures { λ r. ⌜ r ≡ every (flowAlone (tableOf (now (table .entry))) (heldFlows (slotsOf (now (bits .entry)) (now (store .entry))))) (heldFlows (slotsOf (now (bits .entry)) (now (store .entry)))) ⌝ }
+{
+    let mut marks = [0u64; NUMBER_WORDS];
+    slots_stand(table, bits, store, &mut marks)
 }

@@ -1,13 +1,14 @@
--- Numbers moved within the pool: a turn of the loop, and where each stands afterwards.
+-- Numbers moved within the pool: a turn of the loop, and where each stands afterwards; the pool in the whole array.
 -- Assumes nothing.
 use Prim.Native.Nat.{ℕ, suc, _+_, _-_, _≤_, _<_}
 use mathlib.Core.Path.{_≡_, sym, ap, ap₂, _∙_}
-use mathlib.Core.List.{List, [], _∷_, _++_, append-assoc}
+use mathlib.Core.List.{List, [], _∷_, _++_, append-assoc, append-nil}
 use native.Mathlib.Omega.{arith}
 use native.Mathlib.Numerals.{add-one}
-use lib.ListN.{length, getD, set, take, drop, length-set, length-drop}
-use lib.Seq.{take-suc, drop-cons, append-snoc, take-set-le, take-suc-set, drop-set-lt, drop-set-add, getD-set-same, getD-drop, take-take, take-at, drop-at, take-length, length-take-le, paste, drop-paste, length-paste}
-use Rattle.flow_store.specs.View.{pathInserted, pathRemoved}
+use lib.ListN.{length, getD, set, take, drop, length-append, length-set, length-drop, drop-of-length-le, List·getD-append}
+use lib.Seq.{getD-take, take-all, take-suc, drop-cons, append-snoc, take-set-le, take-suc-set, drop-set-lt, drop-set-add, getD-set-same, getD-drop, take-take, take-at, drop-at, take-length, length-take-le, paste, drop-paste, length-paste}
+use borrow.Rule.Slice.PartMut.{putMid}
+use Rattle.flow_store.specs.View.{slotNumbers, storeNumbers, poolOf, pathInserted, pathRemoved}
 
 -- With j, the last of the numbers to move, stored at k, one less is left to move.
 pub up-turn : (d : List ℕ) (start by n j k m : ℕ) → j ≡ start + n → k ≡ start + by + n → m ≡ suc n → k < length d
@@ -111,3 +112,32 @@ module _ (start end by : ℕ) (pool : List ℕ) (order : start + by ≤ end) (in
   pub removed-rest : take (end - by - start) (drop start (pathRemoved start end by pool)) ≡ take (end - by - start) (drop (start + by) pool)
   unfolding pathRemoved
   removed-rest = paste-copied pool start (drop (start + by) pool) (end - by - start) (omega arith) (omega (arith, length-drop (start + by) pool))
+
+-- The array with another pool: the slots' numbers are as they were.
+abbrev pub pooled : (store pool : List ℕ) → List ℕ
+pooled store pool = putMid slotNumbers (length store - slotNumbers) store pool
+
+-- The pool as it is lent.
+pub lent-pool : (store : List ℕ) → take (length store - slotNumbers) (drop slotNumbers store) ≡ poolOf store
+lent-pool store = take-all (length store - slotNumbers) (drop slotNumbers store) (omega (arith, length-drop slotNumbers store))
+
+module _ (store pool : List ℕ) (long : length store ≡ storeNumbers) (same : length pool ≡ length (poolOf store)) where
+  whole : pooled store pool ≡ take slotNumbers store ++ pool
+  whole =
+      ap (λ (l : List ℕ). take slotNumbers store ++ (pool ++ l)) (drop-of-length-le (drop slotNumbers store) {i = length store - slotNumbers} (omega (arith, length-drop slotNumbers store)))
+      ∙ ap (λ (l : List ℕ). take slotNumbers store ++ l) (append-nil pool)
+
+  front : length (take slotNumbers store) ≡ slotNumbers
+  front = length-take-le slotNumbers store (omega (arith, long))
+
+  pub pooled-long : length (pooled store pool) ≡ storeNumbers
+  pooled-long = ap length whole ∙ length-append (take slotNumbers store) pool ∙ omega (arith, front, same, length-drop slotNumbers store, long)
+
+  pub pooled-behind : poolOf (pooled store pool) ≡ pool
+  pooled-behind = ap poolOf whole ∙ drop-at (take slotNumbers store) pool slotNumbers front
+
+  pub pooled-number : (j : ℕ) → j < slotNumbers → getD (pooled store pool) j 0 ≡ getD store j 0
+  pooled-number j h =
+      ap (λ (l : List ℕ). getD l j 0) whole
+      ∙ List·getD-append (take slotNumbers store) pool 0 j (omega (arith, front))
+      ∙ getD-take slotNumbers store j 0 h

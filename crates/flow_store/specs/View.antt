@@ -1,7 +1,7 @@
--- What the three arrays of the store say in the terms of the model.
+-- What the two arrays of flows say in the terms of the model.
 use Prim.Native.Nat.{ℕ, zero, suc, _+_, _-_, _*_, _/_, _%_, _^_, _≤_, _<_}
 use mathlib.Core.Path.{_≡_}
-use mathlib.Core.Bool.{Bool, true, cond}
+use mathlib.Core.Bool.{Bool, true, false, cond}
 use mathlib.Core.List.{List, [], _∷_, map}
 use mathlib.Core.Option.{none, some}
 use lib.ListN.{length, getD, set, take, drop}
@@ -9,14 +9,16 @@ use lib.Seq.{paste}
 use Rattle.model.specs.Sizes.{slotCount, hopEntries}
 use Rattle.model.specs.Formula.{Aggregate}
 use Rattle.model.specs.Orders as model
+use Rattle.model.specs.Orders.{flowOf}
 use Rattle.model.specs.Reference.{Slot}
 use Rattle.units.specs.View.{aggregateOf, AtSource}
-use Rattle.bit_words.specs.View.{wordBits, isSet, LeastClear}
+use Rattle.bit_words.specs.View.{wordBits, isSet}
 use Rattle.queue_table.specs.View.{hopAt}
 use Rattle.orders.specs.declared.Flow.{Flow}
 use Rattle.orders.specs.declared.Change.{Change}
+use Rattle.orders.specs.View.{fieldsOf}
 
--- How many numbers the array of the slots has, and where those of slot i stand; its flow number stands at i.
+-- How many numbers the slots have, and where those of slot i stand; its flow number stands at i.
 abbrev pub slotNumbers : ℕ
 slotNumbers = 7 * slotCount
 
@@ -38,127 +40,138 @@ hopsPosition i = 5 * slotCount + i
 abbrev pub startPosition : (i : ℕ) → ℕ
 startPosition i = 6 * slotCount + i
 
+-- How many numbers the array has: the slots', then the pool of hop entries.
+abbrev pub storeNumbers : ℕ
+storeNumbers = slotNumbers + hopEntries
+
+abbrev pub poolOf : (store : List ℕ) → List ℕ
+poolOf store = drop slotNumbers store
+
 -- How many words of bits there are: slot i is held where bit i is set.
 abbrev pub slotWords : ℕ
 slotWords = slotCount / wordBits
 
 -- The numbers of slot i, those of one kind one after the other.
-abbrev pub numberAt : (slots : List ℕ) (i : ℕ) → ℕ
-numberAt slots i = getD slots i 0
+abbrev pub numberAt : (store : List ℕ) (i : ℕ) → ℕ
+numberAt store i = getD store i 0
 
-abbrev pub rateAt : (slots : List ℕ) (i : ℕ) → ℕ
-rateAt slots i = getD slots (ratePosition i) 0
+abbrev pub rateAt : (store : List ℕ) (i : ℕ) → ℕ
+rateAt store i = getD store (ratePosition i) 0
 
-abbrev pub burstAt : (slots : List ℕ) (i : ℕ) → ℕ
-burstAt slots i = getD slots (burstPosition i) 0
+abbrev pub burstAt : (store : List ℕ) (i : ℕ) → ℕ
+burstAt store i = getD store (burstPosition i) 0
 
-abbrev pub frameAt : (slots : List ℕ) (i : ℕ) → ℕ
-frameAt slots i = getD slots (framePosition i) 0
+abbrev pub frameAt : (store : List ℕ) (i : ℕ) → ℕ
+frameAt store i = getD store (framePosition i) 0
 
-abbrev pub deadlineAt : (slots : List ℕ) (i : ℕ) → ℕ
-deadlineAt slots i = getD slots (deadlinePosition i) 0
+abbrev pub deadlineAt : (store : List ℕ) (i : ℕ) → ℕ
+deadlineAt store i = getD store (deadlinePosition i) 0
 
-abbrev pub hopsAt : (slots : List ℕ) (i : ℕ) → ℕ
-hopsAt slots i = getD slots (hopsPosition i) 0
+abbrev pub hopsAt : (store : List ℕ) (i : ℕ) → ℕ
+hopsAt store i = getD store (hopsPosition i) 0
 
-abbrev pub startAt : (slots : List ℕ) (i : ℕ) → ℕ
-startAt slots i = getD slots (startPosition i) 0
+abbrev pub startAt : (store : List ℕ) (i : ℕ) → ℕ
+startAt store i = getD store (startPosition i) 0
 
 -- The numbers that stand at slot i, held or free.
-abbrev pub headAt : (slots : List ℕ) (i : ℕ) → model.Head
-headAt slots i =
+abbrev pub headAt : (store : List ℕ) (i : ℕ) → model.Head
+headAt store i =
     record {
-      number = numberAt slots i;
-      rate = rateAt slots i;
-      burst = burstAt slots i;
-      frame = frameAt slots i;
-      deadline = deadlineAt slots i;
-      hops = hopsAt slots i;
+      number = numberAt store i;
+      rate = rateAt store i;
+      burst = burstAt store i;
+      frame = frameAt store i;
+      deadline = deadlineAt store i;
+      hops = hopsAt store i;
     }
 
 -- The share at its source of a flow that is there.
-abbrev pub shareAt : (slots : List ℕ) (i : ℕ) → Aggregate
-shareAt slots i = record { rate = rateAt slots i; burst = burstAt slots i; frame = frameAt slots i }
+abbrev pub shareAt : (store : List ℕ) (i : ℕ) → Aggregate
+shareAt store i = record { rate = rateAt store i; burst = burstAt store i; frame = frameAt store i }
 
--- The flow in slot i, where these are its hop entries.
-unfoldable pub flowAt : (slots : List ℕ) (i : ℕ) (entries : List ℕ) → model.Flow
-flowAt slots i entries =
+-- The flow at slot i, where these are its hop entries.
+unfoldable pub flowAt : (store : List ℕ) (i : ℕ) (entries : List ℕ) → model.Flow
+flowAt store i entries =
     record {
-      number = numberAt slots i;
-      rate = rateAt slots i;
-      burst = burstAt slots i;
-      frame = frameAt slots i;
-      deadline = deadlineAt slots i;
+      number = numberAt store i;
+      rate = rateAt store i;
+      burst = burstAt store i;
+      frame = frameAt store i;
+      deadline = deadlineAt store i;
       path = map hopAt entries;
     }
+
+-- The hop entries that the start and the hop count of slot i name, and the flow with them.
+abbrev pub entriesIn : (store : List ℕ) (i : ℕ) → List ℕ
+entriesIn store i = take (hopsAt store i) (drop (startAt store i) (poolOf store))
+
+abbrev pub flowIn : (store : List ℕ) (i : ℕ) → model.Flow
+flowIn store i = flowAt store i (entriesIn store i)
 
 -- The bit alone says whether a slot is held; one that isn't shows nothing of its numbers.
 unfoldable pub slotOf : (held : Bool) → model.Flow → Slot
 slotOf held f = cond held (some f) none
 
+abbrev pub slotIn : (bits store : List ℕ) (i : ℕ) → Slot
+slotIn bits store i = slotOf (isSet bits i) (flowIn store i)
+
+-- The n slots from slot i on, and all.
+unfoldable pub slotsFrom : (n i : ℕ) (bits store : List ℕ) → List Slot
+slotsFrom zero i bits store = []
+slotsFrom (suc n) i bits store = slotIn bits store i ∷ slotsFrom n (suc i) bits store
+
+unfoldable pub slotsOf : (bits store : List ℕ) → List Slot
+slotsOf bits store = slotsFrom slotCount 0 bits store
+
 -- How many hop entries slot i has: its hop count, none where it is free.
-unfoldable pub countAt : (bits slots : List ℕ) (i : ℕ) → ℕ
-countAt bits slots i = cond (isSet bits i) (hopsAt slots i) 0
-
--- The n slots from slot i on, whose entries stand in the pool one after the other.
-unfoldable pub slotsFrom : (n i : ℕ) (bits slots pool : List ℕ) → List Slot
-slotsFrom zero i bits slots pool = []
-slotsFrom (suc n) i bits slots pool =
-    slotOf (isSet bits i) (flowAt slots i (take (countAt bits slots i) pool)) ∷ slotsFrom n (suc i) bits slots (drop (countAt bits slots i) pool)
-
-unfoldable pub slotsOf : (bits slots pool : List ℕ) → List Slot
-slotsOf bits slots pool = slotsFrom slotCount 0 bits slots pool
+unfoldable pub countAt : (bits store : List ℕ) (i : ℕ) → ℕ
+countAt bits store i = cond (isSet bits i) (hopsAt store i) 0
 
 -- The entries of the n slots from slot i on, counted.
-unfoldable pub countsFrom : (n i : ℕ) (bits slots : List ℕ) → ℕ
-countsFrom zero i bits slots = 0
-countsFrom (suc n) i bits slots = countAt bits slots i + countsFrom n (suc i) bits slots
+unfoldable pub countsFrom : (n i : ℕ) (bits store : List ℕ) → ℕ
+countsFrom zero i bits store = 0
+countsFrom (suc n) i bits store = countAt bits store i + countsFrom n (suc i) bits store
 
--- The hop entries of slot i, and the flow that is there.
-abbrev pub entriesIn : (bits slots pool : List ℕ) (i : ℕ) → List ℕ
-entriesIn bits slots pool i = take (countAt bits slots i) (drop (countsFrom i 0 bits slots) pool)
+-- The held paths fit the pool, and each starts where those before it end: so counts alone say whether there is room.
+pub record Packed (bits store : List ℕ) : Type 0 where
+  pub fits : countsFrom slotCount 0 bits store ≤ hopEntries
+  pub starts : (i : ℕ) → i < slotCount → isSet bits i ≡ true → startAt store i ≡ countsFrom i 0 bits store
 
-abbrev pub flowIn : (bits slots pool : List ℕ) (i : ℕ) → model.Flow
-flowIn bits slots pool i = flowAt slots i (entriesIn bits slots pool i)
-
--- The held paths fit the pool, and each held slot has the position where its own starts.
-pub record Packed (bits slots : List ℕ) : Type 0 where
-  pub fits : countsFrom slotCount 0 bits slots ≤ hopEntries
-  pub starts : (i : ℕ) → i < slotCount → isSet bits i ≡ true → startAt slots i ≡ countsFrom i 0 bits slots
-
--- Three arrays of the right size, and packed. The numbers of a free slot, and the entries past the counts, are no flow's: what
--- `insert` and `remove` leave there is free.
-pub record Store (bits slots pool : List ℕ) : Type 0 where
+-- Two arrays of the right size, and packed. The numbers of a free slot, and the entries past the counts, are no flow's: what
+-- `insert`, `append` and `remove` leave there is free.
+pub record PackedStore (bits store : List ℕ) : Type 0 where
   pub bits-long : length bits ≡ slotWords
-  pub slots-long : length slots ≡ slotNumbers
-  pub pool-long : length pool ≡ hopEntries
-  pub packed : Packed bits slots
+  pub store-long : length store ≡ storeNumbers
+  pub packed : Packed bits store
 
--- A slot's start and hop count lie in a pool of this length.
-abbrev pub PathInside : (slots : List ℕ) (i long : ℕ) → Type 0
-PathInside slots i long = startAt slots i + hopsAt slots i ≤ long
+-- The entries that a slot's start and hop count name lie in the pool.
+abbrev pub PathInside : (store : List ℕ) (i : ℕ) → Type 0
+PathInside store i = startAt store i + hopsAt store i ≤ hopEntries
+
+-- Two arrays of the right size in which each held path can be read, packed or not.
+pub record Readable (bits store : List ℕ) : Type 0 where
+  pub bits-long : length bits ≡ slotWords
+  pub store-long : length store ≡ storeNumbers
+  pub inside : (i : ℕ) → i < slotCount → isSet bits i ≡ true → PathInside store i
 
 -- Where the entries of the slot before slot i end, as its start and hop count say; 0 for the first slot.
-unfoldable pub endBefore : (slots : List ℕ) (i : ℕ) → ℕ
-endBefore slots zero = 0
-endBefore slots (suc i) = startAt slots i + hopsAt slots i
-
--- The entries that a slot's start and hop count name.
-abbrev pub entriesNamed : (slots pool : List ℕ) (i : ℕ) → List ℕ
-entriesNamed slots pool i = take (hopsAt slots i) (drop (startAt slots i) pool)
+unfoldable pub endBefore : (store : List ℕ) (i : ℕ) → ℕ
+endBefore store zero = 0
+endBefore store (suc i) = startAt store i + hopsAt store i
 
 -- A flow's numbers stored at a slot whose path starts there.
 unfoldable pub flowStored : (slot start : ℕ) → Flow → List ℕ → List ℕ
-flowStored slot start f slots =
-    let rated = set (set slots slot (f .number)) (ratePosition slot) (f .share .rate .0) in
+flowStored slot start f store =
+    let rated = set (set store slot (f .number)) (ratePosition slot) (f .share .rate .0) in
     let framed = set (set rated (burstPosition slot) (f .share .burst .0)) (framePosition slot) (f .share .frame .0) in
     set (set (set framed (deadlinePosition slot) (f .deadline .0)) (hopsPosition slot) (f .hops)) (startPosition slot) start
 
--- The starts from slot `from` on with `by` added in 32 bits, so that the complement of a count moves them down; all before them is as it was.
-pub record StartsMoved (from by : ℕ) (slots slots′ : List ℕ) : Type 0 where
-  pub long : length slots′ ≡ length slots
-  pub moved : (i : ℕ) → from ≤ i → i < slotCount → startAt slots′ i ≡ (startAt slots i + by) % 2 ^ 32
-  pub others : (j : ℕ) → j < startPosition from → getD slots′ j 0 ≡ getD slots j 0
+-- The starts from slot `from` on with `by` added in 32 bits, so that the complement of a count moves them down; all before and behind them is as it was.
+pub record StartsMoved (from by : ℕ) (store store′ : List ℕ) : Type 0 where
+  pub long : length store′ ≡ length store
+  pub moved : (i : ℕ) → from ≤ i → i < slotCount → startAt store′ i ≡ (startAt store i + by) % 2 ^ 32
+  pub others : (j : ℕ) → j < startPosition from → getD store′ j 0 ≡ getD store j 0
+  pub behind : poolOf store′ ≡ poolOf store
 
 -- The entries from position `start` up to `end` moved up, and a path's put before them.
 unfoldable pub pathInserted : (start end : ℕ) (entries pool : List ℕ) → List ℕ
@@ -179,19 +192,27 @@ pub record ChangeNarrow (c : Change) : Type 0 where
   pub rate : c .rate .0 ≤ 10000000
   pub burst : c .burst .0 ≤ 1000000
 
--- A flow with its path that goes to the lowest free slot, and for which the pool has room.
-pub record Insertable (slot : ℕ) (f : Flow) (entries bits slots pool : List ℕ) : Type 0 where
-  pub store : Store bits slots pool
+-- A flow with its path for which the pool has room.
+pub record Placeable (slot : ℕ) (f : Flow) (entries bits store : List ℕ) : Type 0 where
+  pub stored : PackedStore bits store
   pub narrow : Narrow f
   pub inside : slot < slotCount
-  pub lowest : LeastClear bits slot
   pub hops : f .hops ≡ length entries
-  pub room : countsFrom slotCount 0 bits slots + length entries ≤ hopEntries
+  pub room : countsFrom slotCount 0 bits store + length entries ≤ hopEntries
+
+-- The slot holds the flow with its path, all others are as they were, and the paths are packed again.
+pub record Placed (slot : ℕ) (f : Flow) (entries bits store bits′ store′ : List ℕ) : Type 0 where
+  pub view : slotsOf bits′ store′ ≡ set (slotsOf bits store) slot (some (flowOf (fieldsOf f) (map hopAt entries)))
+  pub stored : PackedStore bits′ store′
+
+-- Every slot from this one on is free.
+abbrev pub FreeFrom : (bits : List ℕ) (slot : ℕ) → Type 0
+FreeFrom bits slot = (i : ℕ) → slot ≤ i → i < slotCount → isSet bits i ≡ false
 
 -- How many slots are compared together.
 abbrev pub blockSlots : ℕ
 blockSlots = 16
 
 -- None of the slots from `i` up to `end`, held or free, has this flow number.
-abbrev pub OthersFrom : (number : ℕ) (slots : List ℕ) (i end : ℕ) → Type 0
-OthersFrom number slots i end = (j : ℕ) → i ≤ j → j < end → getD slots j 0 ≡ number → ⊥
+abbrev pub OthersFrom : (number : ℕ) (store : List ℕ) (i end : ℕ) → Type 0
+OthersFrom number store i end = (j : ℕ) → i ≤ j → j < end → getD store j 0 ≡ number → ⊥

@@ -1,5 +1,5 @@
 -- What the values of this crate say in the terms of the model.
-use Prim.Native.Nat.{ℕ}
+use Prim.Native.Nat.{ℕ, _^_, _<_}
 use mathlib.Core.List.{List, map}
 use Rattle.units.specs.declared.Aggregate.{Aggregate}
 use Rattle.units.specs.declared.Bytes.{Bytes}
@@ -22,6 +22,10 @@ queueOf q = record { threshold = q .threshold .0; buffer = q .buffer .0 }
 
 abbrev pub queuesOf : List Queue → List model-table.Queue
 queuesOf = map queueOf
+
+-- Both numbers of a queue are of 32 bits, as the table's are.
+abbrev pub Narrow : Queue → Type 0
+Narrow q = (q .threshold .0 < 2 ^ 32) × (q .buffer .0 < 2 ^ 32)
 
 -- Document 01's code and level.
 abbrev pub levelFindingOf : LevelFinding → model-check.Finding

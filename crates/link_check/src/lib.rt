@@ -3,13 +3,14 @@
 ghost use mathlib.Core.Path.{_≡_};
 ghost use mathlib.Core.List.{[]};
 ghost use Prim.Native.Nat.{_+_, _*_, _^_, _≤_, _<_};
+ghost use Rattle.model.specs.Words.{All};
 ghost use Rattle.model.specs.Total.{total, largest};
 ghost use Rattle.model.specs.LinkCheck.{levelsFinding, linkFinding};
 ghost use Rattle.model.specs.Reference.{linkCause};
 ghost use Rattle.model.specs.Laws.LinkSteps.{levelFinding, blockings};
 ghost use Rattle.units.specs.View.{aggregateOf};
 ghost use Rattle.causes.specs.View.{findingOf};
-ghost use Rattle.link_check.specs.View.{aggregatesOf, queueOf, queuesOf, bytesOf, levelFindingOf};
+ghost use Rattle.link_check.specs.View.{aggregatesOf, queueOf, queuesOf, Narrow, bytesOf, levelFindingOf};
 use causes::Cause;
 use causes::Finding;
 use queue_table::LEVELS;
@@ -17,10 +18,10 @@ use queue_table::Queue;
 use units::Aggregate;
 use units::Bytes;
 use units::Rate;
-use units::backlog_bound;
-use units::delay_bound;
 use units::larger;
 use units::residual_rate;
+use units::within_backlog;
+use units::within_delay;
 use units::within_rate;
 
 // What the check of levels finds first, with the level, counted from 1.
@@ -81,10 +82,9 @@ fn check_level(
     requires { ⌜ speed ≤ 10000 ⌝ }
     requires { ⌜ above .rate .0 + own .rate .0 < 1000 * speed ⌝ }
     requires { ⌜ above .burst .0 + blocked .0 + own .frame .0 + own .burst .0 ≤ 2 ^ 40 ⌝ }
+    requires { ⌜ Narrow queue ⌝ }
     ensures { λ r. ⌜ levelFindingOf r ≡ levelFinding speed level (queueOf queue) (aggregateOf above) (aggregateOf own) (blocked .0) ⌝ }
 {
-    let threshold = queue.threshold;
-    let buffer = queue.buffer;
     let frame = own.frame;
     if frame.0 == 0 {
         return LevelFinding::Fits;
@@ -92,12 +92,10 @@ fn check_level(
     let res = residual_rate(speed, above.rate);
     let burst = above.burst;
     let y = Bytes(burst.0 + blocked.0 + frame.0);
-    let delay = delay_bound(y, own.burst, res);
-    if threshold.0 < delay.0 {
+    if !within_delay(y, own.burst, res, queue.threshold) {
         return LevelFinding::OverDelay(level);
     }
-    let backlog = backlog_bound(own.rate, own.burst, y, res);
-    if buffer.0 < backlog.0 {
+    if !within_backlog(own.rate, own.burst, y, res, queue.buffer) {
         return LevelFinding::OverBacklog(level);
     }
     LevelFinding::Fits
@@ -113,6 +111,7 @@ fn check_levels(
     requires { ⌜ speed ≤ 10000 ⌝ }
     requires { ⌜ total (λ a. a .rate) (aggregatesOf levels) < 1000 * speed ⌝ }
     requires { ⌜ total (λ a. a .burst) (aggregatesOf levels) + 2 * largest (λ a. a .frame) (aggregatesOf levels) + besteffort .0 ≤ 2 ^ 40 ⌝ }
+    requires { ⌜ All Narrow queues ⌝ }
     ensures { λ r. ⌜ levelFindingOf r ≡ levelsFinding speed (besteffort .0) 1 [] (queuesOf queues) (aggregatesOf levels) ⌝ }
 {
     let blocked = blockings(besteffort, levels);
@@ -156,6 +155,7 @@ pub fn check_link(
     requires { ⌜ speed ≤ 10000 ⌝ }
     requires { ⌜ total (λ a. a .rate) (aggregatesOf levels) < 2 ^ 40 ⌝ }
     requires { ⌜ total (λ a. a .burst) (aggregatesOf levels) + 2 * largest (λ a. a .frame) (aggregatesOf levels) + besteffort .0 ≤ 2 ^ 40 ⌝ }
+    requires { ⌜ All Narrow queues ⌝ }
     ensures { λ r. ⌜ r .levels ≡ levels ⌝ }
     ensures { λ r. ⌜ findingOf (r .finding) ≡ linkCause link (linkFinding speed (besteffort .0) (queuesOf queues) (aggregatesOf levels)) ⌝ }
 {

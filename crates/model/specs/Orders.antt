@@ -6,7 +6,7 @@ use mathlib.Core.Option.{Option, none, some}
 use lib.ListN.{length, drop}
 use lib.Dec.{eqb}
 use Rattle.model.specs.Words.{andThen}
-use Rattle.model.specs.Sizes.{hopsMost, headColumns, hopColumns}
+use Rattle.model.specs.Sizes.{numberMost, hopsMost, headColumns, hopColumns}
 use Rattle.model.specs.Columns.{Line, ended, unended, fieldAt, between}
 
 pub record Hop : Type 0 where
@@ -73,7 +73,7 @@ unfoldable pub pathFields : ℕ → List ℕ → Option (List Hop)
 pathFields hops line = cond (eqb (length line) (headColumns + hopColumns * hops)) (hopFields hops (drop headColumns line)) none
 
 unfoldable pub numberInRange : ℕ → Bool
-numberInRange = between 1 65535
+numberInRange = between 1 numberMost
 
 abbrev pub rateInRange : ℕ → Bool
 rateInRange = between 1 10000000

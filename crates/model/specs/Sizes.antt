@@ -18,6 +18,10 @@ hopsMost = 12
 abbrev pub thresholdsMost : ℕ
 thresholdsMost = hopsMost * 100000
 
+-- The greatest flow number.
+abbrev pub numberMost : ℕ
+numberMost = 65535
+
 -- Slots (document 01: places), and hop entries for all flows together.
 abbrev pub slotCount : ℕ
 slotCount = 256

@@ -23,8 +23,9 @@ use Rattle.model.specs.Laws.Handover.{head-long, path-long, line-long}
 use Rattle.columns.proofs.PartLaws.{field-next, byte-next, text-put, Filling, filling-room, filling-put}
 use Rattle.bit_words.specs.View.{isSet}
 use Rattle.queue_table.specs.View.{hopAt}
-use Rattle.flow_store.specs.View.{hopsAt, headAt, flowAt, flowIn, slotOf, slotsOf, entriesNamed, Store}
-use Rattle.flow_store.proofs.ViewLaws.{slot-at, held-slot, path-named, count-held, entries-long}
+use Rattle.flow_store.specs.View.{hopsAt, headAt, flowAt, flowIn, slotOf, slotsOf, entriesIn, Readable}
+use Rattle.flow_store.specs.Laws.{slot-at, held-slot}
+use Rattle.flow_store.proofs.ViewLaws.{entries-long}
 use Rattle.order_text.specs.declared.Written.{Written}
 use Rattle.order_text.specs.View.{slotText, textIn, WritesArrays, consistent, inconsistent}
 
@@ -134,25 +135,25 @@ module _ (h : Head) (entries : List ℕ) (hops : h .hops ≡ length entries) whe
   line-size = line-long (flowOf h path) ∙ omega (arith, length-map entries hopAt)
 
 -- What stands at a slot.
-module _ (bits slots pool : List ℕ) (store : Store bits slots pool) (k : ℕ) (inside : k < slotCount) where
-  pub free-text : isSet bits k ≡ false → slotText (getD (slotsOf bits slots pool) k none) ≡ []
+module _ (bits store : List ℕ) (stored : Readable bits store) (k : ℕ) (inside : k < slotCount) where
+  pub free-text : isSet bits k ≡ false → slotText (getD (slotsOf bits store) k none) ≡ []
   unfolding slotText slotOf
-  free-text free = ap slotText (slot-at bits slots k pool inside ∙ ap (λ (b : Bool). slotOf b (flowIn bits slots pool k)) free)
+  free-text free = ap slotText (slot-at bits store k inside ∙ ap (λ (b : Bool). slotOf b (flowIn store k)) free)
 
-  pub held-text : isSet bits k ≡ true → slotText (getD (slotsOf bits slots pool) k none) ≡ flowLine (flowOf (headAt slots k) (map hopAt (entriesNamed slots pool k)))
+  pub held-text : isSet bits k ≡ true → slotText (getD (slotsOf bits store) k none) ≡ flowLine (flowOf (headAt store k) (map hopAt (entriesIn store k)))
   unfolding slotText flowAt flowOf
-  held-text held = ap slotText (held-slot bits slots k pool inside held) ∙ ap (λ (es : List ℕ). flowLine (flowAt slots k es)) (sym (path-named bits slots pool store k inside held))
+  held-text held = ap slotText (held-slot bits store k inside held)
 
   -- As many hop entries as its slot counts.
-  pub named-long : isSet bits k ≡ true → length (entriesNamed slots pool k) ≡ hopsAt slots k
-  named-long held = ap length (path-named bits slots pool store k inside held) ∙ entries-long bits slots k pool inside store ∙ count-held bits slots k held
+  pub named-long : isSet bits k ≡ true → length (entriesIn store k) ≡ hopsAt store k
+  named-long held = entries-long store (stored .store-long) k (stored .inside k inside held)
 
-  pub held-size : isSet bits k ≡ true → length (slotText (getD (slotsOf bits slots pool) k none)) ≡ headColumns + 1 + hopColumns * hopsAt slots k
+  pub held-size : isSet bits k ≡ true → length (slotText (getD (slotsOf bits store) k none)) ≡ headColumns + 1 + hopColumns * hopsAt store k
   unfolding flowOf
   held-size held =
       ap length (held-text held)
-      ∙ line-long (flowOf (headAt slots k) (map hopAt (entriesNamed slots pool k)))
-      ∙ ap (λ n. headColumns + 1 + hopColumns * n) (length-map (entriesNamed slots pool k) hopAt ∙ named-long held)
+      ∙ line-long (flowOf (headAt store k) (map hopAt (entriesIn store k)))
+      ∙ ap (λ n. headColumns + 1 + hopColumns * n) (length-map (entriesIn store k) hopAt ∙ named-long held)
 
 -- No more bytes are filled than the area has.
 writing-within : (text area : List ℕ) → writing text area .bytes ≤ length area
@@ -163,8 +164,8 @@ writing-within text area = go (ltb (length area) (length text)) refl
     go true e = omega arith
     go false e = ltb-false _ _ e
 
-pub bytes-within : {table bits slots pool sums area area′ : List ℕ} {r : Written} → WritesArrays table bits slots pool sums area area′ r → r .bytes ≤ length area
+pub bytes-within : {table bits store figures area area′ : List ℕ} {r : Written} → WritesArrays table bits store figures area area′ r → r .bytes ≤ length area
 unfolding refusedWriting
-bytes-within {bits = bits} {slots} {pool} {area = area} (consistent kept e) =
-    omega (arith, ap (λ (m : Writing). m .bytes) e, writing-within (textIn bits slots pool) area)
+bytes-within {bits = bits} {store} {area = area} (consistent kept e) =
+    omega (arith, ap (λ (m : Writing). m .bytes) e, writing-within (textIn bits store) area)
 bytes-within (inconsistent spoilt e) = omega (arith, ap (λ (m : Writing). m .bytes) e)

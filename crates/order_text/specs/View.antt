@@ -11,7 +11,7 @@ use Rattle.causes.specs.declared.Finding.{Finding}
 use Rattle.causes.specs.declared.Finding.the-variants.{Nothing, Against}
 use Rattle.causes.specs.View.{causeOf}
 use Rattle.flow_store.specs.View.{slotsOf}
-use Rattle.admission.specs.View.{Kept}
+use Rattle.admission.specs.View.{ConsistentArrays}
 use Rattle.registry.specs.declared.Registry.{Registry}
 use Rattle.order_text.specs.declared.Written.{Written}
 
@@ -21,11 +21,11 @@ slotText none = []
 slotText (some f) = model.flowLine f
 
 -- The same of slot i of the arrays, and of all their slots: the text of the held flows.
-abbrev pub lineAt : (bits slots pool : List ℕ) (i : ℕ) → List ℕ
-lineAt bits slots pool i = slotText (getD (slotsOf bits slots pool) i none)
+abbrev pub lineAt : (bits store : List ℕ) (i : ℕ) → List ℕ
+lineAt bits store i = slotText (getD (slotsOf bits store) i none)
 
-abbrev pub textIn : (bits slots pool : List ℕ) → List ℕ
-textIn bits slots pool = model.handoverText (heldFlows (slotsOf bits slots pool))
+abbrev pub textIn : (bits store : List ℕ) → List ℕ
+textIn bits store = model.handoverText (heldFlows (slotsOf bits store))
 
 -- 0, or the code of the cause.
 abbrev pub codeOf : Finding → ℕ
@@ -36,12 +36,12 @@ abbrev pub writtenOf : Written → (area : List ℕ) → model.Writing
 writtenOf r area = record { code = codeOf (r .finding); bytes = r .bytes; area = area }
 
 -- What is said of arrays of any content, and the area then: 42 where they aren't a consistent registry, else the text of the held flows, or 43.
-pub data WritesArrays (table bits slots pool sums area area′ : List ℕ) (r : Written) : Type 0 where
-  consistent : Kept table bits slots pool sums → writtenOf r area′ ≡ model.writing (textIn bits slots pool) area
-      → WritesArrays table bits slots pool sums area area′ r
-  inconsistent : (Kept table bits slots pool sums → ⊥) → writtenOf r area′ ≡ model.refusedWriting 42 area
-      → WritesArrays table bits slots pool sums area area′ r
+pub data WritesArrays (table bits store figures area area′ : List ℕ) (r : Written) : Type 0 where
+  consistent : ConsistentArrays table bits store figures → writtenOf r area′ ≡ model.writing (textIn bits store) area
+      → WritesArrays table bits store figures area area′ r
+  inconsistent : (ConsistentArrays table bits store figures → ⊥) → writtenOf r area′ ≡ model.refusedWriting 42 area
+      → WritesArrays table bits store figures area area′ r
 
 -- The same of a registry.
 abbrev pub Writes : Registry → (area area′ : List ℕ) → Written → Type 0
-Writes r = WritesArrays (r .table) (r .bits) (r .slots) (r .pool) (r .sums)
+Writes r = WritesArrays (r .table) (r .bits) (r .store) (r .figures)

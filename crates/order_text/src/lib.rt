@@ -10,7 +10,7 @@ ghost use Rattle.model.specs.Handover.{headText, hopText, flowLine, refusedWrit
 ghost use Rattle.causes.specs.View.{causeOf};
 ghost use Rattle.queue_table.specs.View.{hopAt};
 ghost use Rattle.orders.specs.View.{fieldsOf};
-ghost use Rattle.flow_store.specs.View.{slotWords, slotNumbers, Store};
+ghost use Rattle.flow_store.specs.View.{Readable};
 ghost use Rattle.registry.specs.View.{Sized};
 ghost use Rattle.order_text.specs.View.{lineAt, textIn, writtenOf, WritesArrays, Writes};
 use causes::Cause;
@@ -91,54 +91,54 @@ pub fn write_line(flow: Flow, entries: &[u32], part: &mut [u8]) -> usize
 }
 
 // How many bytes a slot's line has, 0 where the slot is free.
-fn slot_bytes(slot: usize, bits: &[u64], slots: &[u32]) -> usize
-    requires { ⌜ (length (now bits) ≡ slotWords) × (length (now slots) ≡ slotNumbers) × (slot < slotCount) ⌝ }
-    ensures { λ r. ⌜ ((pool : List ℕ) → Store (now (bits .entry)) (now (slots .entry)) pool → r ≡ length (lineAt (now (bits .entry)) (now (slots .entry)) pool slot)) ⌝ }
+fn slot_bytes(slot: usize, bits: &[u64], store: &[u32]) -> usize
+    requires { ⌜ Readable (now bits) (now store) × (slot < slotCount) ⌝ }
+    ensures { λ r. ⌜ r ≡ length (lineAt (now (bits .entry)) (now (store .entry)) slot) ⌝ }
     ensures { λ r. ⌜ r < 2 ^ 36 ⌝ }
 {
     if !flow_store::is_held(slot, bits) {
         return 0;
     }
-    let flow = flow_store::flow_at(slot, slots);
+    let flow = flow_store::flow_at(slot, store);
     HEAD_COLUMNS + 1 + HOP_COLUMNS * (flow.hops as usize)
 }
 
 // How many bytes the text has.
-fn text_bytes(bits: &[u64], slots: &[u32]) -> usize
-    requires { ⌜ (length (now bits) ≡ slotWords) × (length (now slots) ≡ slotNumbers) ⌝ }
-    ensures { λ r. ⌜ ((pool : List ℕ) → Store (now (bits .entry)) (now (slots .entry)) pool → r ≡ length (textIn (now (bits .entry)) (now (slots .entry)) pool)) ⌝ }
+fn text_bytes(bits: &[u64], store: &[u32]) -> usize
+    requires { ⌜ Readable (now bits) (now store) ⌝ }
+    ensures { λ r. ⌜ r ≡ length (textIn (now (bits .entry)) (now (store .entry))) ⌝ }
 {
     let mut bytes = 0;
     let mut slot = 0;
     while slot < SLOTS {
-        bytes += slot_bytes(slot, bits, slots);
+        bytes += slot_bytes(slot, bits, store);
         slot += 1;
     }
     bytes
 }
 
 // A slot's line at the front of `part`, nothing where the slot is free: how many bytes it has.
-fn write_slot(slot: usize, bits: &[u64], slots: &[u32], pool: &[u32], part: &mut [u8]) -> usize
-    requires { ⌜ Store (now bits) (now slots) (now pool) × (slot < slotCount) × (length (lineAt (now bits) (now slots) (now pool) slot) ≤ length (now part)) ⌝ }
-    ensures { λ r. ⌜ now (part .exit) ≡ lineAt (now (bits .entry)) (now (slots .entry)) (now (pool .entry)) slot ++ drop r (now (part .entry)) ⌝ }
-    ensures { λ r. ⌜ r ≡ length (lineAt (now (bits .entry)) (now (slots .entry)) (now (pool .entry)) slot) ⌝ }
+fn write_slot(slot: usize, bits: &[u64], store: &[u32], part: &mut [u8]) -> usize
+    requires { ⌜ Readable (now bits) (now store) × (slot < slotCount) × (length (lineAt (now bits) (now store) slot) ≤ length (now part)) ⌝ }
+    ensures { λ r. ⌜ now (part .exit) ≡ lineAt (now (bits .entry)) (now (store .entry)) slot ++ drop r (now (part .entry)) ⌝ }
+    ensures { λ r. ⌜ r ≡ length (lineAt (now (bits .entry)) (now (store .entry)) slot) ⌝ }
 {
     if !flow_store::is_held(slot, bits) {
         return 0;
     }
-    let path = flow_store::path_of(slot, slots, pool);
-    write_line(flow_store::flow_at(slot, slots), path, part)
+    let path = flow_store::path_of(slot, store);
+    write_line(flow_store::flow_at(slot, store), path, part)
 }
 
 // Slot after slot.
-fn write_slots(bits: &[u64], slots: &[u32], pool: &[u32], area: &mut [u8])
-    requires { ⌜ Store (now bits) (now slots) (now pool) × (length (textIn (now bits) (now slots) (now pool)) ≤ length (now area)) ⌝ }
-    ensures { λ _. ⌜ now (area .exit) ≡ textIn (now (bits .entry)) (now (slots .entry)) (now (pool .entry)) ++ drop (length (textIn (now (bits .entry)) (now (slots .entry)) (now (pool .entry)))) (now (area .entry)) ⌝ }
+fn write_slots(bits: &[u64], store: &[u32], area: &mut [u8])
+    requires { ⌜ Readable (now bits) (now store) × (length (textIn (now bits) (now store)) ≤ length (now area)) ⌝ }
+    ensures { λ _. ⌜ now (area .exit) ≡ textIn (now (bits .entry)) (now (store .entry)) ++ drop (length (textIn (now (bits .entry)) (now (store .entry)))) (now (area .entry)) ⌝ }
 {
     let mut at = 0;
     let mut slot = 0;
     while slot < SLOTS {
-        at += write_slot(slot, bits, slots, pool, &mut area[at..]);
+        at += write_slot(slot, bits, store, &mut area[at..]);
         slot += 1;
     }
 }
@@ -157,22 +157,21 @@ fn refused(cause: Cause) -> Written
 fn write_arrays(
     table: &[u32],
     bits: &[u64],
-    slots: &[u32],
-    pool: &[u32],
-    sums: &[u64],
+    store: &[u32],
+    figures: &[u64],
     area: &mut [u8],
 ) -> Written
-    requires { ⌜ Sized (now table) (now bits) (now slots) (now pool) (now sums) ⌝ }
-    ensures { λ r. ⌜ WritesArrays (now (table .entry)) (now (bits .entry)) (now (slots .entry)) (now (pool .entry)) (now (sums .entry)) (now (area .entry)) (now (area .exit)) r ⌝ }
+    requires { ⌜ Sized (now table) (now bits) (now store) (now figures) ⌝ }
+    ensures { λ r. ⌜ WritesArrays (now (table .entry)) (now (bits .entry)) (now (store .entry)) (now (figures .entry)) (now (area .entry)) (now (area .exit)) r ⌝ }
 {
-    if !registry::is_consistent(table, bits, slots, pool, sums) {
+    if !registry::is_consistent(table, bits, store, figures) {
         return refused(Cause::Inconsistent);
     }
-    let bytes = text_bytes(bits, slots);
+    let bytes = text_bytes(bits, store);
     if area.len() < bytes {
         return refused(Cause::AreaTooShort);
     }
-    write_slots(bits, slots, pool, area);
+    write_slots(bits, store, area);
     Written {
         finding: Finding::Nothing,
         bytes,
@@ -185,8 +184,7 @@ pub fn write(registry: Registry, area: &mut [u8]) -> Written
 {
     let table = registry.table;
     let bits = registry.bits;
-    let slots = registry.slots;
-    let pool = registry.pool;
-    let sums = registry.sums;
-    write_arrays(&table, &bits, &slots, &pool, &sums, area)
+    let store = registry.store;
+    let figures = registry.figures;
+    write_arrays(&table, &bits, &store, &figures, area)
 }

@@ -17,6 +17,9 @@ use units::Rate;
 // The bytes of the smallest frame.
 pub const SMALLEST_FRAME: u64 = 84;
 
+// The greatest flow number.
+pub const MOST_NUMBER: usize = 65535;
+
 // How many hops a path has at the most.
 pub const MOST_HOPS: usize = 12;
 
@@ -118,7 +121,7 @@ fn read_release(line: &[u8]) -> OrderLine
     let Field::Number(number) = columns::read_at(line, 3, 8) else {
         return bare(Order::Malformed);
     };
-    if columns::within(1, 65535, columns::wide(number)) {
+    if columns::within(1, MOST_NUMBER as u64, columns::wide(number)) {
         return bare(Order::Release(number));
     }
     bare(Order::OutOfRange)
@@ -203,7 +206,7 @@ fn source_in_range(source: Change) -> bool
     let number = source.number;
     let rate = source.rate;
     let burst = source.burst;
-    if !columns::within(1, 65535, columns::wide(number)) {
+    if !columns::within(1, MOST_NUMBER as u64, columns::wide(number)) {
         return false;
     }
     if !rate_in_range(rate) {

@@ -1,3 +1,4 @@
 pub mod EntryLaws
 pub mod SearchLaws
+pub mod MetLaws
 pub mod LocateLaws

@@ -75,25 +75,22 @@ module _ (entries : List ℕ) where
     pub none-found : length entries ≤ i → searchFrom code test (map hopAt entries) i ≡ hopCause code (map hopAt entries) i
     none-found h = ended-at code test (map hopAt entries) i (omega (arith, map-long))
 
-  -- The hops before hop j, the nearest first.
-  nearest : (j : ℕ) → 0 < j → j ≤ length entries
-      → earlierThan entries j ≡ hopAt (getD entries (j - 1) 0) ∷ earlierThan entries (j - 1)
-  nearest j pos h =
-      let e : j - 1 + 1 ≡ j = omega arith in
-      rw e at (reverse-take (map hopAt entries) (j - 1) (hopAt 0) (omega (arith, map-long)))
-      ∙ ap (λ (x : Hop). x ∷ earlierThan entries (j - 1)) (hop-of (j - 1))
+  -- The hops before hop i + 1, the nearest first.
+  earlier-next : (i : ℕ) → i < length entries → earlierThan entries (i + 1) ≡ hopAt (getD entries i 0) ∷ earlierThan entries i
+  earlier-next i h =
+      reverse-take (map hopAt entries) i (hopAt 0) (omega (arith, map-long)) ∙ ap (λ (x : Hop). x ∷ earlierThan entries i) (hop-of i)
 
-  pub crosses-nearest : (link j : ℕ) → 0 < j → j ≤ length entries
-      → crosses (link + 1) (earlierThan entries j)
-      ≡ (eqb (linkIn (getD entries (j - 1) 0)) link || crosses (link + 1) (earlierThan entries (j - 1)))
-  crosses-nearest link j pos h =
-      ap (crosses (link + 1)) (nearest j pos h) ∙ crosses-entry link (getD entries (j - 1) 0) (earlierThan entries (j - 1))
+  pub crosses-next : (link i : ℕ) → i < length entries
+      → crosses (link + 1) (earlierThan entries (i + 1)) ≡ (eqb (linkIn (getD entries i 0)) link || crosses (link + 1) (earlierThan entries i))
+  crosses-next link i h =
+      ap (crosses (link + 1)) (earlier-next i h) ∙ crosses-entry link (getD entries i 0) (earlierThan entries i)
 
   pub starts-nearest : (table : List ℕ) (i : ℕ) → AllQueues table entries → 0 < i → i < length entries
       → startsElsewhere (tableOf table) (earlierThan entries i) (hopAt (getD entries i 0))
       ≡ not (eqb (fromAt table (linkIn (getD entries i 0))) (toAt table (linkIn (getD entries (i - 1) 0))))
   starts-nearest table i a pos h =
-      ap (λ (before : List Hop). startsElsewhere (tableOf table) before (hopAt (getD entries i 0))) (nearest i pos (omega arith))
+      let e : i - 1 + 1 ≡ i = omega arith in
+      ap (λ (before : List Hop). startsElsewhere (tableOf table) before (hopAt (getD entries i 0))) (rw e at (earlier-next (i - 1) (omega arith)))
       ∙ starts-elsewhere table _ (getD entries (i - 1) 0) (getD entries i 0) (all-getD (λ e. isQueue table e ≡ true) entries (i - 1) 0 a (omega arith)) (all-getD (λ e. isQueue table e ≡ true) entries i 0 a h)
 
 -- The path of an order line.

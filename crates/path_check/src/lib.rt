@@ -7,7 +7,7 @@ ghost use mathlib.Core.Path.{_≡_};
 ghost use mathlib.Core.List.{[], map};
 ghost use Prim.Native.Nat.{_≤_, _<_, _^_};
 ghost use lib.ListN.{length, getD};
-ghost use Rattle.model.specs.Words.{isNone};
+ghost use Rattle.model.specs.Words.{All, isNone};
 ghost use Rattle.model.specs.Sizes.{queuesMost, hopsMost};
 ghost use Rattle.model.specs.Reference.{atHop, noQueue, metEarlier, startsElsewhere, pathDelay};
 ghost use Rattle.queue_table.specs.View.{tableNumbers, tableOf, hopAt, AllQueues, WellFormed};
@@ -89,32 +89,20 @@ pub fn all_queues(table: &[u32], entries: &[u32]) -> bool
     true
 }
 
-// Whether one of the hops before hop i is on its link.
-fn met_before(entries: &[u32], i: usize) -> bool
-    requires { ⌜ i < length (now entries) ⌝ }
-    ensures { λ r. ⌜ r ≡ metEarlier (earlierThan (now (entries .entry)) i) (hopAt (getD (now (entries .entry)) i 0)) ⌝ }
-{
-    let link = queue_table::link_of(entries[i] as usize);
-    let mut j = i;
-    while 0 < j {
-        j -= 1;
-        if queue_table::link_of(entries[j] as usize) == link {
-            return true;
-        }
-    }
-    false
-}
-
-// 16 a link met earlier on the path.
+// 16 a link met earlier on the path, in one pass: a link is a bit of `met`, set once a hop is on it.
 pub fn repeated(entries: &[u32]) -> usize
+    requires { ⌜ All (λ e. e < queuesMost) (now entries) ⌝ }
     ensures { λ r. ⌜ atHop 16 metEarlier [] (map hopAt (now (entries .entry))) ≡ hopCause 16 (map hopAt (now (entries .entry))) r ⌝ }
     ensures within { λ r. ⌜ r ≤ length (now (entries .entry)) ⌝ }
 {
+    let mut met: u64 = 0;
     let mut i = 0;
     while i < entries.len() {
-        if met_before(entries, i) {
+        let link = queue_table::link_of(entries[i] as usize);
+        if (met >> link) % 2 == 1 {
             return i;
         }
+        met = met | (1 << link);
         i += 1;
     }
     i

@@ -66,7 +66,7 @@ pub record ReadAsBatch (before : Registry) (text table : List ℕ) : Type 0 wher
   pub slots : afterText table text .slots ≡ inTurn (flowsIn before)
   pub flows : heldFlows (afterText table text .slots) ≡ flowsIn before
   pub figures : (e : ℕ) → e < queuesMost
-      → aggregateAt (afterText table text .table) (heldFlows (afterText table text .slots)) (hopAt e) ≡ figureAt (before .sums) e
+      → aggregateAt (afterText table text .table) (heldFlows (afterText table text .slots)) (hopAt e) ≡ figureAt (before .figures) e
   -- A registry that holds just this gives the same text.
   pub again : (r : Registry) → Consistent r → stateIn r ≡ afterText table text → WrittenAs text r
 
@@ -87,7 +87,7 @@ pub record ReadByCalls (before : Registry) (text : List ℕ) (answers : List Ans
   pub answered : map answerOf answers ≡ slotsFrom 1 (length (lines text))
   pub slots : stateIn last .slots ≡ inTurn (flowsIn before)
   pub flows : flowsIn last ≡ flowsIn before
-  pub figures : (e : ℕ) → e < queuesMost → figureAt (last .sums) e ≡ figureAt (before .sums) e
+  pub figures : (e : ℕ) → e < queuesMost → figureAt (last .figures) e ≡ figureAt (before .figures) e
   pub again : WrittenAs text last
 
 -- What a text that was written from a registry does, over every table text that reads as the registry's table.

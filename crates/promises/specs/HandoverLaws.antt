@@ -88,11 +88,11 @@ module _ (before : Registry) (kept : Consistent before) where
       same-flows : heldFlows (s .slots) ≡ held
       same-flows = ap heldFlows (turned ∙ sym (ap (λ (s : State). s .slots) (over .left))) ∙ over .flows
 
-      same-figures : (e : ℕ) → e < queuesMost → aggregateAt (s .table) (heldFlows (s .slots)) (hopAt e) ≡ figureAt (before .sums) e
+      same-figures : (e : ℕ) → e < queuesMost → aggregateAt (s .table) (heldFlows (s .slots)) (hopAt e) ≡ figureAt (before .figures) e
       unfolding opened model.tableOf
       same-figures e h =
           ap₂ (λ (t : Table) (fs : List Flow). aggregateAt t fs (hopAt e)) (ap (λ (s : State). s .table) left ∙ ap model.tableOf read) same-flows
-          ∙ sym (kept .figures .same e h)
+          ∙ sym (kept .exact .same e h)
 
     written-again : (r : Registry) → Consistent r → flowsIn r ≡ held → WrittenAs (handoverText held) r
     written-again r ok same area area′ w (consistent kept e) room =
@@ -134,7 +134,7 @@ module _ (before : Registry) (kept : Consistent before) where
           answered = claimed .answered ∙ ap (orderAnswers (opened table)) same-orders ∙ over .answers ∙ ap (slotsFrom 1) (sym (counted held));
           slots = turned (stateIn last) left;
           flows = same-flows (stateIn last) left;
-          figures = λ e h. claimed .is-consistent .figures .same e h ∙ same-figures (stateIn last) left e h;
+          figures = λ e h. claimed .is-consistent .exact .same e h ∙ same-figures (stateIn last) left e h;
           again = written-again last (claimed .is-consistent) (same-flows (stateIn last) left);
         }
 

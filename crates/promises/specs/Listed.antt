@@ -31,7 +31,7 @@ pub record CallListed (before : Registry) (c : Call) (called : Called) : Type 0 
   -- On a consistent registry: an answer line's, and with another code than 0 neither flows nor figures change.
   pub listed : Consistent before → Listed (stateIn before) (callOrder c) (answerOf (called .answer))
   pub unchanged : Consistent before → (answerOf (called .answer) .code ≡ 0 → ⊥)
-      → (stateIn (called .registry) ≡ stateIn before) × ((e : ℕ) → e < queuesMost → figureAt (called .registry .sums) e ≡ figureAt (before .sums) e)
+      → (stateIn (called .registry) ≡ stateIn before) × ((e : ℕ) → e < queuesMost → figureAt (called .registry .figures) e ≡ figureAt (before .figures) e)
   -- On another: 42, which names nothing, and the registry as it was.
   pub spoilt : (Consistent before → ⊥)
       → (answerOf (called .answer) ≡ record { code = 42; slot = 0; link = 0; level = 0 }) × (called .registry ≡ before)

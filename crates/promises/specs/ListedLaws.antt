@@ -59,7 +59,7 @@ call-listed before c called p =
     listed kept = subst (Listed (stateIn before) (callOrder c)) (sym (p .answer kept)) (results.call-listed (stateIn before) (kept .is-consistent) c)
 
     spoilt : (Consistent before → ⊥) → (answerOf (called .answer) ≡ record { code = 42; slot = 0; link = 0; level = 0 }) × (called .registry ≡ before)
-    spoilt other = let (answer, same) = p .kept-out other in (ap answerOf answer, same)
+    spoilt other = let (answer, same) = p .inconsistent other in (ap answerOf answer, same)
 
     go : Dec (List·Memᴰ (answerOf (called .answer) .code) callCodes) → List·Memᴰ (answerOf (called .answer) .code) callCodes
     go (yes m) = m

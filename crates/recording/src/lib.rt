@@ -115,8 +115,8 @@ fn make_call(registry: Registry, form: Form, kind: Kind, bytes: &[u8]) -> Called
     ensures { λ r. ⌜ Performs registry (callOf (kindOf kind) (now (bytes .entry))) r ⌝ }
 {
     match form {
-        Form::ByValue => registry::apply(registry, kind, bytes),
-        Form::InPlace => registry_in_place::apply(registry, kind, bytes),
+        Form::ByValue => registry::step(registry, kind, bytes),
+        Form::InPlace => registry_in_place::step(registry, kind, bytes),
     }
 }
 

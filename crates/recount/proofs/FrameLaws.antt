@@ -7,7 +7,7 @@ use mathlib.Core.List.{List, [], _∷_, map}
 use mathlib.Core.Option.{none, some}
 use native.Mathlib.Omega.{arith}
 use native.Mathlib.Nat.{zero-max}
-use lib.ListN.{length, drop}
+use lib.ListN.{length}
 use Rattle.model.specs.Sizes.{queuesMost, slotCount}
 use Rattle.model.specs.Total.{largest}
 use Rattle.model.specs.Formula.{Aggregate}
@@ -18,8 +18,8 @@ use Rattle.model.specs.WithFlow.{together}
 use Rattle.model.specs.Laws.Figures.{aggregate-more}
 use Rattle.queue_table.specs.View.{hopAt}
 use Rattle.bit_words.specs.View.{isSet}
-use Rattle.flow_store.specs.View.{frameAt, countsFrom, flowAt, slotOf, slotsFrom, slotsOf, entriesIn, flowIn}
-use Rattle.figures.specs.View.{sumNumbers, figureAt, raised, FrameRaised}
+use Rattle.flow_store.specs.View.{frameAt, flowAt, slotOf, slotIn, slotsFrom, slotsOf, entriesIn, flowIn}
+use Rattle.figures.specs.View.{figureNumbers, figureAt, raised, FrameRaised}
 use Rattle.figures.proofs.RaiseLaws.{raised-none, raised-twice}
 use Rattle.recount.specs.View.{SlotRaised, FramesRaised}
 use Rattle.recount.proofs.RecountLaws.{rest, rest-next}
@@ -33,63 +33,63 @@ unfolding heldFlows sharesAt aggregateAt allShares largest together
 frame-cons t none slots e = sym (zero-max (frameOf t slots e))
 frame-cons t (some f) slots e = ap (λ (a : Aggregate). a .frame) (aggregate-more t f (heldFlows slots) (hopAt e))
 
-module _ (bits slots pool : List ℕ) where
-  -- The figures so far, `sums`, with the slots from `slot` on left.
-  pub record Raising (before sums : List ℕ) (slot : ℕ) : Type 0 where
-    pub long : length sums ≡ sumNumbers
+module _ (bits store : List ℕ) where
+  -- The figures so far, `figures`, with the slots from `slot` on left.
+  pub record Raising (before figures : List ℕ) (slot : ℕ) : Type 0 where
+    pub long : length figures ≡ figureNumbers
     pub left : (t : Table) (e : ℕ) → e < queuesMost
-        → raised (figureAt sums e) (frameOf t (rest bits slots pool slot) e) ≡ raised (figureAt before e) (frameOf t (slotsOf bits slots pool) e)
+        → raised (figureAt figures e) (frameOf t (rest bits store slot) e) ≡ raised (figureAt before e) (frameOf t (slotsOf bits store) e)
 
-  module _ (i : ℕ) (sums : List ℕ) where
+  module _ (i : ℕ) (figures : List ℕ) where
     -- A free slot raises nothing, a held one its flow's largest frame.
-    pub slot-free : length sums ≡ sumNumbers → isSet bits i ≡ false → SlotRaised bits slots pool i sums sums
+    pub slot-free : length figures ≡ figureNumbers → isSet bits i ≡ false → SlotRaised bits store i figures figures
     unfolding slotOf heldFlows sharesAt aggregateAt allShares largest
     slot-free long free =
         record {
           long = long;
           same = λ t e lt.
-              sym (raised-none (figureAt sums e))
-              ∙ sym (ap (λ (b : Bool). raised (figureAt sums e) (frameOf t (slotOf b (flowIn bits slots pool i) ∷ []) e)) free);
+              sym (raised-none (figureAt figures e))
+              ∙ sym (ap (λ (b : Bool). raised (figureAt figures e) (frameOf t (slotOf b (flowIn store i) ∷ []) e)) free);
         }
 
-    pub slot-held : {sums′ entries : List ℕ} {frame : ℕ} → isSet bits i ≡ true → frame ≡ frameAt slots i → entries ≡ entriesIn bits slots pool i
-        → FrameRaised frame entries sums sums′ → SlotRaised bits slots pool i sums sums′
+    pub slot-held : {figures′ entries : List ℕ} {frame : ℕ} → isSet bits i ≡ true → frame ≡ frameAt store i → entries ≡ entriesIn store i
+        → FrameRaised frame entries figures figures′ → SlotRaised bits store i figures figures′
     unfolding slotOf heldFlows flowAt
     slot-held held frame-is path own =
         record {
           long = own .long;
           same = λ t e lt.
-              own .same t (flowIn bits slots pool i) (sym frame-is) (ap (map hopAt) (sym path)) e lt
-              ∙ sym (ap (λ (b : Bool). raised (figureAt sums e) (frameOf t (slotOf b (flowIn bits slots pool i) ∷ []) e)) held);
+              own .same t (flowIn store i) (sym frame-is) (ap (map hopAt) (sym path)) e lt
+              ∙ sym (ap (λ (b : Bool). raised (figureAt figures e) (frameOf t (slotOf b (flowIn store i) ∷ []) e)) held);
         }
 
   module _ (before : List ℕ) where
-    pub raising-none : length before ≡ sumNumbers → Raising before before 0
-    unfolding slotsOf countsFrom
+    pub raising-none : length before ≡ figureNumbers → Raising before before 0
+    unfolding slotsOf
     raising-none long = record { long = long; left = λ t e lt. refl }
 
-    module _ {sums : List ℕ} {slot : ℕ} (so-far : Raising before sums slot) where
-      pub raising-next : {sums′ : List ℕ} → slot < slotCount → SlotRaised bits slots pool slot sums sums′ → Raising before sums′ (slot + 1)
+    module _ {figures : List ℕ} {slot : ℕ} (so-far : Raising before figures slot) where
+      pub raising-next : {figures′ : List ℕ} → slot < slotCount → SlotRaised bits store slot figures figures′ → Raising before figures′ (slot + 1)
       raising-next inside own =
           record {
             long = own .long;
             left = λ t e lt.
-                let here : Slot = slotOf (isSet bits slot) (flowIn bits slots pool slot) in
-                let later : List Slot = rest bits slots pool (slot + 1) in
+                let here : Slot = slotIn bits store slot in
+                let later : List Slot = rest bits store (slot + 1) in
                 ap (λ (a : Aggregate). raised a (frameOf t later e)) (own .same t e lt)
-                ∙ raised-twice (figureAt sums e) (frameOf t (here ∷ []) e) (frameOf t later e)
-                ∙ ap (raised (figureAt sums e)) (sym (ap (λ (l : List Slot). frameOf t l e) (rest-next bits slots pool slot inside) ∙ frame-cons t here later e))
+                ∙ raised-twice (figureAt figures e) (frameOf t (here ∷ []) e) (frameOf t later e)
+                ∙ ap (raised (figureAt figures e)) (sym (ap (λ (l : List Slot). frameOf t l e) (rest-next bits store slot inside) ∙ frame-cons t here later e))
                 ∙ so-far .left t e lt;
           }
 
-      pub raising-all : slotCount ≤ slot → FramesRaised bits slots pool before sums
+      pub raising-all : slotCount ≤ slot → FramesRaised bits store before figures
       unfolding slotsFrom heldFlows sharesAt aggregateAt allShares largest
       raising-all end =
           record {
             long = so-far .long;
             same = λ t e lt.
                 let none-left : slotCount - slot ≡ 0 = omega arith in
-                sym (raised-none (figureAt sums e))
-                ∙ sym (ap (λ (n : ℕ). raised (figureAt sums e) (frameOf t (slotsFrom n slot bits slots (drop (countsFrom slot 0 bits slots) pool)) e)) none-left)
+                sym (raised-none (figureAt figures e))
+                ∙ sym (ap (λ (n : ℕ). raised (figureAt figures e) (frameOf t (slotsFrom n slot bits store) e)) none-left)
                 ∙ so-far .left t e lt;
           }

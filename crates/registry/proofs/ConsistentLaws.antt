@@ -28,11 +28,12 @@ use Rattle.model.specs.Laws.Bounds.{speed-below}
 use Rattle.queue_table.specs.View.{tableNumbers, linkCount, WellFormed, tableOf, linkAt, levelsAt, queueAt}
 use Rattle.queue_table.proofs.ViewLaws.{length-up}
 use Rattle.queue_table.proofs.LookupLaws.{link-found}
-use Rattle.flow_store.specs.View.{Store, slotsOf}
-use Rattle.flow_store.proofs.ViewLaws.{length-slots, held-hops}
+use Rattle.flow_store.specs.View.{PackedStore, slotsOf}
+use Rattle.flow_store.specs.Laws.{length-slots}
+use Rattle.flow_store.proofs.ViewLaws.{held-hops}
 use Rattle.flow_check.specs.View.{flowAlone}
 use Rattle.figures.specs.View.{Figures, LinkSpeeds}
-use Rattle.admission.specs.View.{stateOf, Kept}
+use Rattle.admission.specs.View.{stateOf, ConsistentArrays}
 
 module _ (t : Table) (fs : List Flow) where
   alone-rules : ((link : ℕ) → LinkMeets t fs link) → (f : Flow) → flowAlone t fs f ≡ true → FlowRules t fs f
@@ -67,9 +68,9 @@ module _ (table : List ℕ) where
   unfolding linkAt
   speeds-of ok = record { each = λ i lt. speed-below t ok (i + 1) _ (link-found table i lt) }
 
-  module _ (bits slots pool : List ℕ) where
+  module _ (bits store : List ℕ) where
     abbrev held : List Flow
-    held = heldFlows (slotsOf bits slots pool)
+    held = heldFlows (slotsOf bits store)
 
     -- 14: the held flows are on queues of the table.
     pub alone-named : every (flowAlone t held) held ≡ true → All (λ g. All (Named t) (g .path)) held
@@ -81,21 +82,21 @@ module _ (table : List ℕ) where
             let causes = and-both (flowInRange g && leb (withNumber (g .number) held) 1) _ e .1 in
             named t [] (g .path) (none-applies (lineFindings t g ++ deadlineFinding t g ∷ []) (is-none _ causes) .1 .0)
 
-    pub kept : {sums : List ℕ} → WellFormed table → Store bits slots pool → tableConsistent t ≡ true → every (flowAlone t held) held ≡ true
-        → Figures t held sums
+    pub kept : {figures : List ℕ} → WellFormed table → PackedStore bits store → tableConsistent t ≡ true → every (flowAlone t held) held ≡ true
+        → Figures t held figures
         → ((link : ℕ) → LinkMeets t held link)
-        → Kept table bits slots pool sums
-    kept formed store right alone figures meets =
-        record { formed = formed; store = store; is-consistent = rules-state (stateOf table bits slots pool) rules; figures = figures }
+        → ConsistentArrays table bits store figures
+    kept formed stored right alone exact meets =
+        record { formed = formed; stored = stored; is-consistent = rules-state (stateOf table bits store) rules; exact = exact }
       where
-        rules : StateRules (stateOf table bits slots pool)
+        rules : StateRules (stateOf table bits store)
         rules =
             record {
               table = right;
-              size = length-slots bits slots pool;
+              size = length-slots bits store;
               flows = record {
                 flows = all-imp held (alone-rules t held meets) (every-all (flowAlone t held) held alone);
-                slots = omega (arith, held-length (slotsOf bits slots pool), length-slots bits slots pool);
-                hops = omega (arith, held-hops bits slots pool store, store .packed .fits);
+                slots = omega (arith, held-length (slotsOf bits store), length-slots bits store);
+                hops = omega (arith, held-hops bits store stored, stored .packed .fits);
               };
             }

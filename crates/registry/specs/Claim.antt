@@ -47,7 +47,7 @@ pub record Claimed (text : List ℕ) (calls : List Call) (answers : List Answer)
   -- All answers, the table and the flow at each slot, and every queue's figures are the reference model's.
   pub answered : map answerOf answers ≡ model.answers (opened text) calls
   pub state : stateIn last ≡ after text calls
-  pub figures : (e : ℕ) → e < queuesMost → figureAt (last .sums) e ≡ aggregateAt (after text calls .table) (flowsAfter text calls) (hopAt e)
+  pub figures : (e : ℕ) → e < queuesMost → figureAt (last .figures) e ≡ aggregateAt (after text calls .table) (flowsAfter text calls) (hopAt e)
   -- In any run of conforming sources, at any instant: no frame is late and no queue holds more than its buffer; a frame is never longer on its way than its
   -- path's thresholds and its deadline; none is lost.
   pub timely : Timely (after text calls .table) (flowsAfter text calls)
@@ -71,4 +71,4 @@ pub record InAnyOrder (text : List ℕ) (calls : List Call) (last : Registry) : 
       → List·Permᴰ other calls
       → HeldInTurn (map callOrder other) (map answerOf answers) (stateIn last′)
       × SameFlows (stateIn last′) (stateIn last)
-      × ((e : ℕ) → e < queuesMost → figureAt (last′ .sums) e ≡ figureAt (last .sums) e)
+      × ((e : ℕ) → e < queuesMost → figureAt (last′ .figures) e ≡ figureAt (last .figures) e)

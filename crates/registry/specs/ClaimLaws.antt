@@ -35,7 +35,7 @@ claim text o opens calls answers last chain =
       answered = answered ∙ ap (λ s. model.answers s calls) (opens .state);
       state = state;
       figures = λ e h.
-          subst (λ (s : State). figureAt (last .sums) e ≡ aggregateAt (s .table) (heldFlows (s .slots)) (hopAt e)) state (kept .figures .same e h);
+          subst (λ (s : State). figureAt (last .figures) e ≡ aggregateAt (s .table) (heldFlows (s .slots)) (hopAt e)) state (kept .exact .same e h);
       timely = reached-timely text calls;
       room = λ bytes f called p e early.
           subst (λ a. NoRoom (a .code) ↔ Full (after text calls) f)

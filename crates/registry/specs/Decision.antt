@@ -24,6 +24,6 @@ pub record CallDecided (before : Registry) (c : Call) (called : Called) : Type 0
   pub decided : Decided (stateIn before) (callOrder c) (outcomeOf called)
   -- No call changes the table's array, and a refused one no figure.
   pub table : called .registry .table ≡ before .table
-  pub figures : (answerOf (called .answer) .code ≡ 0 → ⊥) → (e : ℕ) → e < queuesMost → figureAt (called .registry .sums) e ≡ figureAt (before .sums) e
+  pub figures : (answerOf (called .answer) .code ≡ 0 → ⊥) → (e : ℕ) → e < queuesMost → figureAt (called .registry .figures) e ≡ figureAt (before .figures) e
   -- The registry is consistent again.
   pub is-consistent : Consistent (called .registry)

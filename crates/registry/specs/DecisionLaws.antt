@@ -25,8 +25,8 @@ module _ {before : Registry} (kept : Consistent before) {c : Call} {called : Cal
         table = p .table;
         figures = λ refused e lt.
             let same : stateIn (called .registry) ≡ stateIn before = decided .refused refused .next in
-            p .is-consistent kept .figures .same e lt
+            p .is-consistent kept .exact .same e lt
             ∙ ap (λ (s : State). aggregateAt (s .table) (heldFlows (s .slots)) (hopAt e)) same
-            ∙ sym (kept .figures .same e lt);
+            ∙ sym (kept .exact .same e lt);
         is-consistent = p .is-consistent kept;
       }

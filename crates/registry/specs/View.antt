@@ -3,42 +3,40 @@ use Prim.Native.Nat.{ℕ}
 use mathlib.Core.Path.{_≡_}
 use mathlib.Core.List.{List}
 use lib.ListN.{length}
-use Rattle.model.specs.Sizes.{hopEntries}
 use Rattle.model.specs.QueueTable.{readTable}
 use Rattle.model.specs.Orders.{Order, Kind}
 use Rattle.model.specs.Reference as model
 use Rattle.queue_table.specs.View.{tableNumbers, tableOf, textOf}
-use Rattle.flow_store.specs.View.{slotWords, slotNumbers, slotsOf}
-use Rattle.figures.specs.View.{sumNumbers, Figures}
+use Rattle.flow_store.specs.View.{slotWords, storeNumbers, slotsOf}
+use Rattle.figures.specs.View.{figureNumbers, Figures}
 use Rattle.recount.specs.View.{OnQueues}
 use Rattle.admission.specs.declared.Answer.{Answer}
 use Rattle.admission.specs.declared.Answer.the-variants.{Refused}
 use Rattle.causes.specs.declared.Cause.the-variants.{Inconsistent}
-use Rattle.admission.specs.View.{stateOf, answerOf, Kept, Stepped}
+use Rattle.admission.specs.View.{stateOf, answerOf, ConsistentArrays, Stepped}
 use Rattle.registry.specs.declared.Registry.{Registry}
 use Rattle.registry.specs.declared.Opened.{Opened}
 use Rattle.registry.specs.declared.Called.{Called}
 
 -- Arrays of the right sizes.
-pub record Sized (table bits slots pool sums : List ℕ) : Type 0 where
+pub record Sized (table bits store figures : List ℕ) : Type 0 where
   pub table-long : length table ≡ tableNumbers
   pub bits-long : length bits ≡ slotWords
-  pub slots-long : length slots ≡ slotNumbers
-  pub pool-long : length pool ≡ hopEntries
-  pub sums-long : length sums ≡ sumNumbers
+  pub store-long : length store ≡ storeNumbers
+  pub figures-long : length figures ≡ figureNumbers
 
 -- 42 and nothing changed where the arrays aren't a consistent registry; else the order is done.
-pub record Guarded (o : Order) (table bits slots pool sums bits′ slots′ pool′ sums′ : List ℕ) (r : Answer) : Type 0 where
-  pub done : Kept table bits slots pool sums → Stepped o table bits slots pool bits′ slots′ pool′ sums′ r
-  pub kept-out : (Kept table bits slots pool sums → ⊥)
-      → (r ≡ Refused Inconsistent) × ((bits′ ≡ bits) × ((slots′ ≡ slots) × ((pool′ ≡ pool) × (sums′ ≡ sums))))
+pub record Guarded (o : Order) (table bits store figures bits′ store′ figures′ : List ℕ) (r : Answer) : Type 0 where
+  pub done : ConsistentArrays table bits store figures → Stepped o table bits store bits′ store′ figures′ r
+  pub inconsistent : (ConsistentArrays table bits store figures → ⊥)
+      → (r ≡ Refused Inconsistent) × ((bits′ ≡ bits) × ((store′ ≡ store) × (figures′ ≡ figures)))
 
 -- The state that a registry holds, and that it is consistent.
 abbrev pub stateIn : Registry → model.State
-stateIn r = stateOf (r .table) (r .bits) (r .slots) (r .pool)
+stateIn r = stateOf (r .table) (r .bits) (r .store)
 
 abbrev pub Consistent : Registry → Type 0
-Consistent r = Kept (r .table) (r .bits) (r .slots) (r .pool) (r .sums)
+Consistent r = ConsistentArrays (r .table) (r .bits) (r .store) (r .figures)
 
 -- An empty registry on the table of the text, 1 to 5 with the line where it is refused. Free: the table array's numbers past the table's links and
 -- levels; the numbers of the slots; the hop entries.
@@ -48,8 +46,8 @@ pub record OpensOn (text : List ℕ) (r : Opened) : Type 0 where
   pub is-consistent : Consistent (r .registry)
 
 -- The figures aren't those of the held flows.
-abbrev pub OtherFigures : (table bits slots pool sums : List ℕ) → Type 0
-OtherFigures table bits slots pool sums = OnQueues table bits slots pool → Figures (tableOf table) (model.heldFlows (slotsOf bits slots pool)) sums → ⊥
+abbrev pub OtherFigures : (table bits store figures : List ℕ) → Type 0
+OtherFigures table bits store figures = OnQueues table bits store → Figures (tableOf table) (model.heldFlows (slotsOf bits store)) figures → ⊥
 
 -- A call of this kind, with the bytes that it is given.
 abbrev pub callOf : Kind → (bytes : List ℕ) → model.Call
@@ -62,4 +60,4 @@ pub record Performs (before : Registry) (call : model.Call) (r : Called) : Type 
   pub answer : Consistent before → answerOf (r .answer) ≡ model.step (stateIn before) call .answer
   pub next : Consistent before → stateIn (r .registry) ≡ model.step (stateIn before) call .next
   pub is-consistent : Consistent before → Consistent (r .registry)
-  pub kept-out : (Consistent before → ⊥) → (r .answer ≡ Refused Inconsistent) × (r .registry ≡ before)
+  pub inconsistent : (Consistent before → ⊥) → (r .answer ≡ Refused Inconsistent) × (r .registry ≡ before)

@@ -1,7 +1,7 @@
 // The registry (document 01, "The book"): opened on a table text, and direct calls on it, which take any registry and
 // answer 42 first. On arrays that are known to be consistent `admission` carries out an order without that check.
 //
-// The arrays are those of `queue_table` (table), `flow_store` (bits, slots, pool) and `figures` (sums).
+// The arrays are those of `queue_table` (table), `flow_store` (bits, store) and `figures` (figures).
 ghost use mathlib.Core.Path.{_≡_};
 ghost use mathlib.Core.Bool.{true, false};
 ghost use lib.ListN.{length};
@@ -9,27 +9,25 @@ ghost use Rattle.model.specs.Columns.{lines};
 ghost use Rattle.model.specs.Orders.{registering, releasing, changing, kindNumber};
 ghost use Rattle.model.specs.Reference.{onlyLine};
 ghost use Rattle.orders.specs.View.{kindOf};
-ghost use Rattle.figures.specs.View.{sumNumbers};
+ghost use Rattle.figures.specs.View.{figureNumbers};
 ghost use Rattle.recount.specs.View.{Countable, Recounted};
-ghost use Rattle.admission.specs.View.{Kept};
+ghost use Rattle.admission.specs.View.{ConsistentArrays};
 ghost use Rattle.registry.specs.View.{OpensOn, OtherFigures, Sized, Guarded, callOf, Performs};
 use admission::Answer;
 use causes::Cause;
-use figures::SUMS;
-use flow_store::POOL;
-use flow_store::SLOT_NUMBERS;
+use figures::FIGURE_NUMBERS;
 use flow_store::SLOT_WORDS;
+use flow_store::STORE_NUMBERS;
 use orders::Kind;
 use queue_table::TABLE_NUMBERS;
 use queue_table::Verdict;
 
-// The registry: the queue table, the slots with their bits and their pool of hop entries, and the figures of all queues.
+// The registry: the queue table, the slots' bits, their numbers with the pool of hop entries, and the figures of all queues.
 pub struct Registry {
     pub table: [u32; TABLE_NUMBERS],
     pub bits: [u64; SLOT_WORDS],
-    pub slots: [u32; SLOT_NUMBERS],
-    pub pool: [u32; POOL],
-    pub sums: [u64; SUMS],
+    pub store: [u32; STORE_NUMBERS],
+    pub figures: [u64; FIGURE_NUMBERS],
 }
 
 // What a table text gives: its verdict, and an empty registry.
@@ -45,38 +43,38 @@ pub struct Called {
 }
 
 // Whether the figures are those of the held flows.
-fn figures_right(table: &[u32], bits: &[u64], slots: &[u32], pool: &[u32], sums: &[u64]) -> bool
-    requires { ⌜ Countable (now table) (now bits) (now slots) (now pool) × (length (now sums) ≡ sumNumbers) ⌝ }
-    ensures { λ r. ⌜ (r ≡ true → Recounted (now (table .entry)) (now (bits .entry)) (now (slots .entry)) (now (pool .entry)) (now (sums .entry))) ⌝ }
-    ensures { λ r. ⌜ (r ≡ false → OtherFigures (now (table .entry)) (now (bits .entry)) (now (slots .entry)) (now (pool .entry)) (now (sums .entry))) ⌝ }
+fn figures_right(table: &[u32], bits: &[u64], store: &[u32], figures: &[u64]) -> bool
+    requires { ⌜ Countable (now table) (now bits) (now store) × (length (now figures) ≡ figureNumbers) ⌝ }
+    ensures { λ r. ⌜ (r ≡ true → Recounted (now (table .entry)) (now (bits .entry)) (now (store .entry)) (now (figures .entry))) ⌝ }
+    ensures { λ r. ⌜ (r ≡ false → OtherFigures (now (table .entry)) (now (bits .entry)) (now (store .entry)) (now (figures .entry))) ⌝ }
 {
-    let mut fresh = [0u64; SUMS];
-    recount::recount(table, bits, slots, pool, &mut fresh);
-    figures::same(&fresh, sums)
+    let mut fresh = [0u64; FIGURE_NUMBERS];
+    recount::recount(table, bits, store, &mut fresh);
+    figures::same(&fresh, figures)
 }
 
 // Whether arrays of any content are a consistent registry (42).
-pub fn is_consistent(table: &[u32], bits: &[u64], slots: &[u32], pool: &[u32], sums: &[u64]) -> bool
-    requires { ⌜ Sized (now table) (now bits) (now slots) (now pool) (now sums) ⌝ }
-    ensures { λ r. ⌜ (r ≡ true → Kept (now (table .entry)) (now (bits .entry)) (now (slots .entry)) (now (pool .entry)) (now (sums .entry))) ⌝ }
-    ensures { λ r. ⌜ (r ≡ false → Kept (now (table .entry)) (now (bits .entry)) (now (slots .entry)) (now (pool .entry)) (now (sums .entry)) → ⊥) ⌝ }
+pub fn is_consistent(table: &[u32], bits: &[u64], store: &[u32], figures: &[u64]) -> bool
+    requires { ⌜ Sized (now table) (now bits) (now store) (now figures) ⌝ }
+    ensures { λ r. ⌜ (r ≡ true → ConsistentArrays (now (table .entry)) (now (bits .entry)) (now (store .entry)) (now (figures .entry))) ⌝ }
+    ensures { λ r. ⌜ (r ≡ false → ConsistentArrays (now (table .entry)) (now (bits .entry)) (now (store .entry)) (now (figures .entry)) → ⊥) ⌝ }
 {
-    if !flow_store::is_packed(bits, slots) {
+    if !flow_store::is_packed(bits, store) {
         return false;
     }
     if !queue_table::consistent(table) {
         return false;
     }
-    if !flow_check::held_flows(table, bits, slots, pool) {
+    if !flow_check::held_flows(table, bits, store) {
         return false;
     }
-    if !figures_right(table, bits, slots, pool, sums) {
+    if !figures_right(table, bits, store, figures) {
         return false;
     }
-    if !figures::bounded(sums) {
+    if !figures::limited(figures) {
         return false;
     }
-    figures::links_meet(table, sums)
+    figures::links_meet(table, figures)
 }
 
 // The order of a direct call's bytes, on arrays of any content: 42 first.
@@ -85,20 +83,19 @@ fn call_arrays(
     bytes: &[u8],
     table: &[u32],
     bits: &mut [u64],
-    slots: &mut [u32],
-    pool: &mut [u32],
-    sums: &mut [u64],
+    store: &mut [u32],
+    figures: &mut [u64],
 ) -> Answer
-    requires { ⌜ Sized (now table) (now bits) (now slots) (now pool) (now sums) ⌝ }
-    ensures { λ r. ⌜ Guarded (onlyLine (kindNumber (kindOf kind)) (lines (now (bytes .entry)))) (now (table .entry)) (now (bits .entry)) (now (slots .entry)) (now (pool .entry)) (now (sums .entry)) (now (bits .exit)) (now (slots .exit)) (now (pool .exit)) (now (sums .exit)) r ⌝ }
+    requires { ⌜ Sized (now table) (now bits) (now store) (now figures) ⌝ }
+    ensures { λ r. ⌜ Guarded (onlyLine (kindNumber (kindOf kind)) (lines (now (bytes .entry)))) (now (table .entry)) (now (bits .entry)) (now (store .entry)) (now (figures .entry)) (now (bits .exit)) (now (store .exit)) (now (figures .exit)) r ⌝ }
 {
-    if !is_consistent(table, &bits[..], &slots[..], &pool[..], &sums[..]) {
+    if !is_consistent(table, &bits[..], &store[..], &figures[..]) {
         return Answer::Refused(Cause::Inconsistent);
     }
     let line = orders::read_call(kind, bytes);
     let order = line.order;
     let hops = line.hops;
-    admission::perform(order, &hops, table, bits, slots, pool, sums)
+    admission::apply(order, &hops, table, bits, store, figures)
 }
 
 // A direct call of any kind on any registry whatever.
@@ -107,24 +104,14 @@ fn call(registry: Registry, kind: Kind, bytes: &[u8]) -> Called
 {
     let table = registry.table;
     let mut bits = registry.bits;
-    let mut slots = registry.slots;
-    let mut pool = registry.pool;
-    let mut sums = registry.sums;
-    let answer = call_arrays(
-        kind,
-        bytes,
-        &table,
-        &mut bits,
-        &mut slots,
-        &mut pool,
-        &mut sums,
-    );
+    let mut store = registry.store;
+    let mut figures = registry.figures;
+    let answer = call_arrays(kind, bytes, &table, &mut bits, &mut store, &mut figures);
     let after = Registry {
         table,
         bits,
-        slots,
-        pool,
-        sums,
+        store,
+        figures,
     };
     Called {
         answer,
@@ -154,7 +141,7 @@ pub fn change(registry: Registry, bytes: &[u8]) -> Called
 }
 
 // One call of any kind.
-pub fn apply(registry: Registry, kind: Kind, bytes: &[u8]) -> Called
+pub fn step(registry: Registry, kind: Kind, bytes: &[u8]) -> Called
     ensures { λ r. ⌜ Performs registry (callOf (kindOf kind) (now (bytes .entry))) r ⌝ }
 {
     match kind {
@@ -174,9 +161,8 @@ pub fn open(text: &[u8]) -> Opened
     let registry = Registry {
         table,
         bits: [0; SLOT_WORDS],
-        slots: [0; SLOT_NUMBERS],
-        pool: [0; POOL],
-        sums: [0; SUMS],
+        store: [0; STORE_NUMBERS],
+        figures: [0; FIGURE_NUMBERS],
     };
     Opened { verdict, registry }
 }

@@ -2,9 +2,9 @@
 // o01, .. one by one and prints what each is answered: code in 3 columns, slot in 4, link in 4 and level in 2.
 //
 // What follows an r at a line's start is handed to `release`, what follows a c to `change`, every other line to `register`. A
-// line that starts with x isn't handed on: it sets one number of the registry. Array 2-3 (0 the table, 1 slots, 2 hop entries,
-// 3 figures, 4 the bits: one for each slot, clear for 0), index 4-8, the number 9-17. A w lends an area of so many dots, 2-5, to
-// the writer of order lines: code in 3 columns, bytes in 6, then the whole area and LF.
+// line that starts with x isn't handed on: it sets one number of the registry. Array 2-3 (0 the table, 1 the bits: one for each
+// slot, clear for 0, 2 the store, 3 figures), index 4-8, the number 9-17. A w lends an area of so many dots, 2-5, to the writer
+// of order lines: code in 3 columns, bytes in 6, then the whole area and LF.
 use admission::Answer;
 use causes::Finding;
 use columns::Field;
@@ -40,9 +40,9 @@ fn set(numbers: &mut [u32], index: usize, n: u32) {
     }
 }
 
-fn set_figure(sums: &mut [u64], index: usize, n: u32) {
-    if index < sums.len() {
-        sums[index] = n as u64;
+fn set_figure(figures: &mut [u64], index: usize, n: u32) {
+    if index < figures.len() {
+        figures[index] = n as u64;
     }
 }
 
@@ -59,27 +59,24 @@ fn set_bit(bits: &mut [u64], index: usize, n: u32) {
 fn change(registry: Registry, array: u32, index: usize, n: u32) -> Registry {
     let mut table = registry.table;
     let mut bits = registry.bits;
-    let mut slots = registry.slots;
-    let mut pool = registry.pool;
-    let mut sums = registry.sums;
+    let mut store = registry.store;
+    let mut figures = registry.figures;
     match array {
         0 => set(&mut table, index, n),
-        1 => set(&mut slots, index, n),
-        2 => set(&mut pool, index, n),
-        3 => set_figure(&mut sums, index, n),
-        _ => set_bit(&mut bits, index, n),
+        1 => set_bit(&mut bits, index, n),
+        2 => set(&mut store, index, n),
+        _ => set_figure(&mut figures, index, n),
     }
     Registry {
         table,
         bits,
-        slots,
-        pool,
-        sums,
+        store,
+        figures,
     }
 }
 
 fn call(registry: Registry, kind: Kind, line: &[u8]) -> Registry {
-    let called = registry::apply(registry, kind, line);
+    let called = registry::step(registry, kind, line);
     let answer = called.answer;
     show(answer);
     called.registry

@@ -36,7 +36,7 @@ pub fn change(registry: &mut Registry, bytes: &[u8]) -> Answer
 }
 
 // One call of any kind on a registry that is held here and lent, for callers that hold theirs by value.
-pub fn apply(mut registry: Registry, kind: Kind, bytes: &[u8]) -> Called
+pub fn step(mut registry: Registry, kind: Kind, bytes: &[u8]) -> Called
     ensures { λ r. ⌜ Performs registry (callOf (kindOf kind) (now (bytes .entry))) r ⌝ }
 {
     let answer = match kind {

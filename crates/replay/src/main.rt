@@ -11,8 +11,8 @@ ghost use mathlib.Core.Path.{_≡_};
 ghost use lib.ListN.{length};
 ghost use Rattle.model.specs.Sizes.{queuesMost, hopsMost, headColumns, hopColumns, slotCount};
 ghost use Rattle.queue_table.specs.View.{WellFormed};
-ghost use Rattle.flow_store.specs.View.{Store};
-ghost use Rattle.figures.specs.View.{sumNumbers};
+ghost use Rattle.flow_store.specs.View.{PackedStore};
+ghost use Rattle.figures.specs.View.{figureNumbers};
 ghost use Rattle.registry.specs.View.{Consistent};
 use flow_store::SLOTS;
 use libc::STDOUT_FILENO;
@@ -57,10 +57,10 @@ fn show_end(offset: usize) {
 }
 
 // The figures of queue e.
-fn show_queue(e: usize, sums: &[u64])
-    requires { ⌜ (e < queuesMost) × (length (now sums) ≡ sumNumbers) ⌝ }
+fn show_queue(e: usize, figures: &[u64])
+    requires { ⌜ (e < queuesMost) × (length (now figures) ≡ figureNumbers) ⌝ }
 {
-    let own = figures::figure(e, sums);
+    let own = figures::figure(e, figures);
     let rate = own.rate;
     let burst = own.burst;
     let frame = own.frame;
@@ -75,13 +75,13 @@ fn show_queue(e: usize, sums: &[u64])
 }
 
 // The queues of the table, link by link and level by level.
-fn show_queues(table: &[u32], sums: &[u64])
-    requires { ⌜ WellFormed (now table) × (length (now sums) ≡ sumNumbers) ⌝ }
+fn show_queues(table: &[u32], figures: &[u64])
+    requires { ⌜ WellFormed (now table) × (length (now figures) ≡ figureNumbers) ⌝ }
 {
     let mut e = 0;
     while e < QUEUES {
         if queue_table::is_queue(e, table) {
-            show_queue(e, sums);
+            show_queue(e, figures);
         }
         e += 1;
     }
@@ -106,25 +106,25 @@ fn show_flow(slot: usize, flow: Flow, entries: &[u32])
 }
 
 // A slot's line where it is held: a path has at most MOST_HOPS hops.
-fn show_slot(slot: usize, bits: &[u64], slots: &[u32], pool: &[u32])
-    requires { ⌜ Store (now bits) (now slots) (now pool) × (slot < slotCount) ⌝ }
+fn show_slot(slot: usize, bits: &[u64], store: &[u32])
+    requires { ⌜ PackedStore (now bits) (now store) × (slot < slotCount) ⌝ }
 {
     if !flow_store::is_held(slot, bits) {
         return;
     }
-    let path = flow_store::path_of(slot, slots, pool);
+    let path = flow_store::path_of(slot, store);
     if MOST_HOPS < path.len() {
         return;
     }
-    show_flow(slot, flow_store::flow_at(slot, slots), path);
+    show_flow(slot, flow_store::flow_at(slot, store), path);
 }
 
-fn show_slots(bits: &[u64], slots: &[u32], pool: &[u32])
-    requires { ⌜ Store (now bits) (now slots) (now pool) ⌝ }
+fn show_slots(bits: &[u64], store: &[u32])
+    requires { ⌜ PackedStore (now bits) (now store) ⌝ }
 {
     let mut slot = 0;
     while slot < SLOTS {
-        show_slot(slot, bits, slots, pool);
+        show_slot(slot, bits, store);
         slot += 1;
     }
 }
@@ -134,11 +134,10 @@ fn show_registry(registry: Registry)
 {
     let table = registry.table;
     let bits = registry.bits;
-    let slots = registry.slots;
-    let pool = registry.pool;
-    let sums = registry.sums;
-    show_queues(&table, &sums);
-    show_slots(&bits, &slots, &pool);
+    let store = registry.store;
+    let figures = registry.figures;
+    show_queues(&table, &figures);
+    show_slots(&bits, &store);
 }
 
 // Any argument asks for the calls in place; the first counted is the program's name.

@@ -5,10 +5,12 @@
 // 10,000 Mbit/s and the rate rule comes before every formula that takes one. A path has at most 12 hops and a threshold is at most 100,000 µs, so
 // S is at most 1,200,000 and a burst at a hop is below 2^31. A queue's backlog passed its check, so its burst
 // sum is at most its buffer, below 2^32; with one flow more, the eight burst sums of a link and Y stay below 2^40, whatever
-// the number of flows. Then 8000 × 2^40 and 10,000,000 × 2^40 + 10,000,000 are below 2^64. Two readings of a clock of 32 bits are
+// the number of flows. Then 8000 × 2^40 and 10,000,000 × 2^40 + 10,000,000 are below 2^64, and so is a rate times a threshold or a
+// buffer, which are numbers of 32 bits. Two readings of a clock of 32 bits are
 // less than 2^32 µs apart, so a rate adds at most 4.3 × 10^16 tokens between them; a full bucket has 8 × 10^9 at the most.
 ghost use mathlib.Core.Path.{_≡_};
 ghost use Prim.Native.Nat.{_+_, _*_, _^_, max, _≤_, _<_};
+ghost use lib.Dec.{leb};
 ghost use Rattle.model.specs.Sizes.{thresholdsMost};
 ghost use Rattle.model.specs.Formula.{ceilDiv, shortestSending, hopGrowth, burstAtHop, residual, withinRate, delayBound, backlogBound};
 ghost use Rattle.model.specs.Aggregates.{grown};
@@ -120,6 +122,34 @@ pub fn backlog_bound(rate: Rate, burst: Bytes, y: Bytes, res: Rate) -> Bytes
     let y = y.0;
     let c = res.0;
     Bytes(b + ceil_div(r * y, c))
+}
+
+// Whether the delay stays within a threshold, by a product: no quotient is worked out where only a comparison is asked.
+pub fn within_delay(y: Bytes, burst: Bytes, res: Rate, threshold: Micros) -> bool
+    requires { ⌜ (1 ≤ res .0) × (res .0 ≤ 10000000) × (y .0 + burst .0 ≤ 2 ^ 40) × (threshold .0 < 2 ^ 32) ⌝ }
+    ensures { λ r. ⌜ r ≡ leb (delayBound (y .0) (burst .0) (res .0)) (threshold .0) ⌝ }
+{
+    let y = y.0;
+    let b = burst.0;
+    let r = res.0;
+    let t = threshold.0;
+    8000 * (y + b) <= t * r
+}
+
+// Whether the backlog stays within a buffer, by a product too; the burst sum alone may be above it.
+pub fn within_backlog(rate: Rate, burst: Bytes, y: Bytes, res: Rate, buffer: Bytes) -> bool
+    requires { ⌜ (rate .0 ≤ 10000000) × (1 ≤ res .0) × (res .0 ≤ 10000000) × (y .0 ≤ 2 ^ 40) × (buffer .0 < 2 ^ 32) ⌝ }
+    ensures { λ r. ⌜ r ≡ leb (backlogBound (rate .0) (burst .0) (y .0) (res .0)) (buffer .0) ⌝ }
+{
+    let r = rate.0;
+    let b = burst.0;
+    let y = y.0;
+    let c = res.0;
+    let most = buffer.0;
+    if most < b {
+        return false;
+    }
+    r * y <= (most - b) * c
 }
 
 // The tokens that a burst or a frame takes.

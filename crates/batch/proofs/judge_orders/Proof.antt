@@ -6,7 +6,7 @@ use native.Mathlib.Omega.{arith}
 use Rattle.model.specs.Batch as model
 use Rattle.queue_table.specs.View.{tableOf}
 use Rattle.admission.specs.View.{stateOf}
-use Rattle.batch.specs.View.{noBits, noFlows, noHops}
+use Rattle.batch.specs.View.{noBits, noFlows}
 use Rattle.batch.proofs.JudgeLaws.{judged-long, judged-many, judged-short, judged-done}
 use Rattle.batch.proofs.judge_orders.Statement.{statement}
 use Rattle.batch.proofs.judge_orders.Tie as tie
@@ -15,7 +15,7 @@ returns : tie.Need-returns
 returns c =
     let start = c .before .before .before .before .before in
     let t = tableOf (start .args .table .now) in
-    let s = stateOf (start .args .table .now) noBits noFlows noHops in
+    let s = stateOf (start .args .table .now) noBits noFlows in
     let orders = start .args .orders .now in
     let area = start .args .answers .now in
     c .refused .ensures area ∙ sym (judged-long t s orders area (c .before .if1 .taken))
@@ -24,7 +24,7 @@ returns-2 : tie.Need-returns-2
 returns-2 c =
     let start = c .before .before .before .before .before .before .before in
     let t = tableOf (start .args .table .now) in
-    let s = stateOf (start .args .table .now) noBits noFlows noHops in
+    let s = stateOf (start .args .table .now) noBits noFlows in
     let orders = start .args .orders .now in
     let area = start .args .answers .now in
     let counted = c .before .before .count-lines .ensures in
@@ -34,7 +34,7 @@ returns-3 : tie.Need-returns-3
 returns-3 c =
     let start = c .before .before .before .before .before .before .before .before in
     let t = tableOf (start .args .table .now) in
-    let s = stateOf (start .args .table .now) noBits noFlows noHops in
+    let s = stateOf (start .args .table .now) noBits noFlows in
     let orders = start .args .orders .now in
     let area = start .args .answers .now in
     let counted = c .before .before .before .count-lines .ensures in
@@ -45,7 +45,7 @@ unfolding model.doneBatch
 returns-4 c =
     let start = c .before .before .before .before .before .before .before .before .before .before .before in
     let t = tableOf (start .args .table .now) in
-    let s = stateOf (start .args .table .now) noBits noFlows noHops in
+    let s = stateOf (start .args .table .now) noBits noFlows in
     let orders = start .args .orders .now in
     let area = start .args .answers .now in
     let counted = c .before .before .before .before .before .before .count-lines .ensures in

@@ -5,16 +5,16 @@ use Prim.Native.Nat.{_-_, _≤_}
 use mathlib.Core.Path.{_≡_, _∙_}
 use native.Mathlib.Omega.{arith}
 use lib.ListN.{length, length-set}
-use Rattle.figures.specs.View.{sumNumbers}
+use Rattle.figures.specs.View.{figureNumbers}
 use Rattle.figures.proofs.ClearLaws.{ZeroTo, zero-next, zero-all}
 use Rattle.figures.proofs.clear.Statement.{statement}
 use Rattle.figures.proofs.clear.Tie as tie
 
 abbrev Inv-loop : tie.InvT-loop
-Inv-loop sums₀ i₀ sums i = (length sums ≡ sumNumbers) × (i ≤ sumNumbers) × ZeroTo i sums
+Inv-loop sums₀ i₀ figures i = (length figures ≡ figureNumbers) × (i ≤ figureNumbers) × ZeroTo i figures
 
 abbrev μ-loop : tie.MeasureT-loop
-μ-loop sums₀ i₀ sums i = sumNumbers - i
+μ-loop sums₀ i₀ figures i = figureNumbers - i
 
 loop-holds : tie.Need-loop-holds Inv-loop μ-loop
 loop-holds c = (search needs, omega arith, λ j lt. absurd (omega arith))
@@ -22,11 +22,11 @@ loop-holds c = (search needs, omega arith, λ j lt. absurd (omega arith))
 loop-again : tie.Need-loop-again Inv-loop μ-loop
 loop-again c =
     let at = c .before in
-    let sums = at .loop .sums in
-    (length-set sums (at .loop .i) 0 ∙ at .loop .inv .0, omega arith, zero-next (at .loop .i) sums (omega (arith, at .loop .inv .0)) (at .loop .inv .2))
+    let figures = at .loop .figures in
+    (length-set figures (at .loop .i) 0 ∙ at .loop .inv .0, omega arith, zero-next (at .loop .i) figures (omega (arith, at .loop .inv .0)) (at .loop .inv .2))
 
 returns : tie.Need-returns Inv-loop μ-loop
-returns c = (c .before .loop .inv .0, zero-all (c .before .loop .i) (c .before .loop .sums) (omega (arith, c .before .loop .inv .0)) (c .before .loop .inv .2))
+returns c = (c .before .loop .inv .0, zero-all (c .before .loop .i) (c .before .loop .figures) (omega (arith, c .before .loop .inv .0)) (c .before .loop .inv .2))
 
 pub clear-spec : {M : Type 1} → statement M
 clear-spec =

@@ -16,10 +16,10 @@ use Rattle.figures.proofs.link_levels.Statement.{statement}
 use Rattle.figures.proofs.link_levels.Tie as tie
 
 abbrev Inv-loop : tie.InvT-loop
-Inv-loop link sums levels₀ p₀ levels p = (p ≤ levelsMost) × (length levels ≡ levelsMost) × (aggregatesOf (take p levels) ≡ upTo p (λ k. figureAt sums (entryAt link k)))
+Inv-loop link figures levels₀ p₀ levels p = (p ≤ levelsMost) × (length levels ≡ levelsMost) × (aggregatesOf (take p levels) ≡ upTo p (λ k. figureAt figures (entryAt link k)))
 
 abbrev μ-loop : tie.MeasureT-loop
-μ-loop link sums levels₀ p₀ levels p = levelsMost - p
+μ-loop link figures levels₀ p₀ levels p = levelsMost - p
 
 loop-holds : tie.Need-loop-holds Inv-loop μ-loop
 unfolding upTo
@@ -31,7 +31,7 @@ loop-again c =
     let args = c .before .before .before .before .before .args in (
       omega arith,
       length-set (at .levels) (at .p) (c .figure .result) ∙ at .inv .1,
-      loaded-next aggregateOf (at .levels) (at .p) (c .figure .result) (λ k. figureAt (args .sums .now) (entryAt (args .link) k)) (omega (arith, at .inv .1)) (at .inv .2) (c .figure .ensures ∙ ap (figureAt (args .sums .now)) (c .before .entry-at .ensures .0)),
+      loaded-next aggregateOf (at .levels) (at .p) (c .figure .result) (λ k. figureAt (args .figures .now) (entryAt (args .link) k)) (omega (arith, at .inv .1)) (at .inv .2) (c .figure .ensures ∙ ap (figureAt (args .figures .now)) (c .before .entry-at .ensures .0)),
     )
 
 returns : tie.Need-returns Inv-loop μ-loop

@@ -9,15 +9,15 @@ use native.Mathlib.Omega.{arith}
 use lib.ListN.{getD}
 use lib.Seq.{ext-getD}
 use Rattle.model.specs.Laws.List.{before-next}
-use Rattle.figures.specs.View.{sumNumbers}
+use Rattle.figures.specs.View.{figureNumbers}
 use Rattle.figures.proofs.same.Statement.{statement}
 use Rattle.figures.proofs.same.Tie as tie
 
 abbrev Inv-loop : tie.InvT-loop
-Inv-loop a b i₀ i = (i ≤ sumNumbers) × ((j : ℕ) → j < i → getD a j 0 ≡ getD b j 0)
+Inv-loop a b i₀ i = (i ≤ figureNumbers) × ((j : ℕ) → j < i → getD a j 0 ≡ getD b j 0)
 
 abbrev μ-loop : tie.MeasureT-loop
-μ-loop a b i₀ i = sumNumbers - i
+μ-loop a b i₀ i = figureNumbers - i
 
 loop-holds : tie.Need-loop-holds Inv-loop μ-loop
 loop-holds c = (omega arith, λ j lt. absurd (omega arith))

@@ -6,11 +6,18 @@ use mathlib.Core.List.{[], map}
 use mathlib.Core.Option.{none}
 use borrow.Author.Tests.{lt-ltb, le-ltb}
 use Rattle.model.specs.Reference.{firstCause, atHop, metEarlier, startsElsewhere, whole}
+use Rattle.model.specs.Laws.All.{all-imp}
 use Rattle.queue_table.specs.View.{tableOf, hopAt}
+use Rattle.queue_table.proofs.EntryLaws.{queue-low}
 use Rattle.path_check.proofs.SearchLaws.{entry-cause, entry-none}
 use Rattle.flow_check.specs.View.{entryFindings}
 use Rattle.flow_check.proofs.judge_entries.Statement.{statement}
 use Rattle.flow_check.proofs.judge_entries.Tie as tie
+
+repeated-requires : tie.Need-repeated-requires
+repeated-requires c κs =
+    let start = c .before .before in
+    all-imp (start .args .entries .now) (λ e q. queue-low (start .args .table .now) e q (start .pre .0 .few)) (start .pre .1)
 
 -- Neither 16 nor 15.
 once : (c : tie.Else1) → atHop 16 metEarlier [] (map hopAt (c .before .before .before .before .args .entries .now)) ≡ none
@@ -40,4 +47,4 @@ unfolding firstCause entryFindings whole
 returns-4 c = sym (simp (once (c .before .before .before .before .before .before), joined (c .before .before .before .before), sym (c .before .before .before .path-delay .ensures), le-ltb _ _ (c .if3 .left)))
 
 pub judge-entries-spec : {M : Type 1} → statement M
-judge-entries-spec = tie.close (tie.spec (λ c κs. search needs) (λ c. search needs) (λ c. search needs) (λ c κs. search needs) returns (λ c κs. search needs) (λ c. search needs) (λ c. search needs) (λ c κs. search needs) returns-2 (λ c κs. search needs) returns-3 returns-4)
+judge-entries-spec = tie.close (tie.spec repeated-requires (λ c. search needs) (λ c. search needs) (λ c κs. search needs) returns (λ c κs. search needs) (λ c. search needs) (λ c. search needs) (λ c κs. search needs) returns-2 (λ c κs. search needs) returns-3 returns-4)

@@ -3,7 +3,6 @@
 use borrow.Author.Needs.{needs}
 use Prim.Native.Nat.{ℕ}
 use mathlib.Core.Path.{_≡_, sym, _∙_, ap}
-use mathlib.Core.List.{List}
 use mathlib.Core.Option.{Option·none-ne-some}
 use borrow.Author.Tests.{lt-ltb, le-ltb}
 use lib.Dec.{leb, ltb}
@@ -13,37 +12,37 @@ use Rattle.model.specs.Orders.{flowOf}
 use Rattle.model.specs.Reference.{State, withNumber, heldFlows, holds}
 use Rattle.model.specs.Laws.Slot.{number-index}
 use Rattle.flow_store.specs.View.{slotsOf}
-use Rattle.flow_store.proofs.ViewLaws.{length-slots}
+use Rattle.flow_store.specs.Laws.{length-slots}
 use Rattle.queue_table.specs.View.{tableOf}
 use Rattle.orders.specs.View.{lineFlow}
 use Rattle.flow_check.proofs.CauseLaws.{early-held, early-frame, early-path}
 use Rattle.flow_check.proofs.judge_flow.Statement.{statement}
 use Rattle.flow_check.proofs.judge_flow.Tie as tie
 
--- The table and the slots, with this pool.
-abbrev state : (c : tie.Start) (pool : List ℕ) → State
-state c pool = record { table = tableOf (c .args .table .now); slots = slotsOf (c .args .bits .now) (c .args .slots .now) pool }
+-- The table and the slots.
+abbrev state : (c : tie.Start) → State
+state c = record { table = tableOf (c .args .table .now); slots = slotsOf (c .args .bits .now) (c .args .store .now) }
 
 -- Whether the number is held is whether its slot was found.
-module _ (c : tie.After-find) (pool : List ℕ) where
+module _ (c : tie.After-find) where
   abbrev start : tie.Start
   start = c .before .before .before .before .before .before
 
   abbrev number : ℕ
   number = start .args .flow .number
 
-  held : leb 1 (withNumber number (heldFlows (state start pool .slots))) ≡ ltb (c .find .result) slotCount
+  held : leb 1 (withNumber number (heldFlows (state start .slots))) ≡ ltb (c .find .result) slotCount
   held =
-      number-index number (state start pool .slots)
-      ∙ ap (ltb (firstIndex (holds number) (state start pool .slots))) (length-slots (start .args .bits .now) (start .args .slots .now) pool)
-      ∙ ap (λ (i : ℕ). ltb i slotCount) (sym (c .find .ensures pool))
+      number-index number (state start .slots)
+      ∙ ap (ltb (firstIndex (holds number) (state start .slots))) (length-slots (start .args .bits .now) (start .args .store .now))
+      ∙ ap (λ (i : ℕ). ltb i slotCount) (sym (c .find .ensures))
 
 returns : tie.Need-returns
 unfolding flowOf
 returns c =
     let at = c .before .before .before .before .before .before .before in
     record {
-      first = λ pool. sym (early-held (state at pool) (lineFlow (at .args .flow) (at .args .hops .now)) (held (c .before) pool ∙ lt-ltb _ slotCount (c .if1 .taken)));
+      first = sym (early-held (state at) (lineFlow (at .args .flow) (at .args .hops .now)) (held (c .before) ∙ lt-ltb _ slotCount (c .if1 .taken)));
       named = λ e. absurd (Option·none-ne-some _ (sym e));
     }
 
@@ -52,7 +51,7 @@ unfolding flowOf
 returns-2 c =
     let at = c .before .before .before .before .before .before .before .before in
     record {
-      first = λ pool. sym (early-frame (state at pool) (lineFlow (at .args .flow) (at .args .hops .now)) (held (c .before .before) pool ∙ le-ltb _ slotCount (c .before .if1 .left)) (lt-ltb _ _ (c .if2 .taken)));
+      first = sym (early-frame (state at) (lineFlow (at .args .flow) (at .args .hops .now)) (held (c .before .before) ∙ le-ltb _ slotCount (c .before .if1 .left)) (lt-ltb _ _ (c .if2 .taken)));
       named = λ e. absurd (Option·none-ne-some _ (sym e));
     }
 
@@ -61,7 +60,7 @@ unfolding flowOf
 returns-3 c =
     let at = c .before .before .before .before .before .before .before .before .before in
     record {
-      first = λ pool. c .judge-path .ensures .first ∙ sym (early-path (state at pool) (lineFlow (at .args .flow) (at .args .hops .now)) (held (c .before .before .before) pool ∙ le-ltb _ slotCount (c .before .before .if1 .left)) (le-ltb _ _ (c .before .if2 .left)));
+      first = c .judge-path .ensures .first ∙ sym (early-path (state at) (lineFlow (at .args .flow) (at .args .hops .now)) (held (c .before .before .before) ∙ le-ltb _ slotCount (c .before .before .if1 .left)) (le-ltb _ _ (c .before .if2 .left)));
       named = c .judge-path .ensures .named;
     }
 

@@ -13,32 +13,33 @@ use Rattle.model.specs.Sizes.{slotCount}
 use Rattle.model.specs.Reference.{Slot, isHeld}
 use Rattle.model.specs.Laws.Slot.{held-index}
 use Rattle.flow_store.specs.View.{slotsOf}
-use Rattle.flow_store.proofs.ViewLaws.{length-slots, held-hops}
+use Rattle.flow_store.specs.Laws.{length-slots}
+use Rattle.flow_store.proofs.ViewLaws.{held-hops}
 use Rattle.flow_store.proofs.ScanLaws.{lowest-free}
 use Rattle.flow_check.proofs.CauseLaws.{room-slots, room-hops, room-left}
 use Rattle.flow_check.proofs.judge_room.Statement.{statement}
 use Rattle.flow_check.proofs.judge_room.Tie as tie
 
--- The slots, with this pool.
-abbrev all : (c : tie.Start) (pool : List ℕ) → List Slot
-all c pool = slotsOf (c .args .bits .now) (c .args .slots .now) pool
+-- The slots.
+abbrev all : (c : tie.Start) → List Slot
+all c = slotsOf (c .args .bits .now) (c .args .store .now)
 
 -- Whether all slots are held is whether no free one was found.
-full : (c : tie.After-first-free) (pool : List ℕ) → every isHeld (all (c .before .before .before) pool) ≡ not (ltb (c .first-free .result) slotCount)
-full c pool =
+full : (c : tie.After-first-free) → every isHeld (all (c .before .before .before)) ≡ not (ltb (c .first-free .result) slotCount)
+full c =
     let start = c .before .before .before in
-    held-index (all start pool)
+    held-index (all start)
     ∙ ap not
-    (ap (ltb (firstIndex isNone (all start pool))) (length-slots (start .args .bits .now) (start .args .slots .now) pool)
-    ∙ ap (λ (i : ℕ). ltb i slotCount) (sym (lowest-free (start .args .bits .now) (start .args .slots .now) pool (c .first-free .result) (start .pre .0) (c .first-free .ensures))))
+    (ap (ltb (firstIndex isNone (all start))) (length-slots (start .args .bits .now) (start .args .store .now))
+    ∙ ap (λ (i : ℕ). ltb i slotCount) (sym (lowest-free (start .args .bits .now) (start .args .store .now) (c .first-free .result) (start .pre .0 .bits-long) (c .first-free .ensures))))
 
-free : (c : tie.Else1) (pool : List ℕ) → every isHeld (all (c .before .before .before .before) pool) ≡ false
-free c pool = full (c .before) pool ∙ ap not (lt-ltb (c .before .first-free .result) slotCount (c .if1 .left))
+free : (c : tie.Else1) → every isHeld (all (c .before .before .before .before)) ≡ false
+free c = full (c .before) ∙ ap not (lt-ltb (c .before .first-free .result) slotCount (c .if1 .left))
 
 returns : tie.Need-returns
 returns c =
     record {
-      first = λ pool f store long. sym (room-slots (all (c .before .before .before .before) pool) f (full (c .before) pool ∙ ap not (le-ltb (c .before .first-free .result) slotCount (c .if1 .taken))));
+      first = λ f long. sym (room-slots (all (c .before .before .before .before)) f (full (c .before) ∙ ap not (le-ltb (c .before .first-free .result) slotCount (c .if1 .taken))));
       slot = c .before .first-free .ensures;
     }
 
@@ -46,9 +47,9 @@ returns-2 : tie.Need-returns-2
 returns-2 c =
     let start = c .before .before .before .before .before .before in
     record {
-      first = λ pool f store long.
+      first = λ f long.
           sym
-          (room-hops (all start pool) f (free (c .before .before) pool) (omega (arith, c .if2 .taken, c .before .held-entries .ensures, held-hops (start .args .bits .now) (start .args .slots .now) pool store, long, start .pre .3)));
+          (room-hops (all start) f (free (c .before .before)) (omega (arith, c .if2 .taken, c .before .held-entries .ensures, held-hops (start .args .bits .now) (start .args .store .now) (start .pre .0), long, start .pre .1)));
       slot = c .before .before .before .first-free .ensures;
     }
 
@@ -56,9 +57,9 @@ returns-3 : tie.Need-returns-3
 returns-3 c =
     let start = c .before .before .before .before .before .before in
     record {
-      first = λ pool f store long.
+      first = λ f long.
           sym
-          (room-left (all start pool) f (free (c .before .before) pool) (omega (arith, c .if2 .left, c .before .held-entries .ensures, held-hops (start .args .bits .now) (start .args .slots .now) pool store, long, start .pre .3)));
+          (room-left (all start) f (free (c .before .before)) (omega (arith, c .if2 .left, c .before .held-entries .ensures, held-hops (start .args .bits .now) (start .args .store .now) (start .pre .0), long, start .pre .1)));
       slot = c .before .before .before .first-free .ensures;
     }
 

@@ -1,4 +1,4 @@
--- `flow_store::block_names` meets its contract. The invariant: where none was found the slots so far have other numbers.
+-- `flow_store::block_names` meets its contract. The invariant: where none was found the store so far have other numbers.
 -- Assumes nothing.
 use borrow.Author.Needs.{needs}
 use Prim.Native.Nat.{_+_, _-_, _≤_}
@@ -11,10 +11,10 @@ use Rattle.flow_store.proofs.block_names.Statement.{statement}
 use Rattle.flow_store.proofs.block_names.Tie as tie
 
 abbrev Inv-loop : tie.InvT-loop
-Inv-loop number from slots any₀ i₀ any i = (from ≤ i) × (i ≤ from + blockSlots) × (any ≡ false → OthersFrom number slots from i)
+Inv-loop number from store any₀ i₀ any i = (from ≤ i) × (i ≤ from + blockSlots) × (any ≡ false → OthersFrom number store from i)
 
 abbrev μ-loop : tie.MeasureT-loop
-μ-loop number from slots any₀ i₀ any i = from + blockSlots - i
+μ-loop number from store any₀ i₀ any i = from + blockSlots - i
 
 loop-holds : tie.Need-loop-holds Inv-loop μ-loop
 loop-holds c = (omega arith, omega arith, λ e j low lt. absurd (omega arith))
@@ -28,7 +28,7 @@ loop-again-2 c =
     let args = at .before .args in (
       omega (arith, at .loop .inv .0),
       omega (arith, c .before .before .loop-test .taken),
-      λ e. others-join (args .number) (args .slots .now) (at .loop .inv .2 e) (others-one (args .number) (args .slots .now) (at .loop .i) (c .if1 .left)),
+      λ e. others-join (args .number) (args .store .now) (at .loop .inv .2 e) (others-one (args .number) (args .store .now) (at .loop .i) (c .if1 .left)),
     )
 
 returns : tie.Need-returns Inv-loop μ-loop

@@ -14,7 +14,7 @@ returns-2 : tie.Need-returns-2
 returns-2 c =
     let at = c .before .before in
     let args = at .before .before .args in
-    rw (c .before .start-at .ensures .0, c .hops-at .ensures .0) (end-past (args .slots .now) (args .slot) (at .if1 .left))
+    rw (c .before .start-at .ensures .0, c .hops-at .ensures .0) (end-past (args .store .now) (args .slot) (at .if1 .left))
 
 pub end-before-spec : {M : Type 1} → statement M
 end-before-spec =

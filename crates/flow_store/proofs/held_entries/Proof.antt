@@ -20,13 +20,13 @@ returns : tie.Need-returns
 returns c =
     let start = c .before .before .before .before in
     let bits = start .args .bits .now in
-    let slots = start .args .slots .now in
+    let store = start .args .store .now in
     let past = c .before .past-set .ensures in
     let end = c .before .past-set .result in
     let inside : end ≤ slotCount = omega (arith, past .inside, start .pre .0) in
     c .end-before .ensures
-    ∙ end-before bits slots (start .pre .2) end inside (past .set)
-    ∙ counts-whole bits slots end inside (λ j low high. past .clear-after j low (omega (arith, start .pre .0)))
+    ∙ end-before bits store (start .pre .2) end inside (past .set)
+    ∙ counts-whole bits store end inside (λ j low high. past .clear-after j low (omega (arith, start .pre .0)))
 
 pub held-entries-spec : {M : Type 1} → statement M
 held-entries-spec = tie.close (tie.spec past-set-requires end-before-requires returns)

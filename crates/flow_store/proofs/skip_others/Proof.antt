@@ -11,10 +11,10 @@ use Rattle.flow_store.proofs.skip_others.Statement.{statement}
 use Rattle.flow_store.proofs.skip_others.Tie as tie
 
 abbrev Inv-loop : tie.InvT-loop
-Inv-loop number slots i₀ i = (i ≤ slotCount) × (i % blockSlots ≡ 0) × OthersFrom number slots 0 i
+Inv-loop number store i₀ i = (i ≤ slotCount) × (i % blockSlots ≡ 0) × OthersFrom number store 0 i
 
 abbrev μ-loop : tie.MeasureT-loop
-μ-loop number slots i₀ i = slotCount - i
+μ-loop number store i₀ i = slotCount - i
 
 loop-holds : tie.Need-loop-holds Inv-loop μ-loop
 loop-holds c = (omega arith, omega arith, λ j low lt. absurd (omega arith))
@@ -35,7 +35,7 @@ loop-again c =
     let args = at .before .before .args in (
       omega (arith, at .loop .inv .1, c .before .before .loop-test .taken),
       omega (arith, at .loop .inv .1),
-      others-join (args .number) (args .slots .now) (at .loop .inv .2) (c .before .block-names .ensures (c .if1 .left)),
+      others-join (args .number) (args .store .now) (at .loop .inv .2) (c .before .block-names .ensures (c .if1 .left)),
     )
 
 returns-2 : tie.Need-returns-2 Inv-loop μ-loop

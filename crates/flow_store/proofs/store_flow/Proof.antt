@@ -8,23 +8,23 @@ use Rattle.flow_store.specs.View.{flowStored}
 use Rattle.flow_store.proofs.store_flow.Statement.{statement}
 use Rattle.flow_store.proofs.store_flow.Tie as tie
 
-slice-write-slots-2 : tie.Need-slice-write-slots-2
-slice-write-slots-2 c = simp length-set (omega arith)
+slice-write-store-2 : tie.Need-slice-write-store-2
+slice-write-store-2 c = simp length-set (omega arith)
 
-slice-write-slots-3 : tie.Need-slice-write-slots-3
-slice-write-slots-3 c = simp length-set (omega arith)
+slice-write-store-3 : tie.Need-slice-write-store-3
+slice-write-store-3 c = simp length-set (omega arith)
 
-slice-write-slots-4 : tie.Need-slice-write-slots-4
-slice-write-slots-4 c = simp length-set (omega arith)
+slice-write-store-4 : tie.Need-slice-write-store-4
+slice-write-store-4 c = simp length-set (omega arith)
 
-slice-write-slots-5 : tie.Need-slice-write-slots-5
-slice-write-slots-5 c = simp length-set (omega arith)
+slice-write-store-5 : tie.Need-slice-write-store-5
+slice-write-store-5 c = simp length-set (omega arith)
 
-slice-write-slots-6 : tie.Need-slice-write-slots-6
-slice-write-slots-6 c = simp length-set (omega arith)
+slice-write-store-6 : tie.Need-slice-write-store-6
+slice-write-store-6 c = simp length-set (omega arith)
 
-slice-write-slots-7 : tie.Need-slice-write-slots-7
-slice-write-slots-7 c = simp length-set (omega arith)
+slice-write-store-7 : tie.Need-slice-write-store-7
+slice-write-store-7 c = simp length-set (omega arith)
 
 same-length : tie.Need-same-length
 same-length c = simp length-set
@@ -36,4 +36,4 @@ returns c = refl
 pub store-flow-spec : {M : Type 1} → statement M
 store-flow-spec =
     tie.close
-    (tie.spec (λ c. search needs) (λ c. search needs) (λ c. search needs) (λ c. search needs) (λ c. search needs) (λ c. search needs) (λ c. search needs) (λ c. search needs) slice-write-slots-2 (λ c. search needs) (λ c. search needs) slice-write-slots-3 (λ c. search needs) (λ c. search needs) slice-write-slots-4 (λ c. search needs) (λ c. search needs) slice-write-slots-5 (λ c. search needs) (λ c. search needs) slice-write-slots-6 (λ c. search needs) (λ c. search needs) slice-write-slots-7 same-length returns)
+    (tie.spec (λ c. search needs) (λ c. search needs) (λ c. search needs) (λ c. search needs) (λ c. search needs) (λ c. search needs) (λ c. search needs) (λ c. search needs) slice-write-store-2 (λ c. search needs) (λ c. search needs) slice-write-store-3 (λ c. search needs) (λ c. search needs) slice-write-store-4 (λ c. search needs) (λ c. search needs) slice-write-store-5 (λ c. search needs) (λ c. search needs) slice-write-store-6 (λ c. search needs) (λ c. search needs) slice-write-store-7 same-length returns)

@@ -10,12 +10,13 @@ use native.Mathlib.Numerals.{add-one}
 use lib.ListN.{length, getD, drop, length-map, List·getD-map}
 use Rattle.model.specs.Sizes.{levelsMost}
 use Rattle.model.specs.Formula as model
+use Rattle.model.specs.Laws.All.{all-getD}
 use Rattle.model.specs.QueueTable.{Queue}
 use Rattle.model.specs.WithFlow.{noFlow}
 use Rattle.model.specs.Laws.LinkSteps.{levelFinding, blockings, blockings-at, Passed, passed-none, passed-all, passed-room, passed-next, passed-found}
 use Rattle.units.specs.View.{aggregateOf}
 use Rattle.queue_table.specs.declared.access.Queue as queue_table
-use Rattle.link_check.specs.View.{aggregatesOf, bytesOf, queueOf, queuesOf, levelFindingOf}
+use Rattle.link_check.specs.View.{aggregatesOf, bytesOf, queueOf, queuesOf, Narrow, levelFindingOf}
 use Rattle.link_check.proofs.FindingLaws.{faulty}
 use Rattle.link_check.proofs.Laws.{length-mapped, mapped-next, mapped-end, blank, level-next}
 use Rattle.link_check.proofs.check_levels.Statement.{statement}
@@ -86,6 +87,9 @@ module _ (c : tie.In-loop Inv-loop μ-loop) where
   passed : Passed (start .args .speed) link-field queues levels i above
   passed = c .before .loop .inv .1 link-field (c .before .before .blockings .ensures)
 
+  narrow : Narrow (getD (start .args .t3) i noQueue)
+  narrow = all-getD Narrow (start .args .t3) i noQueue (start .pre .1 .1 .1) (omega (arith, long start))
+
   room : (above .rate + own .rate < 1000 * start .args .speed) × (above .burst + blocked + own .frame + own .burst ≤ 2 ^ 40)
   room = omega (arith, passed-room passed queue-at own-at, blocked-at link-field (c .before .before .blockings .ensures), start .pre)
 
@@ -101,7 +105,7 @@ unfolding noFlow
 loop-holds c = (omega arith, λ alone e. passed-none (c .before .args .speed) alone (queuesOf (c .before .args .t3)) (aggregatesOf (c .before .args .t4)))
 
 check-level-requires : tie.Need-check-level-requires Inv-loop μ-loop
-check-level-requires c κs = omega (arith, room (c .before .before .before), c .before .before .before .before .before .before .pre)
+check-level-requires c κs = omega (arith, room (c .before .before .before), narrow (c .before .before .before), c .before .before .before .before .before .before .pre)
 
 returns : tie.Need-returns Inv-loop μ-loop
 returns c =

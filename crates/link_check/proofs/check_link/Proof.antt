@@ -3,7 +3,6 @@
 use borrow.Author.Needs.{needs}
 use Prim.Native.Nat.{_*_}
 use mathlib.Core.Path.{_≡_, refl, sym, ap, _∙_}
-use native.Mathlib.Omega.{arith}
 use borrow.Author.Tests.{ltb-true}
 use Rattle.model.specs.Total.{total}
 use Rattle.model.specs.Formula.{withinRate}
@@ -20,12 +19,9 @@ rule c = rw (c .before .rate-sum .ensures) at (c .within-rate .ensures)
 check-levels-requires : tie.Need-check-levels-requires
 unfolding withinRate
 check-levels-requires c κs =
-    let args = c .before .before .before .args in
-    omega (
-      arith,
-      c .before .before .before .pre,
-      ltb-true (total (λ a. a .rate) (aggregatesOf (args .levels))) (1000 * args .speed) (sym (rule (c .before)) ∙ c .if1 .taken),
-    )
+    let start = c .before .before .before in
+    let rates = ltb-true (total (λ a. a .rate) (aggregatesOf (start .args .levels))) (1000 * start .args .speed) (sym (rule (c .before)) ∙ c .if1 .taken) in
+    (start .pre .0, (rates, start .pre .1 .1))
 
 returns : tie.Need-returns
 unfolding linkFinding rateCode orElse

@@ -10,7 +10,7 @@ use native.Mathlib.Omega.{arith}
 use lib.ListN.{length}
 use borrow.Author.Tests.{ltb-false, le-ltb}
 use Rattle.model.specs.Words.{All}
-use Rattle.model.specs.Sizes.{hopsMost}
+use Rattle.model.specs.Sizes.{numberMost, hopsMost}
 use Rattle.model.specs.Laws.Columns.{between-true}
 use Rattle.model.specs.Laws.Test.{and-both}
 use Rattle.model.specs.QueueTable.{Link, Table}
@@ -50,7 +50,7 @@ module _ (t : Table) (fs : List Flow) (frames : All (λ f. 1 ≤ f .frame) fs) (
 
 -- What the ranges of a registration (11) say.
 pub record FlowBounds (f : Flow) : Type 0 where
-  pub number : f .number ≤ 65535
+  pub number : f .number ≤ numberMost
   pub rate : f .rate ≤ 10000000
   pub burst : f .burst ≤ 1000000
   pub frame : (84 ≤ f .frame) × (f .frame ≤ 1542)
@@ -66,7 +66,7 @@ flow-bounds f e =
     let (e₃, burst) = and-both (numberInRange (f .number) && rateInRange (f .rate)) _ e₂ in
     let (number, rate) = and-both (numberInRange (f .number)) _ e₃ in
     record {
-      number = between-true 1 65535 (f .number) number .1;
+      number = between-true 1 numberMost (f .number) number .1;
       rate = between-true 1 10000000 (f .rate) rate .1;
       burst = between-true 84 1000000 (f .burst) burst .1;
       frame = between-true 84 1542 (f .frame) frame;

@@ -13,7 +13,7 @@ use Rattle.order_text.proofs.slot_bytes.Tie as tie
 returns : tie.Need-returns
 returns c =
     let args = c .before .before .before .before .args in (
-      λ pool store. sym (ap length (free-text (args .bits .now) (args .slots .now) pool store (args .slot) (c .before .before .before .before .pre .2) (sym (c .before .is-held .ensures) ∙ not-true _ (c .if1 .taken)))),
+      sym (ap length (free-text (args .bits .now) (args .store .now) (c .before .before .before .before .pre .0) (args .slot) (c .before .before .before .before .pre .1) (sym (c .before .is-held .ensures) ∙ not-true _ (c .if1 .taken)))),
       omega arith,
     )
 
@@ -21,7 +21,7 @@ returns-2 : tie.Need-returns-2
 returns-2 c =
     let args = c .before .before .before .before .before .before .args in
     let hops = ap (λ (h : Head). h .hops) (c .before .flow-at .ensures .0) in (
-      λ pool store. omega (arith, hops, held-size (args .bits .now) (args .slots .now) pool store (args .slot) (c .before .before .before .before .before .before .pre .2) (sym (c .before .before .before .is-held .ensures) ∙ not-false _ (c .before .before .if1 .left))),
+      omega (arith, hops, held-size (args .bits .now) (args .store .now) (c .before .before .before .before .before .before .pre .0) (args .slot) (c .before .before .before .before .before .before .pre .1) (sym (c .before .before .before .is-held .ensures) ∙ not-false _ (c .before .before .if1 .left))),
       omega (arith),
     )
 

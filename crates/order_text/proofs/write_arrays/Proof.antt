@@ -11,27 +11,31 @@ use Rattle.model.specs.Reference.{heldFlows}
 use Rattle.model.specs.Handover.{handoverText, doneWriting}
 use Rattle.model.specs.Laws.Handover.{writing-short, writing-done}
 use Rattle.flow_store.specs.View.{slotsOf}
-use Rattle.admission.specs.View.{Kept}
+use Rattle.flow_store.proofs.ViewLaws.{readable}
+use Rattle.admission.specs.View.{ConsistentArrays}
 use Rattle.order_text.specs.View.{consistent, inconsistent}
 use Rattle.order_text.proofs.write_arrays.Statement.{statement}
 use Rattle.order_text.proofs.write_arrays.Tie as tie
 
 returns : tie.Need-returns
-returns c = inconsistent (c .before .before .is-consistent .ensures .1 (not-true _ (c .before .if1 .taken))) (c .refused .ensures (c .before .before .before .before .before .before .before .before .before .args .area .now))
+returns c = inconsistent (c .before .before .is-consistent .ensures .1 (not-true _ (c .before .if1 .taken))) (c .refused .ensures (c .before .before .before .before .before .before .before .before .args .area .now))
+
+text-bytes-requires : tie.Need-text-bytes-requires
+text-bytes-requires c κs = readable _ _ (c .before .is-consistent .ensures .0 (not-false _ (c .if1 .left)) .stored)
 
 -- The arrays are consistent, and so many bytes are needed.
 module _ (c : tie.After-text-bytes) where
   abbrev start : tie.Start
-  start = c .before .before .before .before .before .before .before .before .before
+  start = c .before .before .before .before .before .before .before .before
 
-  kept : Kept (start .args .table .now) (start .args .bits .now) (start .args .slots .now) (start .args .pool .now) (start .args .sums .now)
+  kept : ConsistentArrays (start .args .table .now) (start .args .bits .now) (start .args .store .now) (start .args .figures .now)
   kept = c .before .before .is-consistent .ensures .0 (not-false _ (c .before .if1 .left))
 
   abbrev text : List ℕ
-  text = handoverText (heldFlows (slotsOf (start .args .bits .now) (start .args .slots .now) (start .args .pool .now)))
+  text = handoverText (heldFlows (slotsOf (start .args .bits .now) (start .args .store .now)))
 
   needed : c .text-bytes .result ≡ length text
-  needed = c .text-bytes .ensures (start .args .pool .now) (kept .store)
+  needed = c .text-bytes .ensures
 
 returns-2 : tie.Need-returns-2
 returns-2 c =
@@ -43,7 +47,7 @@ room : (c : tie.Else2) → length (text (c .before)) ≤ length (start (c .befor
 room c = omega (arith, needed (c .before), c .if2 .left)
 
 write-slots-requires : tie.Need-write-slots-requires
-write-slots-requires c κs = (kept (c .before .before) .store, room (c .before))
+write-slots-requires c κs = (readable _ _ (kept (c .before .before) .stored), room (c .before))
 
 returns-3 : tie.Need-returns-3
 unfolding doneWriting
@@ -55,4 +59,4 @@ returns-3 c =
     ((λ i. record { code = 0; bytes = needed at i; area = written .ensures i }) ∙ sym (writing-done (text at) area (room (c .before .before .before .before))))
 
 pub write-arrays-spec : {M : Type 1} → statement M
-write-arrays-spec = tie.close (tie.spec (λ c κs. search needs) (λ c κs. search needs) returns (λ c κs. search needs) (λ c κs. search needs) returns-2 write-slots-requires (λ c. search needs) returns-3)
+write-arrays-spec = tie.close (tie.spec (λ c κs. search needs) (λ c κs. search needs) returns text-bytes-requires (λ c κs. search needs) returns-2 write-slots-requires (λ c. search needs) returns-3)

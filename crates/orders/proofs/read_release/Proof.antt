@@ -4,6 +4,7 @@ use borrow.Author.Needs.{needs}
 use mathlib.Core.Path.{_≡_, sym, _∙_, ap}
 use borrow.Author.Tests.{eq-eqb, ne-eqb}
 use Rattle.columns.specs.View.{valueOf}
+use Rattle.model.specs.Sizes.{numberMost}
 use Rattle.model.specs.Columns.{between}
 use Rattle.model.specs.Orders.{releaseLine, releaseOf, numberInRange}
 use Rattle.orders.proofs.PathLaws.{with-order, bare-fits}
@@ -13,7 +14,7 @@ use Rattle.orders.proofs.read_release.Tie as tie
 -- The test of the range is the definition's.
 judged : (c : tie.After-within) → numberInRange (c .before .before .before .number .given .0 .0) ≡ c .within .result
 unfolding numberInRange
-judged c = ap (between 1 65535) (sym (c .before .wide .ensures)) ∙ sym (c .within .ensures)
+judged c = ap (between 1 numberMost) (sym (c .before .wide .ensures)) ∙ sym (c .within .ensures)
 
 returns : tie.Need-returns
 unfolding releaseLine

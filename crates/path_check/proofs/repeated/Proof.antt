@@ -1,47 +1,52 @@
--- `path_check::repeated` meets its contract. The invariant: the search from hop i on answers what the whole search does.
+-- `path_check::repeated` meets its contract. The invariant: hop i is next, and `met` has the links of the hops before it.
 -- Assumes nothing.
 use borrow.Author.Needs.{needs}
-use Prim.Native.Nat.{_-_, _≤_}
-use mathlib.Core.Path.{_≡_, refl, sym, _∙_}
-use mathlib.Core.List.{[], map}
+use Prim.Native.Nat.{_-_, _≤_, _<_}
 use native.Mathlib.Omega.{arith}
 use lib.ListN.{length}
-use Rattle.model.specs.Reference.{atHop, metEarlier}
-use Rattle.model.specs.Laws.Path.{searchFrom}
-use Rattle.queue_table.specs.View.{hopAt}
-use Rattle.path_check.proofs.SearchLaws.{entry-found, entry-passed, none-found}
+use Rattle.bit_words.specs.View.{wordBits}
+use Rattle.path_check.proofs.MetLaws.{link-inside, Searched, searched-first, searched-found, searched-end, searched-next}
 use Rattle.path_check.proofs.repeated.Statement.{statement}
 use Rattle.path_check.proofs.repeated.Tie as tie
 
 abbrev Inv-loop : tie.InvT-loop
-Inv-loop entries i₀ i =
-    (i ≤ length entries) × (atHop 16 metEarlier [] (map hopAt entries) ≡ searchFrom 16 metEarlier (map hopAt entries) i)
+Inv-loop entries met₀ i₀ met i = (i ≤ length entries) × Searched entries i met
 
 abbrev μ-loop : tie.MeasureT-loop
-μ-loop entries i₀ i = length entries - i
+μ-loop entries met₀ i₀ met i = length entries - i
 
 loop-holds : tie.Need-loop-holds Inv-loop μ-loop
-loop-holds c = (omega arith, refl)
+loop-holds c = (omega arith, searched-first _)
+
+cast-link-of : tie.Need-cast-link-of Inv-loop μ-loop
+cast-link-of c = omega (arith, c .shared-slice-known2 .given (c .before .before .loop .i))
+
+-- The link at hop i has a bit.
+inside : (c : tie.After-link-of Inv-loop μ-loop) → c .link-of .result < wordBits
+inside c =
+    let start = c .before .before .before .before .before in
+    omega (arith, c .link-of .ensures, link-inside (start .args .entries .now) (c .before .before .before .loop .i) (start .pre) (omega arith))
+
+shr-if1 : tie.Need-shr-if1 Inv-loop μ-loop
+shr-if1 c = omega (arith, inside c)
 
 returns : tie.Need-returns Inv-loop μ-loop
 returns c =
-    let args = c .before .before .before .before .before .args in
-    let l = c .before .before .before .loop in
-    (l .inv .1 ∙ entry-found (args .entries .now) 16 metEarlier (l .i) (omega arith) (sym (c .before .met-before .ensures) ∙ c .if1 .taken), omega arith)
+    let l = c .before .before .before .before .loop in
+    (searched-found (l .inv .1) (omega arith) (rw (c .before .link-of .ensures) at (c .if1 .taken)), omega arith)
+
+shl-met : tie.Need-shl-met Inv-loop μ-loop
+shl-met c = omega (arith, inside (c .before))
 
 loop-again : tie.Need-loop-again Inv-loop μ-loop
 loop-again c =
-    let args = c .before .before .before .before .before .args in
-    let l = c .before .before .before .loop in
-    (omega arith, l .inv .1 ∙ entry-passed (args .entries .now) 16 metEarlier (l .i) (omega arith) (sym (c .before .met-before .ensures) ∙ c .if1 .left))
+    let l = c .before .before .before .before .loop in
+    let start = c .before .before .before .before .before .before in
+    let link = c .before .link-of .ensures in
+    (omega arith, rw link (searched-next (l .inv .1) (start .pre) (omega arith) (rw link at (c .if1 .left))))
 
 returns-2 : tie.Need-returns-2 Inv-loop μ-loop
-returns-2 c =
-    let args = c .before .before .before .args in
-    let l = c .before .loop in
-    (l .inv .1 ∙ none-found (args .entries .now) 16 metEarlier (l .i) (omega arith), omega arith)
+returns-2 c = (searched-end (c .before .loop .inv .1) (omega arith), omega arith)
 
 pub repeated-spec : {M : Type 1} → statement M
-repeated-spec =
-    tie.close
-    (tie.spec Inv-loop μ-loop loop-holds (λ c κs. search needs) returns (λ c. search needs) (λ c. search needs) loop-again returns-2)
+repeated-spec = tie.close (tie.spec Inv-loop μ-loop loop-holds (λ c. search needs) (λ c. search needs) cast-link-of (λ c κs. search needs) shr-if1 returns shl-met (λ c. search needs) (λ c. search needs) loop-again returns-2)

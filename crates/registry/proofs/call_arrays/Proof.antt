@@ -9,8 +9,8 @@ use Rattle.model.specs.Orders as line
 use Rattle.model.specs.Orders.{kindNumber}
 use Rattle.model.specs.Laws.Order.{Ranged, call-ranged}
 use Rattle.orders.specs.View.{hopNumbers, kindOf, orderOf}
-use Rattle.admission.specs.View.{Kept}
-use Rattle.admission.proofs.KeptLaws.{stepped-same}
+use Rattle.admission.specs.View.{ConsistentArrays}
+use Rattle.admission.proofs.ConsistentLaws.{stepped-same}
 use Rattle.admission.proofs.ReadLaws.{order-read}
 use Rattle.registry.proofs.call_arrays.Statement.{statement}
 use Rattle.registry.proofs.call_arrays.Tie as tie
@@ -18,9 +18,9 @@ use Rattle.registry.proofs.call_arrays.Tie as tie
 -- The arrays are consistent.
 module _ (c : tie.Else1) where
   abbrev start : tie.Start
-  start = c .before .before .before .before .before .before .before .before .before .before .before .before
+  start = c .before .before .before .before .before .before .before .before .before .before
 
-  kept : Kept (start .args .table .now) (start .args .bits .now) (start .args .slots .now) (start .args .pool .now) (start .args .sums .now)
+  kept : ConsistentArrays (start .args .table .now) (start .args .bits .now) (start .args .store .now) (start .args .figures .now)
   kept = c .before .is-consistent .ensures .0 (not-false _ (c .if1 .left))
 
 -- What was read.
@@ -35,24 +35,24 @@ returns : tie.Need-returns
 returns c =
     record {
       done = λ k. absurd (c .before .is-consistent .ensures .1 (not-true _ (c .if1 .taken)) k);
-      kept-out = λ spoilt. (refl, (refl, (refl, (refl, refl))));
+      inconsistent = λ spoilt. (refl, (refl, (refl, refl)));
     }
 
-perform-requires : tie.Need-perform-requires
-perform-requires c κs =
-    let at = c .before .before .before .before .before .before in
+apply-requires : tie.Need-apply-requires
+apply-requires c κs =
+    let at = c .before .before .before .before .before in
     let read = at .read-call .result in
     (order-read (read .hops) (read .order) (hops-long at) (at .read-call .ensures .1) (ranged at), kept (at .before))
 
 returns-2 : tie.Need-returns-2
 returns-2 c =
-    let at = c .before .before .before .before .before .before .before .before .before .before .before .before .before .before .before in
+    let at = c .before .before .before .before .before .before .before .before .before .before .before .before in
     record {
-      done = λ k. stepped-same (at .read-call .ensures .0) (c .before .before .before .before .before .before .before .before .perform .ensures);
-      kept-out = λ spoilt. absurd (spoilt (kept (at .before)));
+      done = λ k. stepped-same (at .read-call .ensures .0) (c .before .before .before .before .before .before .apply .ensures);
+      inconsistent = λ spoilt. absurd (spoilt (kept (at .before)));
     }
 
 pub call-arrays-spec : {M : Type 1} → statement M
 call-arrays-spec =
     tie.close
-    (tie.spec (λ c κs. search needs) (λ c. search needs) (λ c. search needs) (λ c. search needs) (λ c. search needs) returns (λ c κs. search needs) (λ c. search needs) perform-requires (λ c. search needs) (λ c. search needs) (λ c. search needs) (λ c. search needs) returns-2)
+    (tie.spec (λ c κs. search needs) (λ c. search needs) (λ c. search needs) (λ c. search needs) returns (λ c κs. search needs) (λ c. search needs) apply-requires (λ c. search needs) (λ c. search needs) (λ c. search needs) returns-2)

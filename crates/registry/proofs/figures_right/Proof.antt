@@ -11,9 +11,9 @@ use Rattle.registry.proofs.figures_right.Tie as tie
 
 returns : tie.Need-returns
 returns c =
-    let args = c .before .before .before .before .before .before .before .before .before .before .args in
+    let args = c .before .before .before .before .before .before .before .before .before .args in
     let fresh = c .before .before .before .recount .ensures in (
-      λ e. subst (λ (l : List ℕ). Recounted (args .table .now) (args .bits .now) (args .slots .now) (args .pool .now) l) (c .same .ensures .0 e) fresh,
+      λ e. subst (λ (l : List ℕ). Recounted (args .table .now) (args .bits .now) (args .store .now) l) (c .same .ensures .0 e) fresh,
       λ e on figures. c .same .ensures .1 e (figures-unique (fresh .same on) figures),
     )
 

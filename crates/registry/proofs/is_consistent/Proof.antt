@@ -12,11 +12,11 @@ use Rattle.model.specs.Consistent.{tableConsistent}
 use Rattle.model.specs.Laws.Reached.{state-rules}
 use Rattle.model.specs.Laws.Uncrossed.{consistent-meets}
 use Rattle.queue_table.specs.View.{WellFormed, tableOf}
-use Rattle.flow_store.specs.View.{Store, slotsOf}
+use Rattle.flow_store.specs.View.{PackedStore, slotsOf}
 use Rattle.flow_check.specs.View.{flowAlone}
 use Rattle.figures.specs.View.{Figures}
 use Rattle.recount.specs.View.{OnQueues}
-use Rattle.admission.proofs.KeptLaws.{bounded}
+use Rattle.admission.proofs.ConsistentLaws.{limited}
 use Rattle.registry.proofs.ConsistentLaws.{formed-of, speeds-of, alone-named, kept}
 use Rattle.admission.proofs.HeldLaws.{on-queues, countable, kept-alone}
 use Rattle.registry.proofs.is_consistent.Statement.{statement}
@@ -25,20 +25,19 @@ use Rattle.registry.proofs.is_consistent.Tie as tie
 -- The paths are packed, and the table passes 2 to 4.
 module _ (c : tie.Else2) where
   abbrev start : tie.Start
-  start = c .before .before .before .before .before .before .before .before .before
+  start = c .before .before .before .before .before .before .before .before
 
   abbrev held : List Flow
-  held = heldFlows (slotsOf (start .args .bits .now) (start .args .slots .now) (start .args .pool .now))
+  held = heldFlows (slotsOf (start .args .bits .now) (start .args .store .now))
 
   right : tableConsistent (tableOf (start .args .table .now)) ≡ true
   right = sym (c .before .consistent .ensures) ∙ not-false _ (c .if2 .left)
 
-  store : Store (start .args .bits .now) (start .args .slots .now) (start .args .pool .now)
-  store =
+  stored : PackedStore (start .args .bits .now) (start .args .store .now)
+  stored =
       record {
         bits-long = start .pre .bits-long;
-        slots-long = start .pre .slots-long;
-        pool-long = start .pre .pool-long;
+        store-long = start .pre .store-long;
         packed = c .before .before .before .is-packed .ensures .0 (not-false _ (c .before .before .if1 .left));
       }
 
@@ -53,23 +52,23 @@ module _ (c : tie.Else3) where
   alone : every (flowAlone (tableOf (start at .args .table .now)) (held at)) (held at) ≡ true
   alone = sym (c .before .held-flows .ensures) ∙ not-false _ (c .if3 .left)
 
-  on : OnQueues (start at .args .table .now) (start at .args .bits .now) (start at .args .slots .now) (start at .args .pool .now)
-  on = on-queues _ _ _ _ (formed at) (store at) (right at) alone
+  on : OnQueues (start at .args .table .now) (start at .args .bits .now) (start at .args .store .now)
+  on = on-queues _ _ _ (formed at) (stored at) (right at) alone
 
 -- The figures are those of the flows.
 figures : (c : tie.Else4) → let at = at (c .before .before) in
-    Figures (tableOf (start at .args .table .now)) (held at) (start at .args .sums .now)
+    Figures (tableOf (start at .args .table .now)) (held at) (start at .args .figures .now)
 figures c = c .before .figures-right .ensures .0 (not-false _ (c .if4 .left)) .same (on (c .before .before))
 
 returns : tie.Need-returns
-returns c = (λ e. absurd (false≢true e), λ e k. c .before .is-packed .ensures .1 (not-true _ (c .if1 .taken)) (k .store .packed))
+returns c = (λ e. absurd (false≢true e), λ e k. c .before .is-packed .ensures .1 (not-true _ (c .if1 .taken)) (k .stored .packed))
 
 returns-2 : tie.Need-returns-2
 returns-2 c =
     (λ e. absurd (false≢true e), λ e k. true≢false (sym (state-rules _ (k .is-consistent) .table) ∙ sym (c .before .consistent .ensures) ∙ not-true _ (c .if2 .taken)))
 
 held-flows-requires : tie.Need-held-flows-requires
-held-flows-requires c κs = (formed c, store c)
+held-flows-requires c κs = (formed c, stored c)
 
 returns-3 : tie.Need-returns-3
 returns-3 c = (
@@ -79,33 +78,33 @@ returns-3 c = (
 
 figures-right-requires : tie.Need-figures-right-requires
 figures-right-requires c κs =
-    (countable _ _ _ _ (formed (at c)) (store (at c)) (right (at c)) (alone c), start (at c) .pre .sums-long)
+    (countable _ _ _ (formed (at c)) (stored (at c)) (right (at c)) (alone c), start (at c) .pre .figures-long)
 
 returns-4 : tie.Need-returns-4
 returns-4 c = (
   λ e. absurd (false≢true e),
-  λ e k. c .before .figures-right .ensures .1 (not-true _ (c .if4 .taken)) (on (c .before .before)) (k .figures),
+  λ e k. c .before .figures-right .ensures .1 (not-true _ (c .if4 .taken)) (on (c .before .before)) (k .exact),
 )
 
 returns-5 : tie.Need-returns-5
 returns-5 c = (
   λ e. absurd (false≢true e),
-  λ e k. true≢false (sym (c .before .bounded .ensures .1 (bounded _ _ _ _ _ k)) ∙ not-true _ (c .if5 .taken)),
+  λ e k. true≢false (sym (c .before .limited .ensures .1 (limited _ _ _ _ k)) ∙ not-true _ (c .if5 .taken)),
 )
 
 links-meet-requires : tie.Need-links-meet-requires
 links-meet-requires c κs =
     let j = at (c .before .before .before .before) in
-    ((formed j, c .before .bounded .ensures .0 (not-false _ (c .if5 .left))), speeds-of _ (right j))
+    ((formed j, c .before .limited .ensures .0 (not-false _ (c .if5 .left))), speeds-of _ (right j))
 
 returns-6 : tie.Need-returns-6
 returns-6 c =
     let f = c .before .before .before in
     let a = f .before .before in
     let j = at a in
-    let named = alone-named _ (start j .args .bits .now) (start j .args .slots .now) (start j .args .pool .now) (alone a) in (
+    let named = alone-named _ (start j .args .bits .now) (start j .args .store .now) (alone a) in (
       λ e.
-          kept _ (start j .args .bits .now) (start j .args .slots .now) (start j .args .pool .now) (formed j) (store j) (right j) (alone a) (figures f)
+          kept _ (start j .args .bits .now) (start j .args .store .now) (formed j) (stored j) (right j) (alone a) (figures f)
           (c .links-meet .ensures .sound e (held j) (figures f) named),
       λ e k. c .links-meet .ensures .complete e (held j) (figures f) named (consistent-meets _ (state-rules _ (k .is-consistent))),
     )

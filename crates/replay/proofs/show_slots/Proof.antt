@@ -9,5 +9,5 @@ use Rattle.replay.proofs.show_slots.Tie as tie
 pub show-slots-spec : {M : Type 1} → statement M
 show-slots-spec =
     tie.close
-    (tie.spec (λ bits slots pool slot₀ slot. Unit {0}) (λ bits slots pool slot₀ slot. slotCount - slot) (λ c. tt) (λ c κs. search needs) (λ c. search needs)
+    (tie.spec (λ bits store slot₀ slot. Unit {0}) (λ bits store slot₀ slot. slotCount - slot) (λ c. tt) (λ c κs. search needs) (λ c. search needs)
     (λ c. search needs) (λ c. tt) (λ c. tt))

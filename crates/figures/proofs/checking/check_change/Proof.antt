@@ -8,19 +8,19 @@ use native.Mathlib.Omega.{arith}
 use lib.ListN.{length}
 use Rattle.units.specs.View.{aggregateOf}
 use Rattle.causes.specs.View.{findingOf}
-use Rattle.figures.specs.View.{changedAt, LevelBounded}
-use Rattle.figures.proofs.EntryLaws.{HopAt, hop-at, speed-at, share-bounded}
+use Rattle.figures.specs.View.{changedAt, LimitedLevel}
+use Rattle.figures.proofs.EntryLaws.{HopAt, hop-at, speed-at, share-limited}
 use Rattle.figures.proofs.FigureLaws.{replaced-most}
-use Rattle.figures.proofs.BoundLaws.{level-bounded, bounded-below}
+use Rattle.figures.proofs.SizeLaws.{level-limited, limited-below}
 use Rattle.figures.proofs.CheckLaws.{Checking, checking-none, checking-all, checking-found, checking-next, counted-room, change-checked}
 use Rattle.figures.proofs.checking.check_change.Statement.{statement}
 use Rattle.figures.proofs.checking.check_change.Tie as tie
 
 abbrev Inv-loop : tie.InvT-loop
-Inv-loop was share table sums entries sum₀ i₀ sum i = Checking (changedAt (aggregateOf was) (aggregateOf share) sums) table sums entries (sum .0) i
+Inv-loop was share table figures entries sum₀ i₀ sum i = Checking (changedAt (aggregateOf was) (aggregateOf share) figures) table figures entries (sum .0) i
 
 abbrev μ-loop : tie.MeasureT-loop
-μ-loop was share table sums entries sum₀ i₀ sum i = length entries - i
+μ-loop was share table figures entries sum₀ i₀ sum i = length entries - i
 
 abbrev start : tie.In-loop Inv-loop μ-loop → tie.Start Inv-loop μ-loop
 start c = c .before .before .before .before .before
@@ -39,8 +39,8 @@ changed-at-requires c κs =
       (
         (hop at .0, pre .1 .0 .table-long),
         (
-          (rates .1 .long, λ j. omega (arith, bounded-below _ (rates .1) j)),
-          counted-room path (counted .is) (counted .fs) (counted .figures) (at .loop-test .taken) (hop at .0) (at .before .loop .inv .sum-is path),
+          (rates .1 .long, λ j. omega (arith, limited-below _ (rates .1) j)),
+          counted-room path (counted .is) (counted .fs) (counted .exact) (at .loop-test .taken) (hop at .0) (at .before .loop .inv .sum-is path),
         ),
       ),
     )
@@ -53,7 +53,7 @@ check-hop-requires c κs =
       (hop at .0, (pre .1 .0 .table-long, rates .1)),
       (
         speed-at (rates .0) (at .loop-test .taken),
-        subst LevelBounded (sym (c .changed-at .ensures .0)) (level-bounded _ (rates .1) _ (hop at .0) (share-bounded (pre .0 .1) (hop at .2)) (replaced-most _ _ _)),
+        subst LimitedLevel (sym (c .changed-at .ensures .0)) (level-limited _ (rates .1) _ (hop at .0) (share-limited (pre .0 .1) (hop at .2)) (replaced-most _ _ _)),
       ),
     )
 

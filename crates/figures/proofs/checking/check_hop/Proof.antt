@@ -13,7 +13,7 @@ use Rattle.model.specs.Reference.{linkCause}
 use Rattle.units.specs.View.{aggregateOf}
 use Rattle.link_check.specs.View.{aggregatesOf}
 use Rattle.figures.specs.View.{levelFigures, levelsWith, findingAt}
-use Rattle.figures.proofs.BoundLaws.{map-set, summable}
+use Rattle.figures.proofs.SizeLaws.{map-set, summable}
 use Rattle.figures.proofs.checking.check_hop.Statement.{statement}
 use Rattle.figures.proofs.checking.check_hop.Tie as tie
 
@@ -26,14 +26,14 @@ module _ (c : tie.After-link-of) where
   inside = let start = c .before .before .before in omega (arith, c .link-of .ensures, start .pre .0 .0, div-add-mod (start .args .e) levelsMost)
 
 put : (c : tie.After-level-of) → let args = c .before .before .before .before .before .args in
-    aggregatesOf (set (c .before .link-levels .result) (c .level-of .result) (args .own)) ≡ levelsWith (args .sums .now) (args .e) (aggregateOf (args .own))
+    aggregatesOf (set (c .before .link-levels .result) (c .level-of .result) (args .own)) ≡ levelsWith (args .figures .now) (args .e) (aggregateOf (args .own))
 unfolding levelsWith
 put c =
     let args = c .before .before .before .before .before .args in
-    let sums = args .sums .now in
+    let figures = args .figures .now in
     map-set aggregateOf (c .before .link-levels .result) (c .level-of .result) (args .own)
     ∙ ap₂ (λ (l : List model.Aggregate) (k : ℕ). set l k (aggregateOf (args .own)))
-    (c .before .link-levels .ensures ∙ ap (levelFigures sums) (c .before .before .link-of .ensures))
+    (c .before .link-levels .ensures ∙ ap (levelFigures figures) (c .before .before .link-of .ensures))
     (c .level-of .ensures .0)
 
 link-levels-requires : tie.Need-link-levels-requires
@@ -45,7 +45,7 @@ find-on-requires c κs =
       (inside (c .before .before), start .pre .0 .1 .0),
       (
         rw (c .before .before .link-of .ensures) (start .pre .1 .0),
-        rw (put c) (summable (start .args .sums .now) (start .pre .0 .1 .1) (start .args .e) (start .pre .0 .0) (aggregateOf (start .args .own)) (start .pre .1 .1)),
+        rw (put c) (summable (start .args .figures .now) (start .pre .0 .1 .1) (start .args .e) (start .pre .0 .0) (aggregateOf (start .args .own)) (start .pre .1 .1)),
       ),
     )
 
@@ -56,7 +56,7 @@ returns c =
     let at = c .before .before .before in
     c .find-on .ensures
     ∙ ap (λ (l : List model.Aggregate). linkCause (link at + 1) (findingAt table (link at) l)) (put (c .before))
-    ∙ ap (λ (k : ℕ). linkCause (k + 1) (findingAt table k (levelsWith (args .sums .now) (args .e) (aggregateOf (args .own)))))
+    ∙ ap (λ (k : ℕ). linkCause (k + 1) (findingAt table k (levelsWith (args .figures .now) (args .e) (aggregateOf (args .own)))))
     (at .link-of .ensures)
 
 pub check-hop-spec : {M : Type 1} → statement M

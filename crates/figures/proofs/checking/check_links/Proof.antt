@@ -8,19 +8,19 @@ use native.Mathlib.Omega.{arith}
 use lib.ListN.{length}
 use Rattle.units.specs.View.{aggregateOf}
 use Rattle.causes.specs.View.{findingOf}
-use Rattle.figures.specs.View.{countedAt, LevelBounded}
-use Rattle.figures.proofs.EntryLaws.{HopAt, hop-at, speed-at, share-bounded}
+use Rattle.figures.specs.View.{countedAt, LimitedLevel}
+use Rattle.figures.proofs.EntryLaws.{HopAt, hop-at, speed-at, share-limited}
 use Rattle.figures.proofs.FigureLaws.{at-most}
-use Rattle.figures.proofs.BoundLaws.{level-bounded}
+use Rattle.figures.proofs.SizeLaws.{level-limited}
 use Rattle.figures.proofs.CheckLaws.{Checking, checking-none, checking-all, checking-found, checking-next, path-checked}
 use Rattle.figures.proofs.checking.check_links.Statement.{statement}
 use Rattle.figures.proofs.checking.check_links.Tie as tie
 
 abbrev Inv-loop : tie.InvT-loop
-Inv-loop share table sums entries sum₀ i₀ sum i = Checking (countedAt (aggregateOf share) sums) table sums entries (sum .0) i
+Inv-loop share table figures entries sum₀ i₀ sum i = Checking (countedAt (aggregateOf share) figures) table figures entries (sum .0) i
 
 abbrev μ-loop : tie.MeasureT-loop
-μ-loop share table sums entries sum₀ i₀ sum i = length entries - i
+μ-loop share table figures entries sum₀ i₀ sum i = length entries - i
 
 abbrev start : tie.In-loop Inv-loop μ-loop → tie.Start Inv-loop μ-loop
 start c = c .before .before .before .before .before
@@ -38,7 +38,7 @@ check-hop-requires c κs =
       (hop at .0, (pre .1 .0 .table-long, pre .1 .1 .1)),
       (
         speed-at (pre .1 .1 .0) (at .loop-test .taken),
-        subst LevelBounded (sym (c .counted-at .ensures .0)) (level-bounded _ (pre .1 .1 .1) _ (hop at .0) (share-bounded (pre .0) (hop at .2)) (at-most _)),
+        subst LimitedLevel (sym (c .counted-at .ensures .0)) (level-limited _ (pre .1 .1 .1) _ (hop at .0) (share-limited (pre .0) (hop at .2)) (at-most _)),
       ),
     )
 

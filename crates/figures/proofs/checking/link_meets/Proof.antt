@@ -14,7 +14,7 @@ use Rattle.model.specs.Reference.{Cause, linkCause}
 use Rattle.causes.specs.declared.Finding.{Finding}
 use Rattle.causes.specs.View.{findingOf}
 use Rattle.figures.specs.View.{findingAt, codeAt}
-use Rattle.figures.proofs.BoundLaws.{summable-alone}
+use Rattle.figures.proofs.SizeLaws.{summable-alone}
 use Rattle.figures.proofs.checking.link_meets.Statement.{statement}
 use Rattle.figures.proofs.checking.link_meets.Tie as tie
 
@@ -30,7 +30,7 @@ coded link w = unless (eqb (w .code) 0) _
 
 -- What the check tells.
 found : (c : tie.After-find-on) → let args = c .before .before .before .before .args in
-    isNone (findingOf (c .find-on .result)) ≡ eqb (codeAt (args .table .now) (args .sums .now) (args .link)) 0
+    isNone (findingOf (c .find-on .result)) ≡ eqb (codeAt (args .table .now) (args .figures .now) (args .link)) 0
 found c =
     let args = c .before .before .before .before .args in
     let table = args .table .now in
@@ -44,7 +44,7 @@ find-on-requires c κs =
     let start = c .before .before .before in
     let pre = start .pre .0 in (
       (pre .0, pre .1 .0),
-      (start .pre .1, rw (c .link-levels .ensures) (summable-alone (start .args .sums .now) (pre .1 .1) (start .args .link) (pre .0))),
+      (start .pre .1, rw (c .link-levels .ensures) (summable-alone (start .args .figures .now) (pre .1 .1) (start .args .link) (pre .0))),
     )
 
 returns : tie.Need-returns

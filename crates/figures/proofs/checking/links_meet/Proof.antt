@@ -14,10 +14,10 @@ use Rattle.figures.proofs.checking.links_meet.Statement.{statement}
 use Rattle.figures.proofs.checking.links_meet.Tie as tie
 
 abbrev Inv-loop : tie.InvT-loop
-Inv-loop table sums n i₀ i = (i ≤ n) × ((j : ℕ) → j < i → codeAt table sums j ≡ 0)
+Inv-loop table figures n i₀ i = (i ≤ n) × ((j : ℕ) → j < i → codeAt table figures j ≡ 0)
 
 abbrev μ-loop : tie.MeasureT-loop
-μ-loop table sums n i₀ i = n - i
+μ-loop table figures n i₀ i = n - i
 
 loop-holds : tie.Need-loop-holds Inv-loop μ-loop
 loop-holds c = (omega arith, λ j lt. absurd (omega arith))
@@ -43,7 +43,7 @@ returns c =
     let fault = eqb-false _ 0 (sym (c .before .link-meets .ensures) ∙ not-true _ (c .if1 .taken)) in
     record {
       sound = λ t. absurd (false≢true t);
-      complete = λ t fs figures on all. fault (meets-code _ (start at .pre .0 .0) fs _ figures on (i at) (inside at) (all (i at + 1)));
+      complete = λ t fs exact on all. fault (meets-code _ (start at .pre .0 .0) fs _ exact on (i at) (inside at) (all (i at + 1)));
     }
 
 loop-again : tie.Need-loop-again Inv-loop μ-loop
@@ -51,16 +51,16 @@ loop-again c =
     let at = c .before .before in
     let args = start at .args in (
       omega (arith, at .loop-test .taken),
-      before-next (λ j. codeAt (args .table .now) (args .sums .now) j ≡ 0) (i at) (at .before .loop .inv .1)
+      before-next (λ j. codeAt (args .table .now) (args .figures .now) j ≡ 0) (i at) (at .before .loop .inv .1)
           (eqb-true _ 0 (sym (c .before .link-meets .ensures) ∙ not-false _ (c .if1 .left))),
     )
 
 returns-2 : tie.Need-returns-2 Inv-loop μ-loop
 returns-2 c =
     record {
-      sound = λ t fs figures on.
-          codes-meet _ (c .before .before .before .before .before .pre .0 .0) fs _ figures on (λ j lt. c .before .loop .inv .1 j (omega (arith, c .before .before .link-count .ensures .0, c .loop-test .left)));
-      complete = λ t fs figures on all. true≢false t;
+      sound = λ t fs exact on.
+          codes-meet _ (c .before .before .before .before .before .pre .0 .0) fs _ exact on (λ j lt. c .before .loop .inv .1 j (omega (arith, c .before .before .link-count .ensures .0, c .loop-test .left)));
+      complete = λ t fs exact on all. true≢false t;
     }
 
 pub links-meet-spec : {M : Type 1} → statement M

@@ -6,17 +6,17 @@ use mathlib.Core.Path.{sym, subst, _∙_}
 use native.Mathlib.Omega.{arith}
 use lib.ListN.{length}
 use Rattle.units.specs.View.{aggregateOf}
-use Rattle.figures.specs.View.{ShareBounded}
-use Rattle.figures.proofs.EntryLaws.{HopAt, hop-at, share-bounded}
+use Rattle.figures.specs.View.{LimitedShare}
+use Rattle.figures.proofs.EntryLaws.{HopAt, hop-at, share-limited}
 use Rattle.figures.proofs.AddLaws.{Adding, adding-none, adding-next, adding-all}
 use Rattle.figures.proofs.counting.add_path.Statement.{statement}
 use Rattle.figures.proofs.counting.add_path.Tie as tie
 
 abbrev Inv-loop : tie.InvT-loop
-Inv-loop share table entries sums₀ sum₀ i₀ sums sum i = Adding (aggregateOf share) table entries sums₀ sums (sum .0) i
+Inv-loop share table entries sums₀ sum₀ i₀ figures sum i = Adding (aggregateOf share) table entries sums₀ figures (sum .0) i
 
 abbrev μ-loop : tie.MeasureT-loop
-μ-loop share table entries sums₀ sum₀ i₀ sums sum i = length entries - i
+μ-loop share table entries sums₀ sum₀ i₀ figures sum i = length entries - i
 
 abbrev start : tie.In-loop Inv-loop μ-loop → tie.Start Inv-loop μ-loop
 start c = c .before .before .before .before .before
@@ -39,14 +39,14 @@ add-hop-requires c κs =
     let at = c .before .before .before in
     let now = at .before .loop .inv in (
       (hop at .0, (now .long, λ j. omega (arith, now .below (2 ^ 62) (start at .pre .1 .1 .1) j, at .loop-test .taken, start at .pre .1 .0 .few))),
-      subst ShareBounded (sym (c .before .share-at .ensures .0)) (share-bounded (start at .pre .0) (hop at .2)),
+      subst LimitedShare (sym (c .before .share-at .ensures .0)) (share-limited (start at .pre .0) (hop at .2)),
     )
 
 loop-again : tie.Need-loop-again Inv-loop μ-loop
 loop-again c =
     let at = c .before .before .before .before .before .before .before in
     let worked = c .before .before .before .before .before .share-at .ensures in
-    adding-next _ _ _ _ (at .before .loop .inv) (at .loop-test .taken) (hop at .1) (hop at .0) (share-bounded (start at .pre .0) (hop at .2)) (worked .0) (worked .1)
+    adding-next _ _ _ _ (at .before .loop .inv) (at .loop-test .taken) (hop at .1) (hop at .0) (share-limited (start at .pre .0) (hop at .2)) (worked .0) (worked .1)
     (c .before .before .before .add-hop .ensures)
 
 same-length : tie.Need-same-length Inv-loop μ-loop

@@ -10,10 +10,10 @@ use Rattle.figures.proofs.counting.any_lower.Statement.{statement}
 use Rattle.figures.proofs.counting.any_lower.Tie as tie
 
 abbrev Inv-loop : tie.InvT-loop
-Inv-loop frame entries sums i₀ i = Raising (frame .0) entries sums sums i
+Inv-loop frame entries figures i₀ i = Raising (frame .0) entries figures figures i
 
 abbrev μ-loop : tie.MeasureT-loop
-μ-loop frame entries sums i₀ i = length entries - i
+μ-loop frame entries figures i₀ i = length entries - i
 
 loop-holds : tie.Need-loop-holds Inv-loop μ-loop
 loop-holds c = raising-none _ _ _ (c .before .before .pre .1)
@@ -25,7 +25,7 @@ loop-again : tie.Need-loop-again Inv-loop μ-loop
 loop-again c =
     let at = c .before .before .before .before in
     let args = at .before .before .before .before .args in
-    raising-stays (args .frame .0) (args .entries .now) (args .sums .now) (at .before .loop .inv) (at .loop-test .taken)
+    raising-stays (args .frame .0) (args .entries .now) (args .figures .now) (at .before .loop .inv) (at .loop-test .taken)
     (c .before .before .before .frame-index .ensures) (omega (arith, c .if1 .left))
 
 returns-2 : tie.Need-returns-2 Inv-loop μ-loop

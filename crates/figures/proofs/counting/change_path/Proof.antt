@@ -6,16 +6,16 @@ use mathlib.Core.Path.{sym, _∙_}
 use native.Mathlib.Omega.{arith}
 use lib.ListN.{length}
 use Rattle.units.specs.View.{aggregateOf}
-use Rattle.figures.proofs.EntryLaws.{HopAt, hop-at, share-bounded}
+use Rattle.figures.proofs.EntryLaws.{HopAt, hop-at, share-limited}
 use Rattle.figures.proofs.ChangeLaws.{Changing, changing-none, changing-room, changing-next, changing-all}
 use Rattle.figures.proofs.counting.change_path.Statement.{statement}
 use Rattle.figures.proofs.counting.change_path.Tie as tie
 
 abbrev Inv-loop : tie.InvT-loop
-Inv-loop was share table entries sums₀ sum₀ i₀ sums sum i = Changing (aggregateOf was) (aggregateOf share) table entries sums₀ sums (sum .0) i
+Inv-loop was share table entries sums₀ sum₀ i₀ figures sum i = Changing (aggregateOf was) (aggregateOf share) table entries sums₀ figures (sum .0) i
 
 abbrev μ-loop : tie.MeasureT-loop
-μ-loop was share table entries sums₀ sum₀ i₀ sums sum i = length entries - i
+μ-loop was share table entries sums₀ sum₀ i₀ figures sum i = length entries - i
 
 abbrev start : tie.In-loop Inv-loop μ-loop → tie.Start Inv-loop μ-loop
 start c = c .before .before .before .before .before
@@ -25,7 +25,7 @@ hop : (c : tie.In-loop Inv-loop μ-loop) → let args = start c .args in
 hop c = hop-at (start c .pre .1 .0) (c .before .loop .inv .sum-below) (c .loop-test .taken)
 
 loop-holds : tie.Need-loop-holds Inv-loop μ-loop
-loop-holds c = changing-none _ _ _ _ _ (c .before .before .before .pre .1 .1 .1 .figures .long)
+loop-holds c = changing-none _ _ _ _ _ (c .before .before .before .pre .1 .1 .1 .exact .long)
 
 cast-e : tie.Need-cast-e Inv-loop μ-loop
 cast-e c = omega (arith, hop (c .before))
@@ -50,11 +50,11 @@ loop-again : tie.Need-loop-again Inv-loop μ-loop
 loop-again c =
     let at = c .before .before .before .before .before .before .before .before in
     let worked = c .before .before .before .before .before .changed-at .ensures in
-    changing-next _ _ _ _ _ (at .before .loop .inv) (at .loop-test .taken) (hop at .0) (hop at .1) (share-bounded (start at .pre .0 .1) (hop at .2)) (worked .0) (worked .1)
+    changing-next _ _ _ _ _ (at .before .loop .inv) (at .loop-test .taken) (hop at .0) (hop at .1) (share-limited (start at .pre .0 .1) (hop at .2)) (worked .0) (worked .1)
     (c .before .before .before .store-hop .ensures)
 
 same-length : tie.Need-same-length Inv-loop μ-loop
-same-length c = c .before .loop .inv .long ∙ sym (c .before .before .before .before .before .pre .1 .1 .1 .figures .long)
+same-length c = c .before .loop .inv .long ∙ sym (c .before .before .before .before .before .pre .1 .1 .1 .exact .long)
 
 returns : tie.Need-returns Inv-loop μ-loop
 returns c = changing-all _ _ _ _ _ (c .before .loop .inv) (c .loop-test .left)

@@ -11,10 +11,10 @@ use Rattle.figures.proofs.counting.raise_each.Statement.{statement}
 use Rattle.figures.proofs.counting.raise_each.Tie as tie
 
 abbrev Inv-loop : tie.InvT-loop
-Inv-loop frame entries sums₀ i₀ sums i = Raising (frame .0) entries sums₀ sums i
+Inv-loop frame entries sums₀ i₀ figures i = Raising (frame .0) entries sums₀ figures i
 
 abbrev μ-loop : tie.MeasureT-loop
-μ-loop frame entries sums₀ i₀ sums i = length entries - i
+μ-loop frame entries sums₀ i₀ figures i = length entries - i
 
 loop-holds : tie.Need-loop-holds Inv-loop μ-loop
 loop-holds c = raising-none _ _ _ (c .before .before .pre .1)
@@ -24,8 +24,8 @@ loop-again c =
     let at = c .before .before .before .before in
     let args = at .before .before .before .before .args in
     ⊎-elim
-    (λ w. rw (w .1) (raising-grows (args .frame .0) (args .entries .now) (args .sums .now) (at .before .loop .inv) (at .loop-test .taken) (c .before .before .before .frame-index .ensures) (omega (arith, w .0 .taken))))
-    (λ w. rw (w .1) (raising-stays (args .frame .0) (args .entries .now) (args .sums .now) (at .before .loop .inv) (at .loop-test .taken) (c .before .before .before .frame-index .ensures) (omega (arith, w .0 .left))))
+    (λ w. rw (w .1) (raising-grows (args .frame .0) (args .entries .now) (args .figures .now) (at .before .loop .inv) (at .loop-test .taken) (c .before .before .before .frame-index .ensures) (omega (arith, w .0 .taken))))
+    (λ w. rw (w .1) (raising-stays (args .frame .0) (args .entries .now) (args .figures .now) (at .before .loop .inv) (at .loop-test .taken) (c .before .before .before .frame-index .ensures) (omega (arith, w .0 .left))))
     (c .if1 .came)
 
 same-length : tie.Need-same-length Inv-loop μ-loop

@@ -17,31 +17,31 @@ sub-bursts : tie.Need-sub-bursts
 unfolding figureAt
 sub-bursts c = c .before .before .before .before .before .pre .1 .1
 
-slice-write-sums-2 : tie.Need-slice-write-sums-2
-slice-write-sums-2 c = simp length-set (omega arith)
+slice-write-figures-2 : tie.Need-slice-write-figures-2
+slice-write-figures-2 c = simp length-set (omega arith)
 
-slice-write-sums-3 : tie.Need-slice-write-sums-3
-slice-write-sums-3 c = simp length-set (omega arith)
+slice-write-figures-3 : tie.Need-slice-write-figures-3
+slice-write-figures-3 c = simp length-set (omega arith)
 
 returns : tie.Need-returns
 returns c =
     let start = c .before .before .before .before .before .before .before in
-    less-none (start .args .sums .now) (start .args .e) (aggregateOf (start .args .share)) (start .pre .1) (c .if1 .taken)
+    less-none (start .args .figures .now) (start .args .e) (aggregateOf (start .args .share)) (start .pre .1) (c .if1 .taken)
 
 returns-2 : tie.Need-returns-2
 returns-2 c =
     let start = c .before .before .before .before .before .before .before .before .before in
-    less-kept (start .args .sums .now) (start .args .e) (aggregateOf (start .args .share)) (start .pre .1) (c .before .before .if1 .left) (c .if2 .taken)
+    less-kept (start .args .figures .now) (start .args .e) (aggregateOf (start .args .share)) (start .pre .1) (c .before .before .if1 .left) (c .if2 .taken)
 
-slice-write-sums-4 : tie.Need-slice-write-sums-4
-slice-write-sums-4 c = simp length-set (omega arith)
+slice-write-figures-4 : tie.Need-slice-write-figures-4
+slice-write-figures-4 c = simp length-set (omega arith)
 
 returns-3 : tie.Need-returns-3
 returns-3 c =
     let start = c .before .before .before .before .before .before .before .before .before in
-    less-own (start .args .sums .now) (start .args .e) (aggregateOf (start .args .share)) (start .pre .1) (c .before .before .if1 .left) (c .if2 .left)
+    less-own (start .args .figures .now) (start .args .e) (aggregateOf (start .args .share)) (start .pre .1) (c .before .before .if1 .left) (c .if2 .left)
 
 pub remove-hop-spec : {M : Type 1} → statement M
 remove-hop-spec =
     tie.close
-    (tie.spec (λ c. search needs) (λ c. search needs) (λ c. search needs) sub-rates (λ c. search needs) (λ c. search needs) (λ c. search needs) sub-bursts (λ c. search needs) (λ c. search needs) (λ c. search needs) (λ c. search needs) (λ c. search needs) (λ c. search needs) (λ c. search needs) slice-write-sums-2 (λ c. search needs) (λ c. search needs) slice-write-sums-3 (λ c. search needs) returns (λ c. search needs) returns-2 (λ c. search needs) (λ c. search needs) slice-write-sums-4 (λ c. search needs) returns-3)
+    (tie.spec (λ c. search needs) (λ c. search needs) (λ c. search needs) sub-rates (λ c. search needs) (λ c. search needs) (λ c. search needs) sub-bursts (λ c. search needs) (λ c. search needs) (λ c. search needs) (λ c. search needs) (λ c. search needs) (λ c. search needs) (λ c. search needs) slice-write-figures-2 (λ c. search needs) (λ c. search needs) slice-write-figures-3 (λ c. search needs) returns (λ c. search needs) returns-2 (λ c. search needs) (λ c. search needs) slice-write-figures-4 (λ c. search needs) returns-3)

@@ -14,10 +14,10 @@ use Rattle.figures.proofs.counting.remove_path.Statement.{statement}
 use Rattle.figures.proofs.counting.remove_path.Tie as tie
 
 abbrev Inv-loop : tie.InvT-loop
-Inv-loop share table entries sums₀ sum₀ again₀ i₀ sums sum again i = Removing (aggregateOf share) table entries sums₀ sums (sum .0) i again
+Inv-loop share table entries sums₀ sum₀ again₀ i₀ figures sum again i = Removing (aggregateOf share) table entries sums₀ figures (sum .0) i again
 
 abbrev μ-loop : tie.MeasureT-loop
-μ-loop share table entries sums₀ sum₀ again₀ i₀ sums sum again i = length entries - i
+μ-loop share table entries sums₀ sum₀ again₀ i₀ figures sum again i = length entries - i
 
 abbrev start : tie.In-loop Inv-loop μ-loop → tie.Start Inv-loop μ-loop
 start c = c .before .before .before .before .before
@@ -27,7 +27,7 @@ hop : (c : tie.In-loop Inv-loop μ-loop) → let args = start c .args in
 hop c = hop-at (start c .pre .1 .0) (c .before .loop .inv .sum-below) (c .loop-test .taken)
 
 loop-holds : tie.Need-loop-holds Inv-loop μ-loop
-loop-holds c = removing-none _ _ _ _ (c .before .before .before .pre .1 .1 .figures .long)
+loop-holds c = removing-none _ _ _ _ (c .before .before .before .pre .1 .1 .exact .long)
 
 cast-e : tie.Need-cast-e Inv-loop μ-loop
 cast-e c = omega (arith, hop (c .before))
@@ -56,7 +56,7 @@ loop-again-2 c =
     (λ no. (no, c .if1 .left)) inl
 
 same-length : tie.Need-same-length Inv-loop μ-loop
-same-length c = c .before .loop .inv .long ∙ sym (c .before .before .before .before .before .pre .1 .1 .figures .long)
+same-length c = c .before .loop .inv .long ∙ sym (c .before .before .before .before .before .pre .1 .1 .exact .long)
 
 returns : tie.Need-returns Inv-loop μ-loop
 returns c = removing-all _ _ _ _ (c .before .loop .inv) (c .loop-test .left)

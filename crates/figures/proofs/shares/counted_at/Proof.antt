@@ -5,14 +5,14 @@ use mathlib.Core.Path.{ap, ap₂, _∙_}
 use native.Mathlib.Omega.{arith}
 use Rattle.model.specs.Formula as model
 use Rattle.model.specs.WithFlow.{together}
-use Rattle.figures.proofs.EntryLaws.{share-bounded}
+use Rattle.figures.proofs.EntryLaws.{share-limited}
 use Rattle.figures.proofs.shares.counted_at.Statement.{statement}
 use Rattle.figures.proofs.shares.counted_at.Tie as tie
 
 with-flow-requires : tie.Need-with-flow-requires
 with-flow-requires c κs =
     let start = c .before .before .before .before .before in
-    let bounded = start .pre .1 .1 .1 in
+    let limited = start .pre .1 .1 .1 in
     let low = start .pre .1 .0 in
     let worked = c .before .before .share-at .ensures .0 in
     omega (
@@ -21,9 +21,9 @@ with-flow-requires c κs =
       ap (λ (a : model.Aggregate). a .burst) (c .figure .ensures),
       ap (λ (a : model.Aggregate). a .rate) worked,
       ap (λ (a : model.Aggregate). a .burst) worked,
-      bounded .rates (start .args .e) low,
-      bounded .bursts (start .args .e) low,
-      share-bounded (start .pre .0 .0) (start .pre .0 .1),
+      limited .rates (start .args .e) low,
+      limited .bursts (start .args .e) low,
+      share-limited (start .pre .0 .0) (start .pre .0 .1),
     )
 
 returns : tie.Need-returns

@@ -1,4 +1,4 @@
--- `registry_in_place::apply` meets its contract: its local is lent to the call of its kind (`LendLaws`) and given back with the answer.
+-- `registry_in_place::step` meets its contract: its local is lent to the call of its kind (`LendLaws`) and given back with the answer.
 -- A walk of its MIR, by hand: for any kind up to the switch, then by cases, the arm that runs. Assumes nothing.
 use mathlib.Core.Path.{_≡_, refl, ap, subst}
 use Prim.Native.Nat.{ℕ}
@@ -64,12 +64,12 @@ use Rattle.registry_in_place.proofs.release.Met as release-met
 use Rattle.registry_in_place.proofs.change.Symbol as change-def
 use Rattle.registry_in_place.proofs.change.Symbol.{name as #change}
 use Rattle.registry_in_place.proofs.change.Met as change-met
-use Rattle.registry_in_place.proofs.apply.Key.{name as #apply}
-use Rattle.registry_in_place.proofs.apply as apply
-use Rattle.registry_in_place.proofs.apply.Statement as stated
-use Rattle.registry_in_place.proofs.apply.Code as code
+use Rattle.registry_in_place.proofs.step.Key.{name as #step}
+use Rattle.registry_in_place.proofs.step as step
+use Rattle.registry_in_place.proofs.step.Statement as stated
+use Rattle.registry_in_place.proofs.step.Code as code
 
-abbrev stayed : Stays (apply.ended .signature .params) (apply.ended .kept)
+abbrev stayed : Stays (step.ended .signature .params) (step.ended .kept)
 stayed = (stay-none (λ _. Re.the-row) yes, (stay-none (λ _. Ki.the-row) yes, (stay-none-slice (0 ∷ []) tt (plain (λ _. u8)) yes, tt)))
 
 -- the machine values of a kind and of a call's result
@@ -127,16 +127,16 @@ module _ {M : Type 1} (𝓤 : URA M) (H : Heap 𝓤) (A : Atoms 𝓤) (W : Given
   abbrev Token : Item 𝓤
   Token = ‵ (flft κ q) ⊛ ‵ ftrue
 
-  abbrev at : Kind → Vals apply.signature (κ, tt)
+  abbrev at : Kind → Vals step.signature (κ, tt)
   at k = (rv h ∷ [], (kv k ∷ [], (sv ∷ [], tt)))
 
   abbrev Post : Kind → Val → SProp 𝓤
-  Post k = walkOf 𝓤 H A apply.ended stayed (apply.clauses 𝓤 H A at-mem run) .post (((κ, tt), (q, tt), tt, (h, (k, (s, tt))), at k), tt)
+  Post k = walkOf 𝓤 H A step.ended stayed (step.clauses 𝓤 H A at-mem run) .post (((κ, tt), (q, tt), tt, (h, (k, (s, tt))), at k), tt)
 
   exits : (k : Kind) → Is Ki.the-row k (kv k ∷ []) → (r : Called) → Performs h (callOf (kindOf k) (now s)) r → Is Ca.the-row r (cv r ∷ []) → ent 𝓤 (⋆ 𝓤 H A (Token ∷ Own ∷ [])) (Post k (cv r))
   exits k chosen r e is =
       qed W (Token ∷ Own ∷ []) ∵
-      suffices ! _ (ends-at 𝓤 H A apply.ended stayed (apply.clauses 𝓤 H A at-mem run) W (((κ, tt), (q, tt), tt, (h, (k, (s, tt))), at k), tt) (cv r) r (tt, (tt, (tt, tt))) (tt, (tt, (tt, tt)))) $ says ! e $
+      suffices ! _ (ends-at 𝓤 H A step.ended stayed (step.clauses 𝓤 H A at-mem run) W (((κ, tt), (q, tt), tt, (h, (k, (s, tt))), at k), tt) (cv r) r (tt, (tt, (tt, tt))) (tt, (tt, (tt, tt)))) $ says ! e $
       frame ! $ nothing ! $ move ! (1 ∷ 0 ∷ []) $ fjoin ! $ owned ! Ki.the-row (Is Ki.the-row) (EL.makes Ki.the-type Ki′.the-plain 𝓤 H A) k _ chosen $ fjoin ! $
       owned ! Re.the-row (Is Re.the-row) (LL.makes Re.the-type Re′.the-plain 𝓤 H A) h _ was $ fjoin ! $ frame ! $
       owned ! Ca.the-row (Is Ca.the-row) (LL.makes Ca.the-type Ca′.the-plain 𝓤 H A) r _ is $ done !
@@ -203,7 +203,7 @@ module _ {M : Type 1} (𝓤 : URA M) (H : Heap 𝓤) (A : Atoms 𝓤) (W : Given
           (λ r v e answered left. forget ! 5 refl $ answers Change chosen r v e answered left)
 
   module _ (C : Calls 𝓤 H) (Λ : Loops 𝓤 H) (fm : FmC 𝓤 H (W .laws) C) (known-register : Triple 𝓤 (C #register) (Stores registering 𝓤 H A)) (known-release : Triple 𝓤 (C #release) (Stores releasing 𝓤 H A)) (known-change : Triple 𝓤 (C #change) (Stores changing 𝓤 H A)) where
-    walk : (k : Kind) → Is Ki.the-row k (kv k ∷ []) → Is (ShrSlice (named 0) κ u8) s (sv ∷ []) → ent 𝓤 (onEntry 𝓤 H A apply.signature (κ, tt) (q, tt) (h, (k, (s, tt))) (at k)) (WpFn 𝓤 H C Λ function (rv h ∷ kv k ∷ sv ∷ []) (Post k))
+    walk : (k : Kind) → Is Ki.the-row k (kv k ∷ []) → Is (ShrSlice (named 0) κ u8) s (sv ∷ []) → ent 𝓤 (onEntry 𝓤 H A step.signature (κ, tt) (q, tt) (h, (k, (s, tt))) (at k)) (WpFn 𝓤 H C Λ function (rv h ∷ kv k ∷ sv ∷ []) (Post k))
     walk k chosen p =
         qed W (Token ∷ ‵ (owns (Re.the-row ∷ Ki.the-row ∷ ShrSlice (named 0) κ u8 ∷ []) (h, (k, (s, tt))) (at k)) ∷ []) ∵ enter ! C Λ function (rv h ∷ kv k ∷ sv ∷ []) _ $
         alloc1 ! (λ l₀. alloc1 ! (λ l₁. alloc1 ! (λ l₂. alloc1 ! (λ l₃. alloc1 ! (λ l₄. alloc1 ! (λ l₅. alloc1 ! (λ l₆. alloc1 ! (λ l₇. alloc1 ! (λ l₈. alloc1 ! (λ l₉. alloc1 ! (λ l₁₀. alloc0 ! $ params1 ! $
@@ -216,25 +216,25 @@ module _ {M : Type 1} (𝓤 : URA M) (H : Heap 𝓤) (A : Atoms 𝓤) (W : Given
         move ! (13 ∷ 23 ∷ 0 ∷ []) $ first ! $ matched C Λ l₀ l₁ l₂ l₃ l₄ l₅ l₆ l₇ l₈ l₉ l₁₀ fm known-register known-release known-change k chosen)))))))))))
 
 module _ {M : Type 1} (𝓤 : URA M) (H : Heap 𝓤) (A : Atoms 𝓤) (W : Given 𝓤 H A) (at-mem : Memory → SProp 𝓤) (run : Routine → Fun 𝓤) where
-  apply-walks : (C : Calls 𝓤 H) (Λ : Loops 𝓤 H) → FmC 𝓤 H (W .laws) C → Triple 𝓤 (C #register) (Stores registering 𝓤 H A) → Triple 𝓤 (C #release) (Stores releasing 𝓤 H A) → Triple 𝓤 (C #change) (Stores changing 𝓤 H A)
-      → Walks 𝓤 H A apply.ended stayed (WpFn 𝓤 H C Λ function) (apply.clauses 𝓤 H A at-mem run)
-  apply-walks C Λ fm known-register known-release known-change = walked 𝓤 H A apply.ended stayed (apply.clauses 𝓤 H A at-mem run) (WpFn 𝓤 H C Λ function)
+  step-walks : (C : Calls 𝓤 H) (Λ : Loops 𝓤 H) → FmC 𝓤 H (W .laws) C → Triple 𝓤 (C #register) (Stores registering 𝓤 H A) → Triple 𝓤 (C #release) (Stores releasing 𝓤 H A) → Triple 𝓤 (C #change) (Stores changing 𝓤 H A)
+      → Walks 𝓤 H A step.ended stayed (WpFn 𝓤 H C Λ function) (step.clauses 𝓤 H A at-mem run)
+  step-walks C Λ fm known-register known-release known-change = walked 𝓤 H A step.ended stayed (step.clauses 𝓤 H A at-mem run) (WpFn 𝓤 H C Λ function)
       (λ κs. (LL.vals Re.the-type Re′.the-laws, (EL.vals Ki.the-type Ki′.the-laws, (slice-vals, tt)))) (λ κs. (LL.tells Re.the-type Re′.the-laws, (EL.tells Ki.the-type Ki′.the-laws, (shr-slice-tells (named 0) (κs .0) u8, tt))))
       (λ κs qs bounds a _ are. via 𝓤 _ (fst∗ 𝓤 _ (emp 𝓤)) (walk 𝓤 H A W at-mem run (κs .0) (qs .0) (a .0) (a .1 .1 .0) (are .0) C Λ fm known-register known-release known-change (a .1 .0) (are .1 .0) (are .1 .1 .0)))
 
-apply-meets : {M : Type 1} (𝓤 : URA M) (H : Heap 𝓤) (A : Atoms 𝓤) → Given 𝓤 H A → (at-mem : Memory → SProp 𝓤) (run : Routine → Fun 𝓤) (𝓣 : Tables 𝓤 H)
+step-meets : {M : Type 1} (𝓤 : URA M) (H : Heap 𝓤) (A : Atoms 𝓤) → Given 𝓤 H A → (at-mem : Memory → SProp 𝓤) (run : Routine → Fun 𝓤) (𝓣 : Tables 𝓤 H)
     → Triple 𝓤 (𝓣 .C #register) (Stores registering 𝓤 H A) → Triple 𝓤 (𝓣 .C #release) (Stores releasing 𝓤 H A) → Triple 𝓤 (𝓣 .C #change) (Stores changing 𝓤 H A)
-    → Meets 𝓤 H A apply.signature (WpFn 𝓤 H (𝓣 .C) (𝓣 .Λ) function) (apply.spec 𝓤 H A at-mem run)
-apply-meets 𝓤 H A W at-mem run 𝓣 known-register known-release known-change =
-    walk-meets 𝓤 H A apply.ended stayed W (goes-none 𝓤 H A W 1 (λ _. Re.the-row) yes (λ κs x f. refl), (goes-none 𝓤 H A W 1 (λ _. Ki.the-row) yes (λ κs x f. refl), (goes-none-slice 𝓤 H A W 1 (0 ∷ []) tt (plain (λ _. u8)) yes, tt))) (apply.clauses 𝓤 H A at-mem run)
-    (WpFn 𝓤 H (𝓣 .C) (𝓣 .Λ) function) (WpFn-mono 𝓤 H (W .laws) 𝓣 function) (apply-walks 𝓤 H A W at-mem run (𝓣 .C) (𝓣 .Λ) (fmOf 𝓤 H (W .laws) 𝓣) known-register known-release known-change)
+    → Meets 𝓤 H A step.signature (WpFn 𝓤 H (𝓣 .C) (𝓣 .Λ) function) (step.spec 𝓤 H A at-mem run)
+step-meets 𝓤 H A W at-mem run 𝓣 known-register known-release known-change =
+    walk-meets 𝓤 H A step.ended stayed W (goes-none 𝓤 H A W 1 (λ _. Re.the-row) yes (λ κs x f. refl), (goes-none 𝓤 H A W 1 (λ _. Ki.the-row) yes (λ κs x f. refl), (goes-none-slice 𝓤 H A W 1 (0 ∷ []) tt (plain (λ _. u8)) yes, tt))) (step.clauses 𝓤 H A at-mem run)
+    (WpFn 𝓤 H (𝓣 .C) (𝓣 .Λ) function) (WpFn-mono 𝓤 H (W .laws) 𝓣 function) (step-walks 𝓤 H A W at-mem run (𝓣 .C) (𝓣 .Λ) (fmOf 𝓤 H (W .laws) 𝓣) known-register known-release known-change)
 
-pub apply-spec : {M : Type 1} → stated.statement M
+pub step-spec : {M : Type 1} → stated.statement M
 unfolding code.routine tablesOf
-apply-spec 𝓤 H 𝓜 𝓖 𝓡 =
-    entered 𝓤 H (tripleOf 𝓤 H (𝓖 .A) apply.signature (apply.spec 𝓤 H (𝓖 .A) (𝓜 .mem) (𝓡 .run)))
-    (tables 𝓤 H 𝓜 𝓡 code.env .C) (tables 𝓤 H 𝓜 𝓡 code.env .Λ) #apply code.function (code.unfolded 𝓤 H 𝓜 𝓡)
-    (apply-meets 𝓤 H (𝓖 .A) (givenOf 𝓤 H 𝓜 𝓖) (𝓜 .mem) (𝓡 .run) (tablesOf 𝓤 H 𝓜 (tables 𝓤 H 𝓜 𝓡 code.env))
+step-spec 𝓤 H 𝓜 𝓖 𝓡 =
+    entered 𝓤 H (tripleOf 𝓤 H (𝓖 .A) step.signature (step.spec 𝓤 H (𝓖 .A) (𝓜 .mem) (𝓡 .run)))
+    (tables 𝓤 H 𝓜 𝓡 code.env .C) (tables 𝓤 H 𝓜 𝓡 code.env .Λ) #step code.function (code.unfolded 𝓤 H 𝓜 𝓡)
+    (step-meets 𝓤 H (𝓖 .A) (givenOf 𝓤 H 𝓜 𝓖) (𝓜 .mem) (𝓡 .run) (tablesOf 𝓤 H 𝓜 (tables 𝓤 H 𝓜 𝓡 code.env))
     (cited 𝓤 H (Stores registering 𝓤 H (𝓖 .A)) 𝓜 𝓡 code.env #register register-def.routine code.calls-registry-in-place·register (register-met.met 𝓤 H 𝓜 𝓖 𝓡))
     (cited 𝓤 H (Stores releasing 𝓤 H (𝓖 .A)) 𝓜 𝓡 code.env #release release-def.routine code.calls-registry-in-place·release (release-met.met 𝓤 H 𝓜 𝓖 𝓡))
     (cited 𝓤 H (Stores changing 𝓤 H (𝓖 .A)) 𝓜 𝓡 code.env #change change-def.routine code.calls-registry-in-place·change (change-met.met 𝓤 H 𝓜 𝓖 𝓡)))

@@ -37,15 +37,16 @@ use Rattle.orders.specs.View.{fieldsOf, lineFlow}
 use Rattle.queue_table.specs.View.{linkIn, speedAt, WellFormed, tableOf, hopAt, isQueue, linkAt, AllQueues}
 use Rattle.queue_table.proofs.LookupLaws.{link-found}
 use Rattle.bit_words.specs.View.{LeastClear}
-use Rattle.flow_store.specs.View.{Store, slotsOf, Insertable}
-use Rattle.flow_store.proofs.ViewLaws.{length-slots, held-hops}
+use Rattle.flow_store.specs.View.{slotsOf, Placeable, Placed}
+use Rattle.flow_store.specs.Laws.{length-slots}
+use Rattle.flow_store.proofs.ViewLaws.{held-hops}
 use Rattle.flow_store.proofs.ScanLaws.{lowest-free}
 use Rattle.flow_check.specs.View as judged
-use Rattle.figures.specs.View.{Figures, Bounded, Hops, Speeds, OnTable, FlowOf, PathAdded, growthAt}
+use Rattle.figures.specs.View.{Figures, Limited, Hops, Speeds, OnTable, FlowOf, PathAdded, growthAt}
 use Rattle.queue_table.proofs.EntryLaws.{queue-within, queue-low, queue-named}
 use Rattle.figures.proofs.EntryLaws.{growth-named}
 use Rattle.figures.proofs.AddLaws.{figures-added}
-use Rattle.admission.specs.View.{stateOf, answerOf, LineRead, Kept, Stepped}
+use Rattle.admission.specs.View.{stateOf, answerOf, LineRead, ConsistentArrays, Stepped}
 use Rattle.admission.specs.declared.Answer.{Answer}
 use Rattle.admission.specs.declared.Answer.the-variants.{Done, Refused}
 
@@ -93,11 +94,11 @@ hops-ranged table formed right entries named few =
           (le-trans (growth-most _ _) (threshold-below (tableOf table) right (hopAt e) _ (queue-named table e q))),
     )
 
-pub stepped-same : {o o′ : Order} {table bits slots pool bits′ slots′ pool′ sums′ : List ℕ} {r : Answer} → o ≡ o′
-    → Stepped o table bits slots pool bits′ slots′ pool′ sums′ r
-    → Stepped o′ table bits slots pool bits′ slots′ pool′ sums′ r
-stepped-same {table = table} {bits} {slots} {pool} {bits′} {slots′} {pool′} {sums′} {r} e =
-    subst (λ (o : Order). Stepped o table bits slots pool bits′ slots′ pool′ sums′ r) e
+pub stepped-same : {o o′ : Order} {table bits store bits′ store′ figures′ : List ℕ} {r : Answer} → o ≡ o′
+    → Stepped o table bits store bits′ store′ figures′ r
+    → Stepped o′ table bits store bits′ store′ figures′ r
+stepped-same {table = table} {bits} {store} {bits′} {store′} {figures′} {r} e =
+    subst (λ (o : Order). Stepped o table bits store bits′ store′ figures′ r) e
 
 pub filled : (s : State) (i : ℕ) (x : Slot) → answerOf (Done (i + 1)) ≡ fill s i x .answer
 unfolding fill
@@ -105,16 +106,16 @@ filled s i x =
     let e : i + 1 ≡ suc i = omega arith in
     λ t. record { code = 0; slot = e t; link = 0; level = 0 }
 
-module _ (table bits slots pool sums : List ℕ) (k : Kept table bits slots pool sums) where
+module _ (table bits store figures : List ℕ) (k : ConsistentArrays table bits store figures) where
   abbrev s : State
-  s = stateOf table bits slots pool
+  s = stateOf table bits store
 
   rules : StateRules s
   rules = state-rules s (k .is-consistent)
 
   -- A refusal is the first cause, and nothing changes.
   pub stepped-refused : (o : Order) (cause : Cause) → firstCause (findings s o) ≡ some (causeOf cause)
-      → Stepped o table bits slots pool bits slots pool sums (Refused cause)
+      → Stepped o table bits store bits store figures (Refused cause)
   unfolding apply decide refuse
   stepped-refused o cause first =
       let done : apply s o ≡ refuse s (causeOf cause) = ap (decide s o) first in
@@ -124,18 +125,18 @@ module _ (table bits slots pool sums : List ℕ) (k : Kept table bits slots pool
         kept = k;
       }
 
-  pub bounded : Bounded sums
-  bounded =
+  pub limited : Limited figures
+  limited =
       record {
-        long = k .figures .long;
-        rates = λ e lt. rw (k .figures .same e lt) (figures-bounded s rules (hopAt e) .0);
-        bursts = λ e lt. rw (k .figures .same e lt) (figures-bounded s rules (hopAt e) .1 .0);
-        frames = λ e lt. rw (k .figures .same e lt) (figures-bounded s rules (hopAt e) .1 .1);
+        long = k .exact .long;
+        rates = λ e lt. rw (k .exact .same e lt) (figures-bounded s rules (hopAt e) .0);
+        bursts = λ e lt. rw (k .exact .same e lt) (figures-bounded s rules (hopAt e) .1 .0);
+        frames = λ e lt. rw (k .exact .same e lt) (figures-bounded s rules (hopAt e) .1 .1);
       }
 
   -- The held flows are on queues of the table.
-  pub held-named : All (λ g. All (Named (tableOf table)) (g .path)) (heldFlows (slotsOf bits slots pool))
-  held-named = all-imp (heldFlows (slotsOf bits slots pool)) (λ g m. m .queues) (schedulable s rules .flows)
+  pub held-named : All (λ g. All (Named (tableOf table)) (g .path)) (heldFlows (slotsOf bits store))
+  held-named = all-imp (heldFlows (slotsOf bits store)) (λ g m. m .queues) (schedulable s rules .flows)
 
   -- Queues of the table have thresholds and speeds in their ranges.
   module _ (entries : List ℕ) (named : AllQueues table entries) where
@@ -180,64 +181,62 @@ module _ (table bits slots pool sums : List ℕ) (k : Kept table bits slots pool
     unfolding flowOf
     hops-long = ap length (sym (named .path)) ∙ length-map path hopAt ∙ path-length
 
-    module _ (room : firstCause (roomFindings (slotsOf bits slots pool) f) ≡ none) (slot : ℕ) (least : LeastClear bits slot) where
-      lowest : slot ≡ firstIndex isNone (slotsOf bits slots pool)
-      lowest = lowest-free bits slots pool slot (k .store .bits-long) least
+    module _ (room : firstCause (roomFindings (slotsOf bits store) f) ≡ none) (slot : ℕ) (least : LeastClear bits slot) where
+      lowest : slot ≡ firstIndex isNone (slotsOf bits store)
+      lowest = lowest-free bits store slot (k .stored .bits-long) least
 
-      free : every isHeld (slotsOf bits slots pool) ≡ false
-      free = slot-free (slotsOf bits slots pool) f (none-applies (roomFindings (slotsOf bits slots pool) f) room)
+      free : every isHeld (slotsOf bits store) ≡ false
+      free = slot-free (slotsOf bits store) f (none-applies (roomFindings (slotsOf bits store) f) room)
 
       pub inside : slot < slotCount
       unfolding isHeld
-      inside = omega (arith, lowest, index-below isNone (slotsOf bits slots pool) free, length-slots bits slots pool)
+      inside = omega (arith, lowest, index-below isNone (slotsOf bits store) free, length-slots bits store)
 
-      pub insertable : Insertable slot flow path bits slots pool
+      pub placeable : Placeable slot flow path bits store
       unfolding flowOf
-      insertable =
+      placeable =
           record {
-            store = k .store;
+            stored = k .stored;
             narrow = record { share = numbers; deadline = range .deadline };
             inside = inside;
-            lowest = least;
             hops = sym path-length;
-            room = omega (arith, path-length, hops-long, held-hops bits slots pool (k .store), hops-free (slotsOf bits slots pool) f (none-applies (roomFindings (slotsOf bits slots pool) f) room));
+            room = omega (arith, path-length, hops-long, held-hops bits store (k .stored), hops-free (slotsOf bits store) f (none-applies (roomFindings (slotsOf bits store) f) room));
           }
 
       -- An admission: the flow is in the lowest free slot, and every figure is right.
-      pub stepped-admitted : {bits′ slots′ pool′ sums′ : List ℕ} → firstCause (findings s (register f)) ≡ none
-          → slotsOf bits′ slots′ pool′ ≡ set (slotsOf bits slots pool) slot (some (flowOf (fieldsOf flow) (map hopAt path)))
-          → Store bits′ slots′ pool′
-          → PathAdded (aggregateOf (flow .share)) table path sums sums′
-          → Stepped (register f) table bits slots pool bits′ slots′ pool′ sums′ (Done (slot + 1))
+      pub stepped-admitted : {bits′ store′ figures′ : List ℕ} → firstCause (findings s (register f)) ≡ none
+          → Placed slot flow path bits store bits′ store′
+          → PathAdded (aggregateOf (flow .share)) table path figures figures′
+          → Stepped (register f) table bits store bits′ store′ figures′ (Done (slot + 1))
       unfolding apply decide perform fill
-      stepped-admitted {bits′} {slots′} {pool′} {sums′} nothing view store added =
-          record { answer = answer; next = next; kept = record { formed = k .formed; store = store; is-consistent = is-consistent; figures = figures } }
+      stepped-admitted {bits′} {store′} {figures′} nothing placed added =
+          record { answer = answer; next = next; kept = record { formed = k .formed; stored = placed .stored; is-consistent = is-consistent; exact = exact } }
         where
-          done : apply s (register f) ≡ fill s (firstIndex isNone (slotsOf bits slots pool)) (some f)
+          done : apply s (register f) ≡ fill s (firstIndex isNone (slotsOf bits store)) (some f)
           done = ap (decide s (register f)) nothing
 
-          seen : slotsOf bits′ slots′ pool′ ≡ set (slotsOf bits slots pool) (firstIndex isNone (slotsOf bits slots pool)) (some f)
+          seen : slotsOf bits′ store′ ≡ set (slotsOf bits store) (firstIndex isNone (slotsOf bits store)) (some f)
           seen =
-              view
-              ∙ ap (λ (i : ℕ). set (slotsOf bits slots pool) i (some (flowOf (fieldsOf flow) (map hopAt path)))) lowest
-              ∙ ap (λ (p : List line.Hop). set (slotsOf bits slots pool) (firstIndex isNone (slotsOf bits slots pool)) (some (flowOf (fieldsOf flow) p))) (named .path)
+              placed .view
+              ∙ ap (λ (i : ℕ). set (slotsOf bits store) i (some (flowOf (fieldsOf flow) (map hopAt path)))) lowest
+              ∙ ap (λ (p : List line.Hop). set (slotsOf bits store) (firstIndex isNone (slotsOf bits store)) (some (flowOf (fieldsOf flow) p))) (named .path)
 
           answer : answerOf (Done (slot + 1)) ≡ apply s (register f) .answer
-          answer = ap (λ (i : ℕ). answerOf (Done (i + 1))) lowest ∙ filled s (firstIndex isNone (slotsOf bits slots pool)) (some f) ∙ sym (ap (λ (out : Outcome). out .answer) done)
+          answer = ap (λ (i : ℕ). answerOf (Done (i + 1))) lowest ∙ filled s (firstIndex isNone (slotsOf bits store)) (some f) ∙ sym (ap (λ (out : Outcome). out .answer) done)
 
-          next : stateOf table bits′ slots′ pool′ ≡ apply s (register f) .next
+          next : stateOf table bits′ store′ ≡ apply s (register f) .next
           next = ap (λ (l : List Slot). record { table = tableOf table; slots = l }) seen ∙ sym (ap (λ (out : Outcome). out .next) done)
 
-          is-consistent : consistent (stateOf table bits′ slots′ pool′) ≡ true
+          is-consistent : consistent (stateOf table bits′ store′) ≡ true
           is-consistent = rw next (rules-state _ (apply-keeps s (register f) (kindNumber registering) (refl, read .range) rules))
 
-          figures : Figures (tableOf table) (heldFlows (slotsOf bits′ slots′ pool′)) sums′
-          figures =
-              let more = figures-added f (named .queues) flow-of added (k .figures) in
+          exact : Figures (tableOf table) (heldFlows (slotsOf bits′ store′)) figures′
+          exact =
+              let more = figures-added f (named .queues) flow-of added (k .exact) in
               record {
                 long = more .long;
                 same = λ e lt.
                     more .same e lt
-                    ∙ sym (aggregate-perm (tableOf table) (fill-perm f (slotsOf bits slots pool) free) (hopAt e))
+                    ∙ sym (aggregate-perm (tableOf table) (fill-perm f (slotsOf bits store) free) (hopAt e))
                     ∙ ap (λ (l : List Slot). lookup.aggregateAt (tableOf table) (heldFlows l) (hopAt e)) (sym seen);
               }
