@@ -36,15 +36,15 @@ module _ (figures : List ℕ) (e : ℕ) (a : Aggregate) where
   pub stored-other : (d : ℕ) → (d ≡ e → ⊥) → figureAt (figureStored figures e a) d ≡ figureAt figures d
   unfolding figureAt figureStored
   stored-other d ne =
-      λ i. record { rate = (rw (add-zero (3 * d)) at (other 0 (omega arith))) i; burst = other 1 (omega arith) i; frame = other 2 (omega arith) i }
+      λ i. record { rate = (rw (add-zero (ownNumbers * d)) at (other 0 (omega arith))) i; burst = other 1 (omega arith) i; frame = other 2 (omega arith) i }
     where
-      other : (j : ℕ) → j < 3 → getD (set two (framePosition e) (a .frame)) (3 * d + j) 0 ≡ getD figures (3 * d + j) 0
+      other : (j : ℕ) → j < ownNumbers → getD (set two (framePosition e) (a .frame)) (ownNumbers * d + j) 0 ≡ getD figures (ownNumbers * d + j) 0
       other j lt =
-          getD-set-other two (framePosition e) (3 * d + j) (a .frame) 0 (omega arith)
-          ∙ getD-set-other one (burstPosition e) (3 * d + j) (a .burst) 0 (omega arith)
-          ∙ getD-set-other figures (ownNumbers * e) (3 * d + j) (a .rate) 0 (omega arith)
+          getD-set-other two (framePosition e) (ownNumbers * d + j) (a .frame) 0 (omega arith)
+          ∙ getD-set-other one (burstPosition e) (ownNumbers * d + j) (a .burst) 0 (omega arith)
+          ∙ getD-set-other figures (ownNumbers * e) (ownNumbers * d + j) (a .rate) 0 (omega arith)
 
-  pub stored-here : ownNumbers * e + 3 ≤ length figures → figureAt (figureStored figures e a) e ≡ a
+  pub stored-here : ownNumbers * e + ownNumbers ≤ length figures → figureAt (figureStored figures e a) e ≡ a
   unfolding figureAt figureStored
   stored-here within =
       let long : length two ≡ length figures = length-set one (burstPosition e) (a .burst) ∙ length-set figures (ownNumbers * e) (a .rate) in
@@ -146,7 +146,7 @@ module _ {t : Table} {fs : List Flow} {a b : List ℕ} (fa : Figures t fs a) (fb
   figure-same : (e : ℕ) → e < queuesMost → figureAt a e ≡ figureAt b e
   figure-same e lt = fa .same e lt ∙ sym (fb .same e lt)
 
-  place-same : (e k : ℕ) → e < queuesMost → k < 3 → getD a (ownNumbers * e + k) 0 ≡ getD b (ownNumbers * e + k) 0
+  place-same : (e k : ℕ) → e < queuesMost → k < ownNumbers → getD a (ownNumbers * e + k) 0 ≡ getD b (ownNumbers * e + k) 0
   unfolding figureAt
   place-same e zero lt h = rw (add-zero (ownNumbers * e)) (ap (λ (x : Aggregate). x .rate) (figure-same e lt))
   place-same e (suc zero) lt h = ap (λ (x : Aggregate). x .burst) (figure-same e lt)
@@ -157,5 +157,5 @@ module _ {t : Table} {fs : List Flow} {a b : List ℕ} (fa : Figures t fs a) (fb
   figures-unique =
       ext-getD 0 a b (fa .long ∙ sym (fb .long))
       (λ j lt.
-      let split : j ≡ 3 * (j / 3) + j % 3 = omega arith in
-      rw split (place-same (j / 3) (j % 3) (omega (arith, fa .long)) (omega arith)))
+      let split : j ≡ ownNumbers * (j / ownNumbers) + j % ownNumbers = omega arith in
+      rw split (place-same (j / ownNumbers) (j % ownNumbers) (omega (arith, fa .long)) (omega arith)))

@@ -113,4 +113,4 @@ limited-below figures b j = go (ltb j (length figures)) refl
     go : (within : Bool) → ltb j (length figures) ≡ within → getD figures j 0 ≤ 2 ^ 62
     go false e = omega (arith, List·getD-eq-default figures 0 {n = j} (ltb-false j (length figures) e))
     go true e =
-        third (j / 3) (j % 3) (omega (arith, div-add-mod j 3)) (omega (arith, div-add-mod j 3, b .long, ltb-true j (length figures) e)) (mod-lt j {m = 3} (omega arith))
+        third (j / ownNumbers) (j % ownNumbers) (omega (arith, div-add-mod j ownNumbers)) (omega (arith, div-add-mod j ownNumbers, b .long, ltb-true j (length figures) e)) (mod-lt j {m = 3} (omega arith))
