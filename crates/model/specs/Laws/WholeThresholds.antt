@@ -86,9 +86,9 @@ module _ (t : Table) where
       → Pairs NoMore (shares t f sum path ++ es) (before.shares t f sum' path ++ es')
   unfolding shares before.shares
   path-less f h [] p = p
-  path-less f {sum} {sum'} h (g ∷ path) p =
+  path-less f {sum = sum} {sum' = sum'} h (g ∷ path) p =
       let later : sum + growth t g ≤ sum' + threshold_of (queue_at t g) = omega (arith, growth-most (threshold_of (queue_at t g)) (speed_of (link_at t g.link))) in
-      pair (record { hop = refl; adds = grown-mono (source f) h }) (path-less f later path p)
+      pair (record { hop = refl; adds = grown-mono (source f) h }) (path-less f {sum = sum + growth t g} {sum' = sum' + threshold_of (queue_at t g)} later path p)
 
   all-less : (fs : List Flow) → Pairs NoMore (all_shares t fs) (before.all_shares t fs)
   unfolding all_shares before.all_shares
