@@ -2,6 +2,7 @@
 // code in 3 columns, line in 6. A file that can't be opened counts as empty. What stands past the bytes read here makes no
 // difference: a text that fills its area is one byte above its limit, and refused for its size. Standard error says in words
 // what went wrong with a file, the batch or the output.
+#![tactic(auto)]
 use batch::{ANSWER_BYTES, ORDER_BYTES, ORDER_LINES};
 use libc::{STDERR_FILENO, STDOUT_FILENO};
 use queue_table::TABLE_BYTES;

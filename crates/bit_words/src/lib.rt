@@ -1,4 +1,6 @@
 // Words of 64 bits: bit i of them is bit i % 64 of word i / 64, the lowest first.
+#![tactic(auto)]
+
 ghost use Rattle.std.specs.Prelude.{◌≡◌, true, false, ◌*◌, ◌^◌, ◌<◌, length};
 ghost use Rattle.bit_words.specs.View.{word_bits, is_set, LowestSet, LeastClear, PastSet, BitChanged};
 

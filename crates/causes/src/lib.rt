@@ -1,5 +1,7 @@
 // What an order line, a direct call or a writer of texts can be refused for (document 01, "Who can cause which refusal"), each
 // cause with what an answer line names beside its code.
+#![tactic(auto)]
+
 ghost use Rattle.std.specs.Prelude.{◌≡◌};
 ghost use Rattle.causes.specs.View.{cause_of, numbers_in};
 

@@ -1,4 +1,6 @@
 // Decimal fields in fixed columns, and the lines of a text (document 01, "Columns").
+#![tactic(auto)]
+
 ghost use Rattle.std.specs.Prelude.{◌≡◌, ◌++◌, cond, ◌+◌, ◌%◌, ◌≤◌, ◌<◌, eqb, length, drop};
 ghost use Rattle.model.specs.Columns.{field, field_at, digits, justified, written_at, end_line, between};
 ghost use Rattle.columns.specs.View.{value_of, AfterBlanks, lf_within, SameLine, FirstLine};

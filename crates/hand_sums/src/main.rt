@@ -1,4 +1,5 @@
 // The sums to check by hand of document 01, W-202 and W-208, worked out by `units`. One line for each: the result in 8 columns.
+#![tactic(auto)]
 ghost use Rattle.std.specs.Prelude.{◌≤◌};
 
 use libc::STDOUT_FILENO;

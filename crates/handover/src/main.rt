@@ -2,6 +2,7 @@
 // `handover > orders.txt` feeds `admit`. Reads table.txt and calls.txt as `replay` does. Where that isn't all that was to be
 // handed over, standard error says so: a file that can't be opened and counts as empty, a list that is too long, and what
 // `replay` prints of a refused table and of a list that doesn't close with a whole call.
+#![tactic(auto)]
 use libc::{STDERR_FILENO, STDOUT_FILENO};
 use order_text::TEXT;
 use queue_table::Verdict;

@@ -2,6 +2,7 @@
 // its flows is found out (42); and the largest frames alone, which a release can't take out of the figures.
 //
 // The arrays are those of `queue_table` (table), `flow_store` (bits, store) and `figures` (figures).
+#![tactic(auto)]
 ghost use Rattle.std.specs.Prelude.{◌≡◌, true, ℕ, ◌+◌, ◌<◌, length};
 ghost use Rattle.model.specs.Words.{All};
 ghost use Rattle.model.specs.Sizes.{queues_most, slot_count};

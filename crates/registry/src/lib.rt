@@ -2,6 +2,7 @@
 // answer 42 first. On arrays that are known to be consistent `admission` carries out an order without that check.
 //
 // The arrays are those of `queue_table` (table), `flow_store` (bits, store) and `figures` (figures).
+#![tactic(auto)]
 ghost use Rattle.std.specs.Prelude.{◌≡◌, true, false, length};
 ghost use Rattle.model.specs.Columns.{lines};
 ghost use Rattle.model.specs.Orders.{registering, releasing, changing, kind_number};

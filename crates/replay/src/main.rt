@@ -5,6 +5,7 @@
 // - where the list doesn't close with a whole call, `end` and the offset of what follows the last one in 10 columns;
 // - each queue of the table: link in 4, level in 2, rate sum in 12, burst sum in 15 and largest frame in 5;
 // - each held slot: place in 4 columns, then the columns of its order line from the third on.
+#![tactic(auto)]
 ghost use Rattle.std.specs.Prelude.{◌+◌, ◌*◌, ◌≤◌, ◌<◌, ◌≡◌, length};
 ghost use Rattle.io.specs.Counts.{IsPrefixLen};
 ghost use Rattle.model.specs.Sizes.{queues_most, hops_most, head_columns, hop_columns, slot_count};

@@ -1,5 +1,6 @@
 // Reads table texts, the files t00, t01, .. beside it until one is missing, and prints what each says: code in 3 columns,
 // line in 6, links in 4 and queues in 5.
+#![tactic(auto)]
 ghost use Rattle.queue_table.specs.View.{WellFormed};
 
 use libc::STDOUT_FILENO;

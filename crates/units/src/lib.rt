@@ -8,6 +8,8 @@
 // the number of flows. Then 8000 × 2^40 and 10,000,000 × 2^40 + 10,000,000 are below 2^64, and so is a rate times a threshold or a
 // buffer, which are numbers of 32 bits. Two readings of a clock of 32 bits are
 // less than 2^32 µs apart, so a rate adds at most 4.3 × 10^16 tokens between them; a full bucket has 8 × 10^9 at the most.
+#![tactic(auto)]
+
 ghost use Rattle.std.specs.Prelude.{◌≡◌, ◌+◌, ◌*◌, ◌^◌, max, ◌≤◌, ◌<◌, leb};
 ghost use Rattle.model.specs.Sizes.{thresholds_most};
 ghost use Rattle.model.specs.Formula.{ceil_div, shortest_sending, hop_growth, burst_at_hop, residual, within_rate, delay_bound, backlog_bound};
