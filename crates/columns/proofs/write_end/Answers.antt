@@ -1,6 +1,4 @@
 -- `columns::write_end` meets its contract: byte by byte, then a field in the line so begun.
--- Assumes nothing.
-use borrow.Author.Rules.{rules}
 use Prim.Native.Nat.{ℕ, ◌≤◌}
 use mathlib.Core.Path.{◌≡◌, refl, sym, ap, ◌∙◌}
 use mathlib.Core.List.{List, [], ◌∷◌, ◌++◌, append_assoc}
@@ -9,8 +7,7 @@ use lib.ListN.{length, drop, set, length-set}
 use Rattle.model.specs.Columns.{justified, written_at, end_line}
 use Rattle.model.specs.Laws.Answers.{justified-length}
 use Rattle.columns.proofs.PartLaws.{field_next, byte_next}
-use Rattle.columns.proofs.write_end.Statement.{statement}
-use Rattle.columns.proofs.write_end.Tie as tie
+use Rattle.columns.proofs.write_end.Goals as goal
 
 -- `end` in the first bytes.
 abbrev begun : List ℕ → List ℕ
@@ -31,28 +28,24 @@ end-written l n room =
     ∙ byte_next (word ++ justified 10 n) l 13 10 (omega (arith, justified-length 10 n)) (omega (arith, room))
     ∙ sym (append_assoc (word ++ justified 10 n) (10 ∷ []) (drop 14 l))
 
-slice-write-part-2 : tie.Need-slice-write-part-2
-slice-write-part-2 c = simp length-set (omega (arith, c.before.requires))
+pub bounds-part-1 : goal.bounds-part-1
+bounds-part-1 c = simp length-set (omega (arith, c.requires))
 
-slice-write-part-3 : tie.Need-slice-write-part-3
-slice-write-part-3 c = simp length-set (omega (arith, c.before.requires))
+pub bounds-part-2 : goal.bounds-part-2
+bounds-part-2 c = simp length-set (omega (arith, c.requires))
 
-write-at-requires : tie.Need-write-at-requires
-write-at-requires c κs = (omega arith, (omega arith, simp length-set (omega (arith, c.before.before.requires))))
+pub write_at-requires : goal.write_at-requires
+write_at-requires c = (omega arith, (omega arith, simp length-set (omega (arith, c.requires))))
 
-same_length : tie.Need-same-length
-same_length c =
-    let l = c.before.before.before.before.before.args.part.now in
-    length-set c.before.before.write-at.new.0 13 10
-    ∙ c.before.before.write-at.auto.0
+pub shape_of-part : goal.shape_of-part
+shape_of-part c =
+    let l = c.args.part.now in
+    length-set c.write_at.new.line 13 10
+    ∙ c.write_at.auto.line
     ∙ length-set (set (set l 0 101) 1 110) 2 100
     ∙ length-set (set l 0 101) 1 110
     ∙ length-set l 0 101
 
-returns : tie.Need-returns
+pub returns : goal.returns
 returns c =
-    let start = c.before.before.before.before.before in
-    ap (λ (t : List ℕ). set t 13 10) c.before.before.write-at.ensures ∙ end-written start.args.part.now start.args.n start.requires
-
-pub write-end-spec : {M : Type 1} → statement M
-write-end-spec = tie.close (tie.spec (λ c. search rules) slice-write-part-2 slice-write-part-3 write-at-requires (λ c. search rules) same_length returns)
+    ap (λ (t : List ℕ). set t 13 10) c.write_at.ensures ∙ end-written c.args.part.now c.args.n c.requires
