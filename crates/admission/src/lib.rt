@@ -19,7 +19,7 @@ use orders::{Change, Flow, Order};
 use units::Aggregate;
 
 // What an order is answered.
-#[derive(Drop)]
+#[derive(Clone, Copy)]
 pub enum Answer {
     // The slot, counted from 1.
     Done(u32),

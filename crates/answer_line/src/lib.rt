@@ -12,7 +12,7 @@ use causes::Numbers;
 use columns::LF;
 
 // What an answer line holds after the line number.
-#[derive(Drop)]
+#[derive(Clone, Copy)]
 struct Fields {
     code: u32,
     slot: u32,

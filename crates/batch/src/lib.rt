@@ -25,14 +25,14 @@ pub const ANSWER_BYTES: usize = 20;
 
 // What a batch returns: 0 and the count of order lines, or a code and a line.
 #[repr(C)]
-#[derive(Drop)]
+#[derive(Clone, Copy)]
 pub struct BatchResult {
     pub code: u32,
     pub line: u32,
 }
 
 // What a batch as a whole is refused for.
-#[derive(Drop)]
+#[derive(Clone, Copy)]
 enum Refusal {
     // 1 to 5, with the table's line.
     Table(Fault, u32),
@@ -43,7 +43,7 @@ enum Refusal {
 }
 
 // The answer to a line, and the position after it.
-#[derive(Drop)]
+#[derive(Clone, Copy)]
 struct Advance {
     answer: Answer,
     next: usize,

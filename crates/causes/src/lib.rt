@@ -5,7 +5,7 @@
 ghost use Rattle.std.specs.Prelude.{◌≡◌};
 ghost use Rattle.causes.specs.View.{cause_of, numbers_in};
 
-#[derive(Drop)]
+#[derive(Clone, Copy)]
 pub enum Cause {
     // 10: columns wrong.
     Malformed,
@@ -42,14 +42,14 @@ pub enum Cause {
 }
 
 // What a check finds.
-#[derive(Drop)]
+#[derive(Clone, Copy)]
 pub enum Finding {
     Nothing,
     Against(Cause),
 }
 
 // What an answer line has for a cause.
-#[derive(Drop)]
+#[derive(Clone, Copy)]
 pub struct Numbers {
     pub code: u32,
     pub link: u32,

@@ -10,14 +10,14 @@ const BLANK: u8 = 32;
 pub const LF: u8 = 10;
 
 // What a field says.
-#[derive(Drop)]
+#[derive(Clone, Copy)]
 pub enum Field {
     Number(u32),
     Malformed,
 }
 
 // The line of a text that starts at a position.
-#[derive(Drop)]
+#[derive(Clone, Copy)]
 pub enum NextLine {
     // It ends in the LF at this position.
     Ended(usize),

@@ -12,7 +12,7 @@ use queue_table::{link_at, link_of, queue_at};
 use units::{Aggregate, Bytes, Micros, Rate, hop_growth};
 
 // A flow's share at a hop, and S past it.
-#[derive(Drop)]
+#[derive(Clone, Copy)]
 pub(crate) struct AtHop {
     pub share: Aggregate,
     pub past: Micros,
@@ -36,7 +36,7 @@ pub(crate) fn share_at(share: Aggregate, sum: Micros, e: usize, table: &[u32]) -
 }
 
 // A queue's figures as they are to be, and S past it.
-#[derive(Drop)]
+#[derive(Clone, Copy)]
 pub(crate) struct AtQueue {
     pub own: Aggregate,
     pub past: Micros,

@@ -22,14 +22,14 @@ use units::Micros;
 const NUMBER_WORDS: usize = MOST_NUMBER / bit_words::WORD + 1;
 
 // What is against a flow by itself; where that is nothing, the entries name its path, else they are free.
-#[derive(Drop)]
+#[derive(Clone, Copy)]
 pub struct Judged {
     pub finding: Finding,
     pub entries: [u32; MOST_HOPS],
 }
 
 // Whether there is room, and where there is, the slot that is free.
-#[derive(Drop)]
+#[derive(Clone, Copy)]
 pub struct FreeSlot {
     pub finding: Finding,
     pub slot: usize,

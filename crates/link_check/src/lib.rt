@@ -18,7 +18,7 @@ use units::{
 };
 
 // What the check of levels finds first, with the level, counted from 1.
-#[derive(Drop)]
+#[derive(Clone, Copy)]
 enum LevelFinding {
     Fits,
     OverDelay(u32),
@@ -26,7 +26,7 @@ enum LevelFinding {
 }
 
 // What the check found, and the link's levels as they were: they are taken and given back by value (document 01).
-#[derive(Drop)]
+#[derive(Clone, Copy)]
 pub struct Checked {
     pub finding: Finding,
     pub levels: [Aggregate; LEVELS],

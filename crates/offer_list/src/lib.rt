@@ -23,7 +23,7 @@ const ANSWER: usize = 18;
 // further one, and the line that says where it breaks off.
 pub const PRINTED: usize = 240_000 + END;
 
-#[derive(Drop)]
+#[derive(Clone, Copy)]
 struct Opening {
     rate: Rate,
     burst: Bytes,
@@ -32,40 +32,40 @@ struct Opening {
     reading: u32,
 }
 
-#[derive(Drop)]
+#[derive(Clone, Copy)]
 enum OpeningRead {
     Fields(Opening),
     Malformed,
 }
 
 // A frame's bytes, and the µs since the line before.
-#[derive(Drop)]
+#[derive(Clone, Copy)]
 struct Step {
     length: Bytes,
     micros: u32,
 }
 
-#[derive(Drop)]
+#[derive(Clone, Copy)]
 enum StepRead {
     Fields(Step),
     Malformed,
 }
 
 // Two fields of a line, one right after the other.
-#[derive(Drop)]
+#[derive(Clone, Copy)]
 enum Pair {
     Numbers(u32, u32),
     Malformed,
 }
 
 // What the first line of a part of the list says, and where the next one starts.
-#[derive(Drop)]
+#[derive(Clone, Copy)]
 enum FoundOpening {
     Read(Opening, usize),
     Malformed,
 }
 
-#[derive(Drop)]
+#[derive(Clone, Copy)]
 enum FoundStep {
     Read(Step, usize),
     Malformed,

@@ -22,7 +22,7 @@ use registry::Registry;
 pub const TEXT: usize = SLOTS * (HEAD_COLUMNS + 1) + HOP_COLUMNS * POOL;
 
 // What a writer of texts says: a cause where it refused, and how many bytes of the area it filled, 0 where it refused.
-#[derive(Drop)]
+#[derive(Clone, Copy)]
 pub struct Written {
     pub finding: Finding,
     pub bytes: usize,

@@ -28,7 +28,7 @@ pub const HEAD_COLUMNS: usize = 41;
 pub const HOP_COLUMNS: usize = 6;
 
 // A flow as its line gives it. Its hops stand beside it, in an `OrderLine`.
-#[derive(Drop)]
+#[derive(Clone, Copy)]
 pub struct Flow {
     pub number: u32,
     // Rate, burst and largest frame at its source.
@@ -39,7 +39,7 @@ pub struct Flow {
 }
 
 // What a line or a call asks for.
-#[derive(Drop)]
+#[derive(Clone, Copy)]
 pub enum Kind {
     Register,
     Release,
@@ -47,13 +47,13 @@ pub enum Kind {
 }
 
 // The kind that a number stands for.
-#[derive(Drop)]
+#[derive(Clone, Copy)]
 pub enum KindRead {
     Is(Kind),
     Other,
 }
 
-#[derive(Drop)]
+#[derive(Clone, Copy)]
 pub enum Order {
     // With a whole flow.
     Register(Flow),
@@ -68,7 +68,7 @@ pub enum Order {
 }
 
 // The rate and burst that a line gives to the flow with this number.
-#[derive(Drop)]
+#[derive(Clone, Copy)]
 pub struct Change {
     pub number: u32,
     pub rate: Rate,
@@ -76,32 +76,32 @@ pub struct Change {
 }
 
 // An order, and the hops of its path where it is a registration: the first `hops` of them. The rest is free.
-#[derive(Drop)]
+#[derive(Clone, Copy)]
 pub struct OrderLine {
     pub order: Order,
     pub hops: [u32; HOP_NUMBERS],
 }
 
-#[derive(Drop)]
+#[derive(Clone, Copy)]
 enum Source {
     Fields(Change),
     Malformed,
 }
 
-#[derive(Drop)]
+#[derive(Clone, Copy)]
 enum Head {
     Fields(Flow),
     Malformed,
 }
 
-#[derive(Drop)]
+#[derive(Clone, Copy)]
 enum Hop {
     At(u32, u32),
     Malformed,
 }
 
 // The array stands first: behind a flag of one byte it would be copied at an odd address.
-#[derive(Drop)]
+#[derive(Clone, Copy)]
 struct Path {
     hops: [u32; HOP_NUMBERS],
     whole: bool,

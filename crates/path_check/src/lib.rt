@@ -16,13 +16,13 @@ use orders::MOST_HOPS;
 use units::Micros;
 
 // The first hop without a queue, and the hop count where each has one: then the entries name the path, else they are free.
-#[derive(Drop)]
+#[derive(Clone, Copy)]
 pub struct Located {
     pub missing: usize,
     pub entries: [u32; MOST_HOPS],
 }
 
-#[derive(Drop)]
+#[derive(Clone, Copy)]
 enum Entry {
     At(u32),
     Missing,

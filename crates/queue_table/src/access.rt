@@ -9,7 +9,7 @@ use crate::{COUNT, LEVELS, LINK_NUMBERS, LINKS, QUEUE_NUMBERS};
 use units::{Bytes, Micros};
 
 // The numbers of a link; its speed is in Mbit/s, `fixed` is its fixed delay, `besteffort` its best-effort frame.
-#[derive(Drop)]
+#[derive(Clone, Copy)]
 pub struct Link {
     pub from: u32,
     pub to: u32,
@@ -19,14 +19,14 @@ pub struct Link {
     pub besteffort: Bytes,
 }
 
-#[derive(Drop)]
+#[derive(Clone, Copy)]
 pub struct Queue {
     pub threshold: Micros,
     pub buffer: Bytes,
 }
 
 // A queue as an order line names it: its link and level, both counted from 1.
-#[derive(Drop)]
+#[derive(Clone, Copy)]
 pub struct Hop {
     pub link: u32,
     pub level: u32,

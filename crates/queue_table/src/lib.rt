@@ -49,7 +49,7 @@ const ROW_COLUMNS: usize = BEST_EFFORT_COLUMNS;
 pub const TABLE_BYTES: usize = QUEUES * (ROW_COLUMNS + 1);
 
 // What a table text can be refused for.
-#[derive(Drop)]
+#[derive(Clone, Copy)]
 pub enum Fault {
     // 1: columns wrong.
     Malformed,
@@ -64,21 +64,21 @@ pub enum Fault {
 }
 
 // What a line is found to be.
-#[derive(Drop)]
+#[derive(Clone, Copy)]
 enum Judgement {
     Fine,
     Faulty(Fault),
 }
 
 // What a line does: what it was found to be, and the number of links from then on.
-#[derive(Drop)]
+#[derive(Clone, Copy)]
 struct Step {
     judgement: Judgement,
     links: usize,
 }
 
 // The same of the line at a position of the text, and the position after it.
-#[derive(Drop)]
+#[derive(Clone, Copy)]
 struct Advance {
     judgement: Judgement,
     links: usize,
@@ -86,7 +86,7 @@ struct Advance {
 }
 
 // What a table text says.
-#[derive(Drop)]
+#[derive(Clone, Copy)]
 pub enum Verdict {
     Accepted,
     // The first fault, and its line.

@@ -10,7 +10,7 @@ use crate::{BASE_COLUMNS, BEST_EFFORT_COLUMNS, DELAY_COLUMNS, Fault, Judgement, 
 use columns::Field;
 
 // The numbers of one table line.
-#[derive(Drop)]
+#[derive(Clone, Copy)]
 pub(crate) struct Row {
     pub(crate) link: u32,
     pub(crate) from: u32,
@@ -23,7 +23,7 @@ pub(crate) struct Row {
     pub(crate) besteffort: u32,
 }
 
-#[derive(Drop)]
+#[derive(Clone, Copy)]
 pub(crate) enum RowRead {
     Numbers(Row),
     Malformed,

@@ -32,14 +32,14 @@ pub const TABLE: usize = TABLE_BYTES + 1;
 pub const ANSWERS: usize = ANSWER * 22_223;
 
 // How the calls are made: on a registry by value, or on one that is held and lent. The answers are the same.
-#[derive(Drop)]
+#[derive(Clone, Copy)]
 pub enum Form {
     ByValue,
     InPlace,
 }
 
 // What the calls of a list leave behind: how many there were, and where the last one ends.
-#[derive(Drop)]
+#[derive(Clone, Copy)]
 struct Ran {
     registry: Registry,
     count: usize,
@@ -47,7 +47,7 @@ struct Ran {
 }
 
 // What a replay gives: the table's verdict too.
-#[derive(Drop)]
+#[derive(Clone, Copy)]
 pub struct Replayed {
     pub verdict: Verdict,
     pub registry: Registry,
@@ -56,7 +56,7 @@ pub struct Replayed {
 }
 
 // A header line: which call it is, and the number of bytes that it is given.
-#[derive(Drop)]
+#[derive(Clone, Copy)]
 enum Recorded {
     Call(Kind, usize),
     Broken,

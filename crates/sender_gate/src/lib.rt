@@ -10,7 +10,7 @@ use orders::SMALLEST_FRAME;
 use units::{Bytes, Micros, Rate, Tokens};
 
 #[repr(C)]
-#[derive(Drop)]
+#[derive(Clone, Copy)]
 pub struct Gate {
     pub rate: Rate,
     pub burst: Bytes,
@@ -22,7 +22,7 @@ pub struct Gate {
 }
 
 // What becomes of an opening or an offer.
-#[derive(Drop)]
+#[derive(Clone, Copy)]
 enum Outcome {
     // 0: opened or passed.
     Done,
@@ -36,7 +36,7 @@ enum Outcome {
 
 // The code, and the gate then.
 #[repr(C)]
-#[derive(Drop)]
+#[derive(Clone, Copy)]
 pub struct GateAnswer {
     pub gate: Gate,
     pub code: u32,

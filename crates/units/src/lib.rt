@@ -20,26 +20,26 @@ ghost use Rattle.units.specs.View.{aggregate_of, AtSource};
 
 // Bytes on the wire.
 #[repr(C)]
-#[derive(Drop)]
+#[derive(Clone, Copy)]
 pub struct Bytes(pub u64);
 
 // Kilobits per second.
 #[repr(C)]
-#[derive(Drop)]
+#[derive(Clone, Copy)]
 pub struct Rate(pub u64);
 
 // Microseconds.
-#[derive(Drop)]
+#[derive(Clone, Copy)]
 pub struct Micros(pub u64);
 
 // 8000ths of a byte: a rate adds a whole number of them in a microsecond.
 #[repr(C)]
-#[derive(Drop)]
+#[derive(Clone, Copy)]
 pub struct Tokens(pub u64);
 
 // Rate, burst and largest frame: of one flow at a hop, its share there, or summed over the flows of a queue (document 01: its
 // figures; the largest frame is 0 where none).
-#[derive(Drop)]
+#[derive(Clone, Copy)]
 pub struct Aggregate {
     pub rate: Rate,
     pub burst: Bytes,
