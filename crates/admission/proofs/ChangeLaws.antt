@@ -17,15 +17,15 @@ use Rattle.model.specs.Orders as line
 use Rattle.model.specs.Orders.{Flow, change, number_in_range, rate_in_range, change_in_range, changing, kind_number}
 use Rattle.model.specs.Aggregates.{aggregate_at}
 use Rattle.model.specs.Schedulable.{Named}
-use Rattle.model.specs.Laws.Columns.{between-true}
-use Rattle.model.specs.Laws.Test.{and_both}
-use Rattle.model.specs.Laws.Part.{all-part}
-use Rattle.model.specs.Laws.Aggregates.{aggregate-perm}
+use Rattle.model.proofs.Laws.Columns.{between-true}
+use Rattle.model.proofs.Laws.Test.{and_both}
+use Rattle.model.proofs.Laws.Part.{all-part}
+use Rattle.model.proofs.Laws.Aggregates.{aggregate-perm}
 use Rattle.model.specs.Reference.{Slot, State, Cause, Outcome, held_flows, first_cause, whole, line_findings, link_findings, index_of, slot_with, changed, changed_slot, change_findings, findings, fill, perform, decide, apply}
-use Rattle.model.specs.Laws.Slot.{held_at, held-inside, clear-part, put-perm}
+use Rattle.model.proofs.Laws.Slot.{held_at, held-inside, clear-part, put-perm}
 use Rattle.model.specs.Consistent.{consistent}
-use Rattle.model.specs.Laws.Consistent.{FlowRules}
-use Rattle.model.specs.Laws.Reached.{StateRules, state-rules, rules-state, apply-keeps}
+use Rattle.model.proofs.Laws.Consistent.{FlowRules}
+use Rattle.model.proofs.Laws.Reached.{StateRules, state-rules, rules-state, apply-keeps}
 use Rattle.units.specs.View.{AtSource}
 use Rattle.queue_table.specs.View.{table_of, hop_at}
 use Rattle.orders.specs.declared.Change.{Change}

@@ -12,23 +12,23 @@ use lib.Seq.{length-take-le}
 use Rattle.model.specs.Words.{All, every, first_index, is_none}
 use Rattle.model.specs.Sizes.{queues_most, hops_most, slot_count}
 use Rattle.model.specs.Columns.{between}
-use Rattle.model.specs.Laws.Columns.{between-true}
-use Rattle.model.specs.Laws.Test.{and_both}
-use Rattle.model.specs.Laws.All.{all-imp}
-use Rattle.model.specs.Laws.Formula.{growth-most}
+use Rattle.model.proofs.Laws.Columns.{between-true}
+use Rattle.model.proofs.Laws.Test.{and_both}
+use Rattle.model.proofs.Laws.All.{all-imp}
+use Rattle.model.proofs.Laws.Formula.{growth-most}
 use Rattle.model.specs.Orders as line
 use Rattle.model.specs.Orders.{Order, register, registering, kind_number, flow_of, head_in_range, hops_in_range, number_in_range}
 use Rattle.model.specs.Aggregates as lookup
 use Rattle.model.specs.Schedulable.{Named}
 use Rattle.model.specs.Reference.{Slot, State, Outcome, held_flows, is_held, first_cause, at_hop, met_earlier, room_findings, findings, refuse, fill, perform, decide, apply}
 use Rattle.model.specs.Consistent.{flow_in_range, head_of, table_consistent, consistent}
-use Rattle.model.specs.Laws.Finding.{none-applies}
-use Rattle.model.specs.Laws.Aggregates.{aggregate-perm}
-use Rattle.model.specs.Laws.Slot.{index_below, fill-perm}
-use Rattle.model.specs.Laws.Reference.{slot-free, hops-free}
-use Rattle.model.specs.Laws.Reached.{StateRules, state-rules, rules-state, apply-keeps}
-use Rattle.model.specs.Laws.Schedulable.{schedulable}
-use Rattle.model.specs.Laws.Bounds.{threshold-below, speed-below, figures-bounded}
+use Rattle.model.proofs.Laws.Finding.{none-applies}
+use Rattle.model.proofs.Laws.Aggregates.{aggregate-perm}
+use Rattle.model.proofs.Laws.Slot.{index_below, fill-perm}
+use Rattle.model.proofs.Laws.Reference.{slot-free, hops-free}
+use Rattle.model.proofs.Laws.Reached.{StateRules, state-rules, rules-state, apply-keeps}
+use Rattle.model.proofs.Laws.Schedulable.{schedulable}
+use Rattle.model.proofs.Laws.Bounds.{threshold-below, speed-below, figures-bounded}
 use Rattle.causes.specs.declared.Cause.{Cause}
 use Rattle.causes.specs.View.{cause_of}
 use Rattle.orders.specs.declared.Flow.{Flow}

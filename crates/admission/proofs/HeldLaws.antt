@@ -9,17 +9,17 @@ use native.Mathlib.Omega.{arith}
 use lib.Dec.{leb}
 use borrow.Author.Tests.{le-leb}
 use Rattle.model.specs.Words.{every, is_none}
-use Rattle.model.specs.Laws.Slot.{held_at}
+use Rattle.model.proofs.Laws.Slot.{held_at}
 use Rattle.model.specs.Sizes.{hops_most, slot_count}
 use Rattle.model.specs.QueueTable.{Table}
 use Rattle.model.specs.Orders.{Flow}
 use Rattle.model.specs.Reference.{State, held_flows, with_number, at_hop, no_queue, line_findings, deadline_finding}
 use Rattle.model.specs.Consistent.{flow_in_range, table_consistent}
-use Rattle.model.specs.Laws.Test.{and_both, both-and, every-all, all-every}
-use Rattle.model.specs.Laws.All.{all_append, all-imp}
-use Rattle.model.specs.Laws.Finding.{none-applies, applies-none, is-none}
-use Rattle.model.specs.Laws.Consistent.{FlowRules}
-use Rattle.model.specs.Laws.Reached.{StateRules}
+use Rattle.model.proofs.Laws.Test.{and_both, both-and, every-all, all-every}
+use Rattle.model.proofs.Laws.All.{all_append, all-imp}
+use Rattle.model.proofs.Laws.Finding.{none-applies, applies-none, is-none}
+use Rattle.model.proofs.Laws.Consistent.{FlowRules}
+use Rattle.model.proofs.Laws.Reached.{StateRules}
 use Rattle.queue_table.specs.View.{WellFormed, table_of}
 use Rattle.path_check.proofs.EntryLaws.{all-queues}
 use Rattle.bit_words.specs.View.{is_set}

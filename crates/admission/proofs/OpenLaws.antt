@@ -9,7 +9,7 @@ use native.Mathlib.Omega.{arith}
 use lib.ListN.{replicate, length-replicate}
 use Rattle.model.specs.Sizes.{slot_count}
 use Rattle.model.specs.Reference.{Slot, held_flows, opened}
-use Rattle.model.specs.Laws.Reached.{opened-rules, rules-state, none-held}
+use Rattle.model.proofs.Laws.Reached.{opened-rules, rules-state, none-held}
 use Rattle.queue_table.specs.declared.Verdict.{Verdict}
 use Rattle.queue_table.specs.View.{table_of, TableFilled}
 use Rattle.bit_words.specs.Laws.{zero-at, none-set}

@@ -4,7 +4,7 @@ use Prim.Native.Nat.{ℕ}
 use mathlib.Core.Path.{◌≡◌}
 use mathlib.Core.List.{List}
 use lib.ListN.{length}
-use Rattle.model.specs.Laws.Order.{Ranged}
+use Rattle.model.proofs.Laws.Order.{Ranged}
 use Rattle.orders.specs.declared.Order.{Order}
 use Rattle.orders.specs.declared.Order.TheVariants.{Register, Release, Change, Malformed, OutOfRange}
 use Rattle.orders.specs.View.{hop_numbers, order_with, hops_fit}

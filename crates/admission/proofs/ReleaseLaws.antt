@@ -16,11 +16,11 @@ use Rattle.model.specs.QueueTable.{Table}
 use Rattle.model.specs.Orders.{Flow, release}
 use Rattle.model.specs.Aggregates.{aggregate_at}
 use Rattle.model.specs.Reference.{Slot, State, Outcome, held_flows, with_number, holds, first_cause, findings, whole, fill, perform, decide, apply}
-use Rattle.model.specs.Laws.All.{all-imp}
-use Rattle.model.specs.Laws.Figures.{carried}
-use Rattle.model.specs.Laws.Aggregates.{aggregate-perm}
-use Rattle.model.specs.Laws.Slot.{index-found, number-index, held-perm}
-use Rattle.model.specs.Laws.Reached.{StateRules, state-rules, rules-state, clear-keeps}
+use Rattle.model.proofs.Laws.All.{all-imp}
+use Rattle.model.proofs.Laws.Figures.{carried}
+use Rattle.model.proofs.Laws.Aggregates.{aggregate-perm}
+use Rattle.model.proofs.Laws.Slot.{index-found, number-index, held-perm}
+use Rattle.model.proofs.Laws.Reached.{StateRules, state-rules, rules-state, clear-keeps}
 use Rattle.queue_table.specs.View.{table_of, hop_at}
 use Rattle.bit_words.specs.View.{is_set}
 use Rattle.flow_store.specs.View.{PackedStore, slots_of, slot_of, rate_at, share_at, flow_at, entries_in, flow_in}

@@ -7,7 +7,7 @@ use mathlib.Core.Option.{Option, none, some, none-ne-some}
 use Rattle.model.specs.Orders.{Flow, register, rejected}
 use Rattle.model.specs.Reference.{State, Cause, held_flows, first_cause, whole, line_findings, room_findings, link_findings, register_findings, findings}
 use Rattle.model.specs.Outcomes.{early_findings}
-use Rattle.model.specs.Laws.Finding.{none-applies, skip-none}
+use Rattle.model.proofs.Laws.Finding.{none-applies, skip-none}
 
 first_some : (l m : List (Option Cause)) {c : Cause} → first_cause l ≡ some c → first_cause (l ++ m) ≡ some c
 unfolding first_cause

@@ -14,7 +14,7 @@ use Rattle.model.specs.Columns.{Line, ended, unended, lines}
 use Rattle.model.specs.QueueTable.{Link, Row, row, row_cause, add_row, Step, links, fault, row_step, line_step, TableText, accepted, refused, after_step, read_lines, read_table}
 use Rattle.model.specs.Reference.{State, opened}
 use Rattle.model.specs.Batch.{Batch, refused_batch, done_batch, too_long, too_short, after_table, batch}
-use Rattle.model.specs.Laws.Test.{or-neither}
+use Rattle.model.proofs.Laws.Test.{or-neither}
 
 abbrev StepCode : Step → Type 0
 StepCode (links ls) = Unit {0}

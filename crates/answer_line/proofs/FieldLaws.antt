@@ -9,8 +9,8 @@ use lib.Seq.{take_at, drop_at, drop-drop}
 use Rattle.model.specs.Columns.{justified, written_at}
 use Rattle.model.specs.Reference.{Answer}
 use Rattle.model.specs.Answers.{answer_columns, answer_line}
-use Rattle.model.specs.Laws.Answers.{justified-length, line-length}
-use Rattle.model.specs.Laws.List.{drop-set}
+use Rattle.model.proofs.Laws.Answers.{justified-length, line-length}
+use Rattle.model.proofs.Laws.List.{drop-set}
 use Rattle.columns.proofs.PartLaws.{field_next}
 
 -- A part with the columns of an answer written one after the other.

@@ -11,8 +11,8 @@ use Rattle.model.specs.Columns.{Line, lines}
 use Rattle.model.specs.Orders.{order_line}
 use Rattle.model.specs.Reference as reference
 use Rattle.model.specs.Answers.{answer_line}
-use Rattle.model.specs.Laws.Answers.{line-length}
-use Rattle.model.specs.Laws.Columns.{lines-nothing}
+use Rattle.model.proofs.Laws.Answers.{line-length}
+use Rattle.model.proofs.Laws.Columns.{lines-nothing}
 use Rattle.model.specs.Batch.{line_answers, answer_text, done_batch}
 use Rattle.admission.specs.declared.Answer.{Answer}
 use Rattle.admission.specs.View.{state_of, answer_of, ConsistentArrays, Stepped}

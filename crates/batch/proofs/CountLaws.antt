@@ -9,7 +9,7 @@ use borrow.Author.Tests.{eqb-true, eqb-false}
 use lib.ListN.{length, get_or, drop}
 use lib.Dec.{eqb}
 use Rattle.model.specs.Columns.{Line, ended, unended, prepend, lines}
-use Rattle.model.specs.Laws.Columns.{lines-ended, lines_more, lines_left, lines-nothing}
+use Rattle.model.proofs.Laws.Columns.{lines-ended, lines_more, lines_left, lines-nothing}
 
 -- A byte before a line is part of it.
 prepended-length : (b : ℕ) (l : Line) (more : List Line) → length (prepend b (l ∷ more)) ≡ length (l ∷ more)

@@ -8,17 +8,17 @@ use mathlib.Core.List.{List, [], ◌∷◌, ◌++◌, map, Permᴰ}
 use Rattle.std.proofs.lemmas.List.{length-map}
 use Rattle.model.specs.Sizes.{answer_bytes}
 use Rattle.model.specs.Part.{Part}
-use Rattle.model.specs.Laws.Part.{part-refl, perm-part, length_part}
-use Rattle.model.specs.Laws.All.{all_map}
+use Rattle.model.proofs.Laws.Part.{part-refl, perm-part, length_part}
+use Rattle.model.proofs.Laws.All.{all_map}
 use Rattle.model.specs.Columns.{Line, lines}
 use Rattle.model.specs.Orders.{Flow, register, order_line}
 use Rattle.model.specs.Reference.{State, Answer, apply, order_answers, opened, after_orders, final}
 use Rattle.model.specs.Consistent.{consistent}
 use Rattle.model.specs.Batch.{Batch, line_answers, answer_text, done_batch}
 use Rattle.model.specs.AnyOrder.{slots_from, AnyOrder}
-use Rattle.model.specs.Laws.Codes.{returned-done}
-use Rattle.model.specs.Laws.Batch.{Fits, done-fits, fits-done, part-fits, answers-counted, zeros-shown}
-use Rattle.model.specs.Results.{line-decided, line-consistent, no-frame-late, reached-consistent, any-order-lines}
+use Rattle.model.proofs.Laws.Codes.{returned-done}
+use Rattle.model.proofs.Laws.Batch.{Fits, done-fits, fits-done, part-fits, answers-counted, zeros-shown}
+use Rattle.model.proofs.Results.{line-decided, line-consistent, no-frame-late, reached-consistent, any-order-lines}
 use Rattle.batch.specs.declared.BatchResult.{BatchResult}
 use Rattle.batch.specs.View.{Batched}
 use Rattle.batch.specs.Claim.{Sound, LineByLine, end, line, Claimed, ShownAdmitted, AnsweredInTurn, InAnyOrder}

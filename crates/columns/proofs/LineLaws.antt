@@ -8,8 +8,8 @@ use native.Mathlib.Numerals.{add-one}
 use borrow.Author.Tests.{eq-eqb, ne_eqb, eqb-false}
 use lib.ListN.{length, get_or}
 use lib.Dec.{eqb}
-use Rattle.model.specs.Laws.Columns.{line_step, line-start}
-use Rattle.model.specs.Laws.Test.{or-neither}
+use Rattle.model.proofs.Laws.Columns.{line_step, line-start}
+use Rattle.model.proofs.Laws.Test.{or-neither}
 use Rattle.columns.specs.View.{lf_within, SameLine}
 
 module _ (text : List ℕ) (at : ℕ) where

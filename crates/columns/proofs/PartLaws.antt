@@ -7,7 +7,7 @@ use lib.ListN.{length, take, drop, set, length-append, length-take, length-drop,
 use lib.Seq.{length-take-le, take_all, take_at, set_at, drop-append-add, drop-drop}
 use borrow.Rule.Slice.PartMut.{put_mid}
 use Rattle.model.specs.Columns.{justified, written_at}
-use Rattle.model.specs.Laws.Columns.{next}
+use Rattle.model.proofs.Laws.Columns.{next}
 
 -- A part up to the end, written from its start, in the whole.
 pub part-written : (l : List ℕ) (s last : ℕ) (written : List ℕ) → s ≤ last → last ≤ length l

@@ -12,7 +12,7 @@ use Rattle.model.specs.Formula.{Aggregate}
 use Rattle.model.specs.QueueTable.{Table}
 use Rattle.model.specs.Aggregates as model
 use Rattle.model.specs.WithFlow.{together}
-use Rattle.model.specs.Laws.Figures.{aggregate-alone, aggregate-more}
+use Rattle.model.proofs.Laws.Figures.{aggregate-alone, aggregate-more}
 use Rattle.queue_table.specs.View.{table_of, hop_at, AllQueues}
 use Rattle.figures.specs.View.{figure_numbers, figure_at, growth_at, LimitedShare, Below, figure_stored, FlowOf, PathAdded, Figures}
 use Rattle.figures.proofs.FigureLaws.{at_most, stored-length, stored_here, stored_other, stored_more}

@@ -12,7 +12,7 @@ use lib.Seq.{take-suc, split_at}
 use Rattle.model.specs.Words.{All}
 use Rattle.model.specs.Sizes.{queues_most}
 use Rattle.model.specs.Total.{total}
-use Rattle.model.specs.Laws.Total.{total-append}
+use Rattle.model.proofs.Laws.Total.{total-append}
 use Rattle.model.specs.Formula.{Aggregate}
 use Rattle.model.specs.QueueTable.{Table}
 use Rattle.model.specs.Orders.{Hop, Flow}
@@ -20,9 +20,9 @@ use Rattle.model.specs.Aggregates as model
 use Rattle.model.specs.WithFlow.{together}
 use Rattle.model.specs.Schedulable.{Named}
 use Rattle.model.specs.Reference.{Cause, cause_at, link_findings, first_cause}
-use Rattle.model.specs.Laws.Aggregates.{growth_sum}
-use Rattle.model.specs.Laws.All.{all-imp, map-all, all_get_d}
-use Rattle.model.specs.Laws.Figures.{Crossed, crossed}
+use Rattle.model.proofs.Laws.Aggregates.{growth_sum}
+use Rattle.model.proofs.Laws.All.{all-imp, map-all, all_get_d}
+use Rattle.model.proofs.Laws.Figures.{Crossed, crossed}
 use Rattle.queue_table.specs.View.{link_in, level_in, queue_at, table_of, hop_at, is_queue, WellFormed}
 use Rattle.queue_table.proofs.EntryLaws.{queue-named}
 use Rattle.link_check.proofs.Laws.{mapped_next, mapped_end}

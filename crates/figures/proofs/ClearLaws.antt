@@ -10,7 +10,7 @@ use lib.Seq.{get_or-set_same, get_or-set_other}
 use Rattle.model.specs.Total.{total, largest}
 use Rattle.model.specs.QueueTable.{Table}
 use Rattle.model.specs.Aggregates.{all_shares, shares_at, aggregate_at}
-use Rattle.model.specs.Laws.List.{before-next}
+use Rattle.model.proofs.Laws.List.{before-next}
 use Rattle.figures.specs.View.{own_numbers, burst_position, frame_position, figure_numbers, figure_at, Below, Figures}
 
 -- What stands before position i is 0.

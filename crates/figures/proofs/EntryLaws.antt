@@ -8,17 +8,17 @@ use native.Mathlib.Nat.{div-add-mod, mul-le-mul}
 use native.Mathlib.Omega.{arith}
 use lib.Arith.{digits_div, digits_mod}
 use lib.ListN.{length, get_or, drop}
-use Rattle.model.specs.Laws.All.{all_get_d}
+use Rattle.model.proofs.Laws.All.{all_get_d}
 use Rattle.model.specs.Sizes.{levels_most, queues_most, thresholds_most}
 use Rattle.model.specs.Formula.{Aggregate, hop_growth, burst_at_hop}
-use Rattle.model.specs.Laws.Formula.{ceil_div-le}
+use Rattle.model.proofs.Laws.Formula.{ceil_div-le}
 use Rattle.model.specs.QueueTable.{Table}
 use Rattle.model.specs.Aggregates as model
 use Rattle.model.specs.Aggregates.{shares_at}
 use Rattle.model.specs.WithFlow.{together}
 use Rattle.model.specs.Orders.{Hop, Flow}
-use Rattle.model.specs.Laws.Aggregates.{same-hop, hop-same}
-use Rattle.model.specs.Laws.Figures.{shares-nothing, shares-other, shares-here, aggregate-alone, aggregate-more}
+use Rattle.model.proofs.Laws.Aggregates.{same-hop, hop-same}
+use Rattle.model.proofs.Laws.Figures.{shares-nothing, shares-other, shares-here, aggregate-alone, aggregate-more}
 use Rattle.units.specs.View.{AtSource}
 use Rattle.queue_table.specs.View.{entry_at, link_in, speed_at, table_of, hop_at, is_queue, AllQueues}
 use Rattle.figures.specs.View.{growth_at, LimitedShare, Hops, Speeds, FlowOf}

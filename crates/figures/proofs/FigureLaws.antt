@@ -9,7 +9,7 @@ use lib.ListN.{length, get_or, set, length-set}
 use lib.Seq.{get_or-set_same, get_or-set_other, set-get_or, ext_get_or}
 use Rattle.model.specs.Sizes.{queues_most}
 use Rattle.model.specs.Formula.{Aggregate}
-use Rattle.model.specs.Laws.Formula.{AtMost}
+use Rattle.model.proofs.Laws.Formula.{AtMost}
 use Rattle.model.specs.QueueTable.{Table}
 use Rattle.model.specs.Orders.{Flow}
 use Rattle.model.specs.WithFlow.{together}

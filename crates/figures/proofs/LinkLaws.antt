@@ -21,9 +21,9 @@ use Rattle.model.specs.WithFlow.{no_flow, together}
 use Rattle.model.specs.LinkCheck.{Finding, link_finding}
 use Rattle.model.specs.Schedulable.{Named, LinkMeets}
 use Rattle.model.specs.Reference.{link_cause, cause_at}
-use Rattle.model.specs.Laws.Aggregates.{growth_sum}
-use Rattle.model.specs.Laws.LinkSteps.{padding}
-use Rattle.model.specs.Laws.Figures.{Crossed, counted, shares-nothing, levels-more, levels-append, levels-length, levels-empty, aggregate-unnamed}
+use Rattle.model.proofs.Laws.Aggregates.{growth_sum}
+use Rattle.model.proofs.Laws.LinkSteps.{padding}
+use Rattle.model.proofs.Laws.Figures.{Crossed, counted, shares-nothing, levels-more, levels-append, levels-length, levels-empty, aggregate-unnamed}
 use Rattle.queue_table.specs.View.{up_to, entry_at, link_in, level_in, link_count, speed_at, best_effort_at, levels_at, queue_at, link_at, table_of, hop_at, is_queue, WellFormed}
 use Rattle.queue_table.proofs.ViewLaws.{length_up, up_same}
 use Rattle.queue_table.proofs.LookupLaws.{link-found, link-missing, queue-no-level}

@@ -7,7 +7,7 @@ use native.Mathlib.Numerals.{add-one}
 use lib.ListN.{length, set, take}
 use lib.Seq.{take-suc-set}
 use Rattle.model.specs.Words.{All}
-use Rattle.model.specs.Laws.All.{all_append}
+use Rattle.model.proofs.Laws.All.{all_append}
 use Rattle.queue_table.specs.View.{up_to}
 
 module _ {A : Type 0} {B : Type 0} (f : A → B) where

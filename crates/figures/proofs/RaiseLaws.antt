@@ -15,8 +15,8 @@ use Rattle.model.specs.Formula.{Aggregate}
 use Rattle.model.specs.QueueTable.{Table}
 use Rattle.model.specs.Aggregates as model
 use Rattle.model.specs.Aggregates.{shares_at}
-use Rattle.model.specs.Laws.Aggregates.{hop-same}
-use Rattle.model.specs.Laws.Figures.{aggregate-alone}
+use Rattle.model.proofs.Laws.Aggregates.{hop-same}
+use Rattle.model.proofs.Laws.Figures.{aggregate-alone}
 use Rattle.queue_table.specs.View.{hop_at}
 use Rattle.figures.specs.View.{own_numbers, burst_position, frame_position, figure_numbers, figure_at, raised, FrameRaised}
 use Rattle.figures.proofs.EntryLaws.{other-entry}

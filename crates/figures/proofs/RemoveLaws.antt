@@ -15,8 +15,8 @@ use Rattle.model.specs.Formula.{Aggregate}
 use Rattle.model.specs.QueueTable.{Table}
 use Rattle.model.specs.Aggregates as model
 use Rattle.model.specs.WithFlow.{together}
-use Rattle.model.specs.Laws.All.{all_get_d}
-use Rattle.model.specs.Laws.Figures.{shares-carried}
+use Rattle.model.proofs.Laws.All.{all_get_d}
+use Rattle.model.proofs.Laws.Figures.{shares-carried}
 use Rattle.queue_table.specs.View.{table_of, hop_at, AllQueues}
 use Rattle.figures.specs.View.{own_numbers, burst_position, frame_position, figure_numbers, figure_at, growth_at, figure_stored, FlowOf, Figures, PathCounted, Carried, FrameLeft, no_flow, unknown, another, HopRemoved, Once, PathRemoved, Near}
 use Rattle.figures.proofs.FigureLaws.{stored-length, stored_here, stored_other, frame-stored, frame-kept}

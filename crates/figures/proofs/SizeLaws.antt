@@ -14,9 +14,9 @@ use Rattle.model.specs.Sizes.{links_most, levels_most, queues_most}
 use Rattle.model.specs.Total.{total}
 use Rattle.model.specs.Formula.{Aggregate}
 use Rattle.model.specs.WithFlow.{together}
-use Rattle.model.specs.Laws.Formula.{AtMost}
-use Rattle.model.specs.Laws.Total.{total-le, largest-le}
-use Rattle.model.specs.Laws.All.{all_append}
+use Rattle.model.proofs.Laws.Formula.{AtMost}
+use Rattle.model.proofs.Laws.Total.{total-le, largest-le}
+use Rattle.model.proofs.Laws.All.{all_append}
 use Rattle.queue_table.specs.View.{up_to, entry_at, link_in, level_in}
 use Rattle.queue_table.proofs.ViewLaws.{length_up}
 use Rattle.figures.specs.View.{own_numbers, figure_numbers, figure_at, level_figures, levels_with, Summable, Below, LimitedShare, LimitedLevel, Limited}

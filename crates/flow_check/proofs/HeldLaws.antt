@@ -11,13 +11,13 @@ use borrow.Author.Tests.{ltb-true, ltb-false, eqb-true, eq-eqb, leb-true, le-leb
 use lib.ListN.{length, get_or, get_or-eq_default}
 use lib.Dec.{leb, ltb, eqb}
 use Rattle.model.specs.Words.{All, every, first_index}
-use Rattle.model.specs.Laws.Slot.{held_at}
+use Rattle.model.proofs.Laws.Slot.{held_at}
 use Rattle.model.specs.Total.{total}
 use Rattle.model.specs.Orders.{Flow}
 use Rattle.model.specs.QueueTable.{Table}
 use Rattle.model.specs.Reference.{Slot, held_flows, with_number, holds}
 use Rattle.model.specs.Consistent.{flow_in_range}
-use Rattle.model.specs.Laws.Test.{and_both, both-and, every-all, all-every}
+use Rattle.model.proofs.Laws.Test.{and_both, both-and, every-all, all-every}
 use Rattle.flow_check.specs.View.{flow_alone, slot_alone}
 
 module _ (n : ℕ) where

@@ -11,7 +11,7 @@ use lib.Dec.{ltb, eqb}
 use Rattle.model.specs.Words.{first_index}
 use Rattle.model.specs.Sizes.{number_most}
 use Rattle.model.specs.Reference.{Slot, holds}
-use Rattle.model.specs.Laws.Slot.{index-found, index-first}
+use Rattle.model.proofs.Laws.Slot.{index-found, index-first}
 use Rattle.bit_words.specs.View.{is_set, BitChanged}
 use Rattle.bit_words.specs.Laws.{none-set}
 use Rattle.flow_check.specs.View.{number_words, Marked}

@@ -14,8 +14,8 @@ use Rattle.model.specs.Sizes.{number_most, hops_most, slot_count}
 use Rattle.model.specs.Columns.{between}
 use Rattle.model.specs.Orders as model
 use Rattle.model.specs.QueueTable.{Table}
-use Rattle.model.specs.Laws.Test.{both-and}
-use Rattle.model.specs.Laws.Admissible.{flow-bounds}
+use Rattle.model.proofs.Laws.Test.{both-and}
+use Rattle.model.proofs.Laws.Admissible.{flow-bounds}
 use Rattle.model.specs.Consistent.{flow_in_range, head_of}
 use Rattle.model.specs.Reference.{Cause, Slot, first_cause, whole, holds, line_findings, deadline_finding}
 use Rattle.orders.specs.declared.Flow.{Flow}

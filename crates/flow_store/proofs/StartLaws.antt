@@ -3,7 +3,7 @@
 use Rattle.std.proofs.Common.{◌≡◌, ℕ, zero, suc, ◌+◌, ◌-◌, ◌%◌, ◌^◌, ◌<◌, ◌≤◌, true, false, List, length, get_or, set, sym, refl, ap, ◌∙◌, subst, true≢false, add-one, arith, length-set, get_or-set_other, get_or-set_same, drop-set-lt}
 use native.Mathlib.Decide.{dec_lt}
 use Rattle.model.specs.Sizes.{slot_count, hop_entries}
-use Rattle.model.specs.Laws.List.{before-next}
+use Rattle.model.proofs.Laws.List.{before-next}
 use Rattle.bit_words.specs.View.{is_set}
 use Rattle.flow_store.specs.View.{slot_numbers, store_numbers, start_position, pool_of, start_at, hops_at, counts_from, Packed, StartsMoved, end_before}
 use Rattle.flow_store.proofs.PoolLaws.{pooled}

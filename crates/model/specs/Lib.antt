@@ -29,8 +29,3 @@ pub mod Timely
 pub mod Gate
 pub mod Offers
 pub mod OfferList
-pub mod WorkedRun
-pub mod WorkedBestEffort
-pub mod WorkedGate
-pub mod Laws
-pub mod Results

@@ -7,9 +7,9 @@ use borrow.Rule.Slice.PartMut.{put_mid}
 use Rattle.model.specs.Words.{and_then}
 use Rattle.model.specs.Columns.{Line, ended, unended, lines, field_at, justified, written_at, end_line}
 use Rattle.model.specs.Total.{total}
-use Rattle.model.specs.Laws.Columns.{lines-nothing}
-use Rattle.model.specs.Laws.Answers.{justified-length}
-use Rattle.model.specs.Laws.Batch.{line_bytes, lines-within}
+use Rattle.model.proofs.Laws.Columns.{lines-nothing}
+use Rattle.model.proofs.Laws.Answers.{justified-length}
+use Rattle.model.proofs.Laws.Batch.{line_bytes, lines-within}
 use Rattle.model.specs.Gate.{Gate, GateAnswer, turn, offer, open_gate}
 use Rattle.model.specs.OfferList.{Opening, Step, opening_fields, read_opening, step_fields, read_step, gate_line, step_text, steps_text, opened_text, opening_text, list_text, offers_text}
 use Rattle.columns.proofs.PartLaws.{field_next, byte_next, text-put, Filling, filling-first, filling-room, filling-put, filling-last}

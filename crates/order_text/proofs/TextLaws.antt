@@ -18,8 +18,8 @@ use Rattle.model.specs.Orders.{Hop, Head, registering, kind_number, flow_of}
 use Rattle.model.specs.Reference.{Slot, held_flows}
 use Rattle.model.specs.Consistent.{head_of}
 use Rattle.model.specs.Handover.{head_text, hop_text, flow_columns, flow_line, handover_text, Writing, refused_writing, done_writing, writing}
-use Rattle.model.specs.Laws.Answers.{justified-length}
-use Rattle.model.specs.Laws.Handover.{head-long, path-long, line-long}
+use Rattle.model.proofs.Laws.Answers.{justified-length}
+use Rattle.model.proofs.Laws.Handover.{head-long, path-long, line-long}
 use Rattle.columns.proofs.PartLaws.{field_next, byte_next, text-put, Filling, filling-room, filling-put}
 use Rattle.bit_words.specs.View.{is_set}
 use Rattle.queue_table.specs.View.{hop_at}

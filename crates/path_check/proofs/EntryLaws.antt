@@ -13,10 +13,10 @@ use Rattle.model.specs.Words.{every, is_none}
 use Rattle.model.specs.Sizes.{links_most, levels_most, queues_most}
 use Rattle.model.specs.Orders.{Hop}
 use Rattle.model.specs.Total.{total}
-use Rattle.model.specs.Laws.All.{all_get_d}
+use Rattle.model.proofs.Laws.All.{all_get_d}
 use Rattle.model.specs.Aggregates as model
 use Rattle.model.specs.Reference.{at_hop, start, end, no_queue, crosses, starts_elsewhere, path_delay}
-use Rattle.model.specs.Laws.Test.{both-and, every-all}
+use Rattle.model.proofs.Laws.Test.{both-and, every-all}
 use Rattle.queue_table.specs.View.{table_of, link_count, from_at, to_at, levels_at, link_at, entry_at, link_in, level_in, hop_at, is_queue, AllQueues}
 use Rattle.path_check.specs.View.{delay_at}
 use Rattle.queue_table.proofs.LookupLaws.{link-found, queue-found, queue-no-link, queue-no-level, queue-link-zero, queue-level-zero}

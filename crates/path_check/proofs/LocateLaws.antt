@@ -12,10 +12,10 @@ use lib.Seq.{take-suc, take-suc-set}
 use Rattle.model.specs.Words.{is_none}
 use Rattle.model.specs.Sizes.{hops_most}
 use Rattle.model.specs.Orders.{Hop}
-use Rattle.model.specs.Laws.All.{all_append}
+use Rattle.model.proofs.Laws.All.{all_append}
 use Rattle.model.specs.Aggregates as model
 use Rattle.model.specs.Reference.{at_hop, no_queue}
-use Rattle.model.specs.Laws.Path.{search_from, search-on}
+use Rattle.model.proofs.Laws.Path.{search_from, search-on}
 use Rattle.orders.specs.View.{hop_numbers, hops_in, hop_in, line_path}
 use Rattle.orders.proofs.PathLaws.{hops-long, hops-at}
 use Rattle.queue_table.specs.View.{table_of, hop_at, is_queue, AllQueues}

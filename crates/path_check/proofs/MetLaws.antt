@@ -12,8 +12,8 @@ use lib.ListN.{length, get_or}
 use lib.Dec.{eqb}
 use Rattle.model.specs.Words.{All}
 use Rattle.model.specs.Sizes.{queues_most}
-use Rattle.model.specs.Laws.All.{all_get_d}
-use Rattle.model.specs.Laws.Path.{search_from}
+use Rattle.model.proofs.Laws.All.{all_get_d}
+use Rattle.model.proofs.Laws.Path.{search_from}
 use Rattle.model.specs.Reference.{at_hop, crosses, met_earlier}
 use Rattle.bit_words.specs.View.{bit, word_bits}
 use Rattle.bit_words.proofs.BitLaws.{or-own, or-other}

@@ -10,10 +10,10 @@ use lib.ListN.{length, get_or, take, length-map, get_or-map}
 use lib.Seq.{get_or-take, length-take-le}
 use lib.Dec.{eqb}
 use Rattle.model.specs.Sizes.{hops_most}
-use Rattle.model.specs.Laws.All.{all_get_d}
+use Rattle.model.proofs.Laws.All.{all_get_d}
 use Rattle.model.specs.Orders.{Hop}
 use Rattle.model.specs.Reference.{crosses, starts_elsewhere}
-use Rattle.model.specs.Laws.Path.{reverse-take, search_from, search-on, search-found, search-ended}
+use Rattle.model.proofs.Laws.Path.{reverse-take, search_from, search-on, search-found, search-ended}
 use Rattle.orders.specs.View.{hop_numbers, hops_in, hop_in, line_path}
 use Rattle.orders.proofs.PathLaws.{hops-long, hops-at}
 use Rattle.queue_table.specs.View.{table_of, from_at, to_at, link_in, level_in, hop_at, is_queue, AllQueues}

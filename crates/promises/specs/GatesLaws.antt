@@ -14,8 +14,8 @@ use Rattle.model.specs.Codes.{gate_open_codes, gate_offer_codes}
 use Rattle.model.specs.Gate as model
 use Rattle.model.specs.Gate.{gate_in_range, length_in_range, no_gate, full_gate, open_gate}
 use Rattle.model.specs.Offers.{Offer, reading_at, answer_to, offer_codes, after_offers, passed, NotRefused, flow_gate, frames_at, BehindGates}
-use Rattle.model.specs.Laws.Gate as gate
-use Rattle.model.specs.Results.{gates-conform}
+use Rattle.model.proofs.Laws.Gate as gate
+use Rattle.model.proofs.Results.{gates-conform}
 use Rattle.admission.specs.declared.Answer.{Answer}
 use Rattle.registry.specs.declared.Registry.{Registry}
 use Rattle.registry.specs.declared.Opened.{Opened}

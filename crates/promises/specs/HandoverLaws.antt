@@ -21,12 +21,12 @@ use Rattle.model.specs.WholeThresholds as before-growth
 use Rattle.model.specs.Batch.{Batch, line_answers, answer_text, done_batch, too_long}
 use Rattle.model.specs.AnyOrder.{slots_from, in_turn}
 use Rattle.model.specs.Handover.{flow_columns, flow_line, handover_text, Writing, refused_writing, done_writing, writing, HandsOver}
-use Rattle.model.specs.Laws.Test.{or-neither}
-use Rattle.model.specs.Laws.Consistent.{rules-flows}
-use Rattle.model.specs.Laws.Reached.{state-rules}
-use Rattle.model.specs.Laws.Batch.{Fits, fits-done}
-use Rattle.model.specs.Laws.Handover.{text-long, text-lines, writing-short, writing-done}
-use Rattle.model.specs.Results.{handover-state, handover-most, handover-whole, handover-call}
+use Rattle.model.proofs.Laws.Test.{or-neither}
+use Rattle.model.proofs.Laws.Consistent.{rules-flows}
+use Rattle.model.proofs.Laws.Reached.{state-rules}
+use Rattle.model.proofs.Laws.Batch.{Fits, fits-done}
+use Rattle.model.proofs.Laws.Handover.{text-long, text-lines, writing-short, writing-done}
+use Rattle.model.proofs.Results.{handover-state, handover-most, handover-whole, handover-call}
 use Rattle.queue_table.specs.View.{table_of, hop_at}
 use Rattle.figures.specs.View.{figure_at}
 use Rattle.admission.specs.declared.Answer.{Answer}

@@ -12,10 +12,10 @@ use Rattle.model.specs.Reference.{State, Answer, Call, call_order, apply, order_
 use Rattle.model.specs.Consistent.{consistent}
 use Rattle.model.specs.Codes.{call_codes, Listed, TextListed, BatchListed}
 use Rattle.model.specs.Batch.{Batch, line_answers}
-use Rattle.model.specs.Results as results
-use Rattle.model.specs.Results.{line-listed, line-consistent, text-listed, reached-consistent}
-use Rattle.model.specs.Laws.Decided.{listed-code}
-use Rattle.model.specs.Laws.Codes.{text-code, batch-code}
+use Rattle.model.proofs.Results as results
+use Rattle.model.proofs.Results.{line-listed, line-consistent, text-listed, reached-consistent}
+use Rattle.model.proofs.Laws.Decided.{listed-code}
+use Rattle.model.proofs.Laws.Codes.{text-code, batch-code}
 use Rattle.queue_table.specs.View.{table_of, text_of}
 use Rattle.admission.specs.View.{answer_of}
 use Rattle.batch.specs.declared.BatchResult.{BatchResult}

@@ -13,7 +13,7 @@ use Rattle.model.specs.Sizes.{links_most, levels_most}
 use Rattle.model.specs.Columns.{between}
 use Rattle.model.specs.QueueTable.{row_in_range}
 use Rattle.model.specs.Consistent.{row_of, link_consistent, table_consistent}
-use Rattle.model.specs.Laws.Test.{every_append}
+use Rattle.model.proofs.Laws.Test.{every_append}
 use Rattle.queue_table.specs.View.{up_to, queue_at, link_count, from_at, to_at, levels_at, link_at, table_of}
 use Rattle.queue_table.proofs.ViewLaws.{length_up}
 

@@ -11,7 +11,7 @@ use lib.Dec.{ltb}
 use borrow.Author.Tests.{ltb-true}
 use Rattle.model.specs.Sizes.{links_most, levels_most, queues_most}
 use Rattle.model.specs.Aggregates as model
-use Rattle.model.specs.Laws.Test.{and_both}
+use Rattle.model.proofs.Laws.Test.{and_both}
 use Rattle.queue_table.specs.View.{entry_at, link_in, level_in, queue_at, link_count, levels_at, speed_at, fixed_delay_at, threshold_at, link_at, table_of, hop_at, is_queue}
 use Rattle.queue_table.proofs.LookupLaws.{link-found, queue-found}
 

@@ -12,8 +12,8 @@ use lib.Dec.{eqb}
 use Rattle.model.specs.Sizes.{links_most, levels_most}
 use Rattle.model.specs.Columns.{Line, ended, unended}
 use Rattle.model.specs.QueueTable as model
-use Rattle.model.specs.Laws.Test.{and_both, or_left, or_right}
-use Rattle.model.specs.Laws.Table.{RowRules, row-rules, row-turn}
+use Rattle.model.proofs.Laws.Test.{and_both, or_left, or_right}
+use Rattle.model.proofs.Laws.Table.{RowRules, row-rules, row-turn}
 use Rattle.queue_table.specs.declared.Fault.{Fault}
 use Rattle.queue_table.specs.declared.Fault.TheVariants.{Malformed, OutOfRange, OutOfTurn, Disagrees, TooLong}
 use Rattle.queue_table.specs.declared.Judgement.{Judgement}

@@ -8,7 +8,7 @@ use lib.ListN.{length, drop, replicate, length-replicate}
 use Rattle.model.specs.QueueTable.{Table, read_table, accepted}
 use Rattle.model.specs.Reference as model
 use Rattle.model.specs.Reference.{State, Call, call_order, step, opened, after_orders, final}
-use Rattle.model.specs.Laws.Reference.{same-table}
+use Rattle.model.proofs.Laws.Reference.{same-table}
 use Rattle.queue_table.specs.declared.Verdict.{Verdict}
 use Rattle.queue_table.specs.declared.Verdict.TheVariants.{Accepted, Refused}
 use Rattle.queue_table.specs.View.{table_of, text_of}

@@ -9,8 +9,8 @@ use lib.ListN.{length, take, drop, length-append, length-drop, drop_of_length-le
 use lib.Seq.{take_all, length-take-le, drop-drop, take_at, drop_at, append_snoc}
 use borrow.Rule.Slice.PartMut.{put_mid}
 use Rattle.model.specs.Answers.{answer_columns}
-use Rattle.model.specs.Laws.Answers.{columns-length}
-use Rattle.model.specs.Laws.Total.{total-append}
+use Rattle.model.proofs.Laws.Answers.{columns-length}
+use Rattle.model.proofs.Laws.Total.{total-append}
 use Rattle.model.specs.Total.{total}
 use Rattle.model.specs.Reference as model
 use Rattle.model.specs.Reference.{Call}

@@ -15,7 +15,7 @@ use Rattle.model.specs.QueueTable.{Table}
 use Rattle.model.specs.Aggregates.{all_shares, shares_at, aggregate_at}
 use Rattle.model.specs.Reference.{Slot, held_flows}
 use Rattle.model.specs.WithFlow.{together}
-use Rattle.model.specs.Laws.Figures.{aggregate-more}
+use Rattle.model.proofs.Laws.Figures.{aggregate-more}
 use Rattle.queue_table.specs.View.{hop_at}
 use Rattle.bit_words.specs.View.{is_set}
 use Rattle.flow_store.specs.View.{frame_at, flow_at, slot_of, slot_in, slots_from, slots_of, entries_in, flow_in}

@@ -16,15 +16,15 @@ use Rattle.model.specs.Orders.{Hop, Flow}
 use Rattle.model.specs.Schedulable.{Named, LinkMeets}
 use Rattle.model.specs.Reference.{held_flows, with_number, line_findings, deadline_finding}
 use Rattle.model.specs.Consistent.{flow_in_range, table_consistent, link_consistent}
-use Rattle.model.specs.Laws.Test.{and_both, every-all}
-use Rattle.model.specs.Laws.All.{append-all, all-imp, member-all}
-use Rattle.model.specs.Laws.Columns.{between-true}
-use Rattle.model.specs.Laws.Finding.{none-applies, is-none}
-use Rattle.model.specs.Laws.Slot.{held-length}
-use Rattle.model.specs.Laws.Consistent.{FlowRules}
-use Rattle.model.specs.Laws.Reached.{StateRules, rules-state}
-use Rattle.model.specs.Laws.Schedulable.{link-bounds, named}
-use Rattle.model.specs.Laws.Bounds.{speed-below}
+use Rattle.model.proofs.Laws.Test.{and_both, every-all}
+use Rattle.model.proofs.Laws.All.{append-all, all-imp, member-all}
+use Rattle.model.proofs.Laws.Columns.{between-true}
+use Rattle.model.proofs.Laws.Finding.{none-applies, is-none}
+use Rattle.model.proofs.Laws.Slot.{held-length}
+use Rattle.model.proofs.Laws.Consistent.{FlowRules}
+use Rattle.model.proofs.Laws.Reached.{StateRules, rules-state}
+use Rattle.model.proofs.Laws.Schedulable.{link-bounds, named}
+use Rattle.model.proofs.Laws.Bounds.{speed-below}
 use Rattle.queue_table.specs.View.{table_numbers, link_count, WellFormed, table_of, link_at, levels_at, queue_at}
 use Rattle.queue_table.proofs.ViewLaws.{length_up}
 use Rattle.queue_table.proofs.LookupLaws.{link-found}

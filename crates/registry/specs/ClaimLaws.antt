@@ -8,10 +8,10 @@ use Rattle.model.specs.Aggregates.{aggregate_at}
 use Rattle.model.specs.Reference as model
 use Rattle.model.specs.Reference.{State, Call, held_flows, call_order, opened, final}
 use Rattle.model.specs.Outcomes.{NoRoom, Full}
-use Rattle.model.specs.Laws.Reference.{never-spoilt}
+use Rattle.model.proofs.Laws.Reference.{never-spoilt}
 use Rattle.model.specs.AnyOrder.{AllAdmitted, HeldInTurn, SameFlows, InTurn, AnyOrder}
-use Rattle.model.specs.Results as results
-use Rattle.model.specs.Results.{reached-consistent, reached-timely, room-exactly}
+use Rattle.model.proofs.Results as results
+use Rattle.model.proofs.Results.{reached-consistent, reached-timely, room-exactly}
 use Rattle.queue_table.specs.View.{hop_at}
 use Rattle.figures.specs.View.{figure_at}
 use Rattle.admission.specs.declared.Answer.{Answer}

@@ -5,7 +5,7 @@ use Rattle.std.proofs.Common.{ap, sym, subst, ◌∙◌}
 use Rattle.model.specs.Aggregates.{aggregate_at}
 use Rattle.model.specs.Reference.{State, Call, held_flows, call_order, step}
 use Rattle.model.specs.Outcomes.{Decided}
-use Rattle.model.specs.Results.{call-decided}
+use Rattle.model.proofs.Results.{call-decided}
 use Rattle.queue_table.specs.View.{hop_at}
 use Rattle.registry.specs.declared.Registry.{Registry}
 use Rattle.registry.specs.declared.Called.{Called}

@@ -7,7 +7,7 @@ use Rattle.model.specs.Gate as model-gate
 use Rattle.model.specs.Gate.{gate_in_range}
 use Rattle.model.specs.Offers as model
 use Rattle.model.specs.Offers.{Offer, answer_to, offer_codes, after_offers, passed, stored, NotRefused, last_time, WithinTurns, frames_at}
-use Rattle.model.specs.Results.{gate-conforms, gate-keeps, gate-passes-first, gate-passes-again, gate-passes-since}
+use Rattle.model.proofs.Results.{gate-conforms, gate-keeps, gate-passes-first, gate-passes-again, gate-passes-since}
 use Rattle.sender_gate.specs.declared.Gate.{Gate}
 use Rattle.sender_gate.specs.declared.GateAnswer.{GateAnswer}
 use Rattle.sender_gate.specs.View.{gate_of}

@@ -7,7 +7,7 @@ use native.Mathlib.Omega.{arith}
 use lib.Dec.{leb}
 use borrow.Author.Tests.{leb-true, leb-false, le-leb, lt-leb}
 use Rattle.model.specs.Formula.{delay_bound, backlog_bound}
-use Rattle.model.specs.Laws.Formula.{ceil_div-le, le-ceil_div}
+use Rattle.model.proofs.Laws.Formula.{ceil_div-le, le-ceil_div}
 
 -- Two comparisons of which each says the other.
 same-order : (a b c d : ℕ) → (a ≤ b → c ≤ d) → (c ≤ d → a ≤ b) → leb a b ≡ leb c d

@@ -12,8 +12,8 @@ use Rattle.columns.specs.declared.NextLine.{NextLine}
 use Rattle.columns.specs.declared.NextLine.TheVariants.{Ended}
 use Rattle.model.specs.Columns.{Line, ended, unended}
 use Rattle.model.specs.Orders as model
-use Rattle.model.specs.Laws.Columns.{lines-nothing}
-use Rattle.model.specs.Laws.Order.{Ranged, line-ranged}
+use Rattle.model.proofs.Laws.Columns.{lines-nothing}
+use Rattle.model.proofs.Laws.Order.{Ranged, line-ranged}
 use Rattle.orders.specs.View.{hop_numbers}
 use Rattle.causes.specs.declared.Cause.TheVariants.{Malformed}
 use Rattle.admission.specs.declared.Answer.TheVariants.{Refused}

@@ -7,7 +7,7 @@ use mathlib.Core.List.{List}
 use native.Mathlib.Omega.{arith}
 use lib.ListN.{length, drop}
 use Rattle.model.specs.Columns.{lines}
-use Rattle.model.specs.Laws.Columns.{lines-nothing}
+use Rattle.model.proofs.Laws.Columns.{lines-nothing}
 use Rattle.batch.proofs.count_lines.Statement.{statement}
 use Rattle.batch.proofs.count_lines.Tie as tie
 

@@ -2,7 +2,7 @@
 use Prim.Native.Nat.{◌-◌}
 use mathlib.Core.Path.{◌∙◌}
 use native.Mathlib.Omega.{arith}
-use Rattle.model.specs.Laws.Columns.{line-ended, line-unended}
+use Rattle.model.proofs.Laws.Columns.{line-ended, line-unended}
 use Rattle.columns.proofs.LineLaws.{line_on}
 use Rattle.columns.proofs.next_line.Goals as goal
 

@@ -7,7 +7,7 @@ use native.Mathlib.Numerals.{add-one}
 use lib.ListN.{drop_of_length-le}
 use lib.Dec.{lit≤}
 use Rattle.model.specs.Columns.{digits}
-use Rattle.model.specs.Laws.Columns.{digits_more, digits_low, digits-high}
+use Rattle.model.proofs.Laws.Columns.{digits_more, digits_low, digits-high}
 use Rattle.columns.proofs.read_digits.Goals as goal
 use Rattle.columns.proofs.read_digits.Tie as tie
 use Rattle.columns.proofs.read_digits.Lts as lts

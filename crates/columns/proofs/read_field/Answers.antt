@@ -5,7 +5,7 @@ use native.Mathlib.Omega.{arith}
 use lib.ListN.{length, get_or, take, drop, length-drop, drop_of_length-le}
 use lib.Seq.{take_all}
 use Rattle.model.specs.Columns.{field, number, digits, is_digit}
-use Rattle.model.specs.Laws.Columns.{field-other, number-zero-led, number-other}
+use Rattle.model.proofs.Laws.Columns.{field-other, number-zero-led, number-other}
 use Rattle.columns.proofs.read_field.Goals as goal
 use Rattle.columns.proofs.read_field.Tie as tie
 use Rattle.columns.proofs.read_field.Lts as lts

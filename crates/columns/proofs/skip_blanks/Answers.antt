@@ -2,7 +2,7 @@
 use Prim.Native.Nat.{◌-◌}
 use mathlib.Core.Path.{refl, ◌∙◌}
 use native.Mathlib.Omega.{arith}
-use Rattle.model.specs.Laws.Columns.{field-blank}
+use Rattle.model.proofs.Laws.Columns.{field-blank}
 use Rattle.columns.proofs.skip_blanks.Goals as goal
 
 pub loop-i-init : goal.loop-i-init

@@ -5,7 +5,7 @@ use mathlib.Core.List.{List, [], ◌∷◌, ◌++◌, append_assoc}
 use native.Mathlib.Omega.{arith}
 use lib.ListN.{length, drop, set, length-set}
 use Rattle.model.specs.Columns.{justified, written_at, end_line}
-use Rattle.model.specs.Laws.Answers.{justified-length}
+use Rattle.model.proofs.Laws.Answers.{justified-length}
 use Rattle.columns.proofs.PartLaws.{field_next, byte_next}
 use Rattle.columns.proofs.write_end.Goals as goal
 

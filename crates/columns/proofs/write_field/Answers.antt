@@ -3,7 +3,7 @@ use Prim.Native.Nat.{◌-◌}
 use mathlib.Core.Path.{◌≡◌, refl, sym, ◌∙◌}
 use native.Mathlib.Omega.{arith}
 use lib.ListN.{length, length-set}
-use Rattle.model.specs.Laws.Columns.{padded-step, padded-done, justified-step}
+use Rattle.model.proofs.Laws.Columns.{padded-step, padded-done, justified-step}
 use Rattle.columns.proofs.write_field.Goals as goal
 use Rattle.columns.proofs.write_field.Tie as tie
 use Rattle.columns.proofs.write_field.Lts as lts

@@ -8,7 +8,7 @@ use mathlib.Core.List.{List}
 use mathlib.Core.Logic.{◌↔◌}
 use native.Mathlib.Omega.{arith}
 use Rattle.model.specs.Sizes.{queues_most}
-use Rattle.model.specs.Laws.List.{before-next}
+use Rattle.model.proofs.Laws.List.{before-next}
 use Rattle.model.specs.Formula as model
 use Rattle.units.specs.View.{aggregate_of}
 use Rattle.figures.specs.View.{figure_at, Limited}

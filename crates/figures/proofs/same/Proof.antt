@@ -8,7 +8,7 @@ use mathlib.Core.List.{List}
 use native.Mathlib.Omega.{arith}
 use lib.ListN.{get_or}
 use lib.Seq.{ext_get_or}
-use Rattle.model.specs.Laws.List.{before-next}
+use Rattle.model.proofs.Laws.List.{before-next}
 use Rattle.figures.specs.View.{figure_numbers}
 use Rattle.figures.proofs.same.Statement.{statement}
 use Rattle.figures.proofs.same.Tie as tie

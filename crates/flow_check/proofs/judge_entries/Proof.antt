@@ -6,7 +6,7 @@ use mathlib.Core.List.{[], map}
 use mathlib.Core.Option.{none}
 use borrow.Author.Tests.{lt-ltb, le-ltb}
 use Rattle.model.specs.Reference.{first_cause, at_hop, met_earlier, starts_elsewhere, whole}
-use Rattle.model.specs.Laws.All.{all-imp}
+use Rattle.model.proofs.Laws.All.{all-imp}
 use Rattle.queue_table.specs.View.{table_of, hop_at}
 use Rattle.queue_table.proofs.EntryLaws.{queue-low}
 use Rattle.path_check.proofs.SearchLaws.{entry-cause, entry-none}

@@ -10,7 +10,7 @@ use Rattle.model.specs.Words.{first_index}
 use Rattle.model.specs.Sizes.{slot_count}
 use Rattle.model.specs.Orders.{flow_of}
 use Rattle.model.specs.Reference.{State, with_number, held_flows, holds}
-use Rattle.model.specs.Laws.Slot.{number-index}
+use Rattle.model.proofs.Laws.Slot.{number-index}
 use Rattle.flow_store.specs.View.{slots_of}
 use Rattle.flow_store.specs.Laws.{length-slots}
 use Rattle.queue_table.specs.View.{table_of}

@@ -13,7 +13,7 @@ use Rattle.model.specs.Sizes.{hops_most}
 use Rattle.model.specs.Orders.{Hop}
 use Rattle.model.specs.QueueTable.{Table}
 use Rattle.model.specs.Reference.{first_cause, at_hop, met_earlier}
-use Rattle.model.specs.Laws.Finding.{none-applies}
+use Rattle.model.proofs.Laws.Finding.{none-applies}
 use Rattle.queue_table.specs.View.{table_of}
 use Rattle.path_check.proofs.SearchLaws.{line-cause, line-none}
 use Rattle.flow_check.specs.View.{entry_findings}

@@ -11,7 +11,7 @@ use lib.Dec.{ltb}
 use Rattle.model.specs.Words.{every, first_index, is_none}
 use Rattle.model.specs.Sizes.{slot_count}
 use Rattle.model.specs.Reference.{Slot, is_held}
-use Rattle.model.specs.Laws.Slot.{held-index}
+use Rattle.model.proofs.Laws.Slot.{held-index}
 use Rattle.flow_store.specs.View.{slots_of}
 use Rattle.flow_store.specs.Laws.{length-slots}
 use Rattle.flow_store.proofs.ViewLaws.{held-hops}

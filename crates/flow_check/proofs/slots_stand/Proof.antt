@@ -11,7 +11,7 @@ use borrow.Author.Tests.{not-true, not-false}
 use lib.ListN.{get_or}
 use Rattle.model.specs.Sizes.{slot_count}
 use Rattle.model.specs.Reference.{Slot}
-use Rattle.model.specs.Laws.List.{before-next}
+use Rattle.model.proofs.Laws.List.{before-next}
 use Rattle.queue_table.specs.View.{table_of}
 use Rattle.flow_store.specs.View.{slots_of}
 use Rattle.flow_store.specs.Laws.{length-slots}

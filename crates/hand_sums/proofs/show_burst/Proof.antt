@@ -3,7 +3,7 @@
 use Prim.Native.Nat.{◌+◌, ◌≤◌}
 use native.Mathlib.Omega.{arith}
 use borrow.Author.Rules.{rules}
-use Rattle.model.specs.Laws.Formula.{growth-most}
+use Rattle.model.proofs.Laws.Formula.{growth-most}
 use Rattle.hand_sums.proofs.show_burst.Statement.{statement}
 use Rattle.hand_sums.proofs.show_burst.Tie as tie
 

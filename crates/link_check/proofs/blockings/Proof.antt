@@ -7,7 +7,7 @@ use native.Mathlib.Omega.{arith}
 use lib.ListN.{length, drop, length-set}
 use Rattle.model.specs.Sizes.{levels_most}
 use Rattle.model.specs.Formula.{blocking}
-use Rattle.model.specs.Laws.LinkSteps.{blockings, blocking-none}
+use Rattle.model.proofs.Laws.LinkSteps.{blockings, blocking-none}
 use Rattle.units.specs.View.{aggregate_of}
 use Rattle.link_check.specs.View.{aggregates_of, bytes_of}
 use Rattle.link_check.proofs.Laws.{length-mapped, mapped_end, top-previous, blocked-previous}

@@ -7,7 +7,7 @@ use native.Mathlib.Omega.{arith}
 use lib.ListN.{length, get_or, drop}
 use Rattle.model.specs.Sizes.{levels_most}
 use Rattle.model.specs.Total.{total}
-use Rattle.model.specs.Laws.Total.{total-next}
+use Rattle.model.proofs.Laws.Total.{total-next}
 use Rattle.units.specs.View.{aggregate_of}
 use Rattle.link_check.specs.View.{aggregates_of}
 use Rattle.link_check.proofs.Laws.{length-mapped, mapped_end, blank, level-next}

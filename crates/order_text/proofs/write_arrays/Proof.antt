@@ -9,7 +9,7 @@ use borrow.Author.Tests.{not-true, not-false}
 use lib.ListN.{length}
 use Rattle.model.specs.Reference.{held_flows}
 use Rattle.model.specs.Handover.{handover_text, done_writing}
-use Rattle.model.specs.Laws.Handover.{writing-short, writing-done}
+use Rattle.model.proofs.Laws.Handover.{writing-short, writing-done}
 use Rattle.flow_store.specs.View.{slots_of}
 use Rattle.flow_store.proofs.ViewLaws.{readable}
 use Rattle.admission.specs.View.{ConsistentArrays}

@@ -10,7 +10,7 @@ use borrow.Rule.Slice.PartMut.{put_mid}
 use Rattle.model.specs.Words.{joined}
 use Rattle.model.specs.Sizes.{hop_columns}
 use Rattle.model.specs.Handover.{hop_text}
-use Rattle.model.specs.Laws.Handover.{hop-long}
+use Rattle.model.proofs.Laws.Handover.{hop-long}
 use Rattle.queue_table.specs.View.{hop_at}
 use Rattle.columns.proofs.PartLaws.{Filling, part-long, filling-first, filling-last}
 use Rattle.order_text.proofs.TextLaws.{entries-size, joined-map, joined-past, piece-room, piece-next}

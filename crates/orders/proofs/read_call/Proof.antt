@@ -11,7 +11,7 @@ use Rattle.columns.specs.View.{FirstLine}
 use Rattle.columns.specs.declared.NextLine.{NextLine}
 use Rattle.columns.specs.declared.NextLine.TheVariants.{Ended}
 use Rattle.model.specs.Columns.{Line, ended, unended}
-use Rattle.model.specs.Laws.Columns.{lines-nothing, lines_left}
+use Rattle.model.proofs.Laws.Columns.{lines-nothing, lines_left}
 use Rattle.model.specs.Orders.{rejected, kind_number}
 use Rattle.model.specs.Reference.{only_line}
 use Rattle.orders.specs.View.{kind_of}

@@ -6,7 +6,7 @@ use mathlib.Core.Option.{some}
 use borrow.Author.Tests.{not-true, not-false}
 use Rattle.model.specs.Sizes.{hops_most}
 use Rattle.model.specs.Columns.{between}
-use Rattle.model.specs.Laws.Columns.{between-true}
+use Rattle.model.proofs.Laws.Columns.{between-true}
 use Rattle.model.specs.Orders.{head_fields, hops_in_range, path_fields, registration, registration_of, with_path}
 use Rattle.orders.specs.View.{fields_of, head_of, line_path, path_when}
 use borrow.Author.Rules.{rules}

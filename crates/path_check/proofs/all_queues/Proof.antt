@@ -9,7 +9,7 @@ use native.Mathlib.Omega.{arith}
 use lib.ListN.{length}
 use Rattle.model.specs.Words.{is_none}
 use Rattle.model.specs.Reference.{at_hop, no_queue}
-use Rattle.model.specs.Laws.Path.{search-ended, search_from}
+use Rattle.model.proofs.Laws.Path.{search-ended, search_from}
 use Rattle.queue_table.specs.View.{table_of, hop_at}
 use Rattle.path_check.proofs.EntryLaws.{no-queue}
 use Rattle.path_check.proofs.SearchLaws.{map-long, entry_found, entry-passed, entry-cause}

@@ -7,7 +7,7 @@ use mathlib.Core.List.{[], map}
 use native.Mathlib.Omega.{arith}
 use lib.ListN.{length}
 use Rattle.model.specs.Reference.{at_hop, starts_elsewhere}
-use Rattle.model.specs.Laws.Path.{search_from}
+use Rattle.model.proofs.Laws.Path.{search_from}
 use Rattle.queue_table.specs.View.{table_of, hop_at}
 use Rattle.path_check.proofs.SearchLaws.{entry_found, entry-passed, none_found}
 use Rattle.path_check.proofs.broken.Statement.{statement}

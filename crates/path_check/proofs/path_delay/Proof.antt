@@ -6,7 +6,7 @@ use mathlib.Core.Path.{◌≡◌}
 use native.Mathlib.Omega.{arith}
 use lib.ListN.{length, drop}
 use Rattle.model.specs.Total.{total}
-use Rattle.model.specs.Laws.Path.{total-on, total-ended}
+use Rattle.model.proofs.Laws.Path.{total-on, total-ended}
 use Rattle.path_check.specs.View.{delay_at}
 use Rattle.path_check.proofs.EntryLaws.{entry-low, delay-entries}
 use Rattle.path_check.proofs.path_delay.Statement.{statement}

@@ -10,7 +10,7 @@ use borrow.Author.Tests.{le-leb, lt-leb}
 use lib.ListN.{length, drop}
 use Rattle.model.specs.Sizes.{table_bytes}
 use Rattle.model.specs.Columns.{Line, lines}
-use Rattle.model.specs.Laws.Columns.{lines-nothing}
+use Rattle.model.proofs.Laws.Columns.{lines-nothing}
 use Rattle.model.specs.QueueTable as model
 use Rattle.model.specs.Reference.{table_of}
 use Rattle.queue_table.specs.declared.Advance.{Advance}

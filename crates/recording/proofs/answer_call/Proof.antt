@@ -7,7 +7,7 @@ use mathlib.Core.List.{List}
 use lib.ListN.{set}
 use Rattle.admission.specs.View.{answer_of}
 use Rattle.model.specs.Answers.{answer_columns}
-use Rattle.model.specs.Laws.Answers.{columns-length}
+use Rattle.model.proofs.Laws.Answers.{columns-length}
 use Rattle.columns.proofs.PartLaws.{byte_next}
 use Rattle.recording.proofs.answer_call.Statement.{statement}
 use Rattle.recording.proofs.answer_call.Tie as tie

@@ -5,7 +5,7 @@ use Prim.Native.Nat.{ℕ}
 use mathlib.Core.Path.{refl, ap, ap₂, ◌∙◌}
 use mathlib.Core.List.{List, [], ◌∷◌, append_assoc}
 use Rattle.model.specs.Columns.{justified, written_at}
-use Rattle.model.specs.Laws.Answers.{justified-length}
+use Rattle.model.proofs.Laws.Answers.{justified-length}
 use Rattle.columns.proofs.PartLaws.{field_next}
 use Rattle.recording.specs.Replay.{refusal_line}
 use Rattle.recording.proofs.refusal_line.Statement.{statement}

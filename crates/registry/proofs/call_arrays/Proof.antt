@@ -7,7 +7,7 @@ use lib.ListN.{length}
 use Rattle.model.specs.Columns.{lines}
 use Rattle.model.specs.Orders as line
 use Rattle.model.specs.Orders.{kind_number}
-use Rattle.model.specs.Laws.Order.{Ranged, call-ranged}
+use Rattle.model.proofs.Laws.Order.{Ranged, call-ranged}
 use Rattle.orders.specs.View.{hop_numbers, kind_of, order_of}
 use Rattle.admission.specs.View.{ConsistentArrays}
 use Rattle.admission.proofs.ConsistentLaws.{stepped_same}

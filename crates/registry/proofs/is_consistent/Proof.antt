@@ -9,8 +9,8 @@ use Rattle.model.specs.Words.{every}
 use Rattle.model.specs.Orders.{Flow}
 use Rattle.model.specs.Reference.{held_flows}
 use Rattle.model.specs.Consistent.{table_consistent}
-use Rattle.model.specs.Laws.Reached.{state-rules}
-use Rattle.model.specs.Laws.Uncrossed.{consistent-meets}
+use Rattle.model.proofs.Laws.Reached.{state-rules}
+use Rattle.model.proofs.Laws.Uncrossed.{consistent-meets}
 use Rattle.queue_table.specs.View.{WellFormed, table_of}
 use Rattle.flow_store.specs.View.{PackedStore, slots_of}
 use Rattle.flow_check.specs.View.{flow_alone}

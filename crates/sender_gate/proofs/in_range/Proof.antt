@@ -3,7 +3,7 @@
 use Rattle.std.proofs.Common.{◌≡◌, Bool, ◌&&◌, leb, sym, refl, ap, ◌∙◌, ap₂, rules, le-leb}
 use borrow.Author.Tests.{not-true, not-false, lt-leb}
 use Rattle.model.specs.Orders.{rate_in_range, burst_in_range, frame_in_range}
-use Rattle.model.specs.Laws.Columns.{between-true}
+use Rattle.model.proofs.Laws.Columns.{between-true}
 use Rattle.model.specs.Gate.{Gate, full_of, gate_in_range}
 use Rattle.sender_gate.proofs.in_range.Statement.{statement}
 use Rattle.sender_gate.proofs.in_range.Tie as tie

@@ -2,7 +2,7 @@
 -- Assumes nothing.
 use Rattle.std.proofs.Common.{ℕ, ◌*◌, ◌≤◌, ap, ◌∙◌, arith, rules}
 use Rattle.model.specs.Gate.{time_passed, tokens_at, metered}
-use Rattle.model.specs.Laws.Gate.{gate-bounds, length-bounds}
+use Rattle.model.proofs.Laws.Gate.{gate-bounds, length-bounds}
 use Rattle.sender_gate.specs.View.{gate_of}
 use Rattle.sender_gate.proofs.meter_at.Statement.{statement}
 use Rattle.sender_gate.proofs.meter_at.Tie as tie

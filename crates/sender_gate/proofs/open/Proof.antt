@@ -3,7 +3,7 @@
 use Rattle.std.proofs.Common.{◌≡◌, ℕ, true, false, sym, refl, ap, ◌∙◌, true≢false, arith, rules}
 use borrow.Author.Tests.{not-true, not-false}
 use Rattle.model.specs.Gate.{Gate, tokens_of, gate_in_range, gate_with, no_gate, full_gate, open_gate}
-use Rattle.model.specs.Laws.Gate.{gate-bounds, with-ranged, opening-cases}
+use Rattle.model.proofs.Laws.Gate.{gate-bounds, with-ranged, opening-cases}
 use Rattle.sender_gate.proofs.open.Statement.{statement}
 use Rattle.sender_gate.proofs.open.Tie as tie
 

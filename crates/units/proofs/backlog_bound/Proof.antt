@@ -4,7 +4,7 @@ use Prim.Native.Nat.{◌*◌, ◌^◌, ◌≤◌}
 use native.Mathlib.Nat.{mul-le-mul}
 use native.Mathlib.Omega.{arith}
 use Rattle.model.specs.Formula.{backlog_bound}
-use Rattle.model.specs.Laws.Formula.{ceil_div-self}
+use Rattle.model.proofs.Laws.Formula.{ceil_div-self}
 use Rattle.units.proofs.backlog_bound.Statement.{statement}
 use Rattle.units.proofs.backlog_bound.Tie as tie
 

@@ -6,7 +6,7 @@ use native.Mathlib.Omega.{arith}
 use lib.Dec.{lit≤}
 use Rattle.model.specs.Sizes.{thresholds_most}
 use Rattle.model.specs.Formula.{burst_at_hop}
-use Rattle.model.specs.Laws.Formula.{ceil_div-self}
+use Rattle.model.proofs.Laws.Formula.{ceil_div-self}
 use Rattle.units.proofs.burst_at_hop.Statement.{statement}
 use Rattle.units.proofs.burst_at_hop.Tie as tie
 

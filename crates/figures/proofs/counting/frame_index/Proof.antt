@@ -6,7 +6,7 @@ use mathlib.Core.Path.{refl}
 use native.Mathlib.Omega.{arith}
 use lib.ListN.{get_or}
 use Rattle.model.specs.Sizes.{queues_most}
-use Rattle.model.specs.Laws.All.{all_get_d}
+use Rattle.model.proofs.Laws.All.{all_get_d}
 use Rattle.figures.proofs.counting.frame_index.Statement.{statement}
 use Rattle.figures.proofs.counting.frame_index.Tie as tie
 

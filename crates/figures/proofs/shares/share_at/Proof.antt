@@ -5,7 +5,7 @@ use mathlib.Core.Path.{ap, ap₂, ◌∙◌}
 use native.Mathlib.Omega.{arith}
 use borrow.Author.Rules.{rules}
 use Rattle.model.specs.Formula.{hop_growth}
-use Rattle.model.specs.Laws.Formula.{growth-most}
+use Rattle.model.proofs.Laws.Formula.{growth-most}
 use Rattle.queue_table.specs.View.{speed_at}
 use Rattle.figures.specs.View.{growth_at}
 use Rattle.figures.proofs.shares.share_at.Statement.{statement}

@@ -1,0 +1,5 @@
+pub mod Laws
+pub mod Results
+pub mod WorkedRun
+pub mod WorkedBestEffort
+pub mod WorkedGate
