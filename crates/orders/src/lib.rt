@@ -1,5 +1,6 @@
 // What an order line says (document 01, "Columns", order lines).
 #![tactic(auto)]
+
 ghost use Rattle.std.specs.Prelude.{◌≡◌, ◌≤◌, ◌<◌, length, drop};
 ghost use Rattle.model.specs.Sizes.{hops_most};
 ghost use Rattle.model.specs.Columns.{field_at, lines};

@@ -4,6 +4,7 @@
 // delay and best-effort frame from `link_position(i)` on; queue e, which `entry_at` counts, has its threshold and buffer
 // from `queue_position(e)` on; the last number is how many links there are. What stands past them and their levels is free.
 #![tactic(auto)]
+
 mod access;
 mod consistency;
 mod row;

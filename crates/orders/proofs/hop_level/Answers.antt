@@ -1,0 +1,10 @@
+-- `orders::hop_level` meets its contract: the number read is within the array.
+use mathlib.Core.Path.{refl}
+use native.Mathlib.Omega.{arith}
+use Rattle.orders.proofs.hop_level.Goals as goal
+
+pub bounds-hops-i : goal.bounds-hops-i
+bounds-hops-i c = omega (arith, c.requires)
+
+pub returns : goal.returns
+returns c = refl
