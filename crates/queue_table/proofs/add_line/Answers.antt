@@ -11,11 +11,11 @@ use Rattle.queue_table.proofs.add_line.Tie as tie
 use Rattle.queue_table.proofs.add_line.Lts as lts
 use Rattle.queue_table.proofs.add_line.Reads as reads
 
-read-r : (c : lts.Past-After-known_told tie.the-claims reads.Pre reads.Post) → model.row c.args.line.now ≡ some (numbers_of c.in-Numbers.r)
+read-r : (c : lts.Past-After-known_told tie.the-claims reads.Pre reads.Post tie.handed_clauses) → model.row c.args.line.now ≡ some (numbers_of c.in-Numbers.r)
 read-r c = sym c.read_row.ensures ∙ ap row_of c.in-Numbers.is
 
 -- Nothing is against the row.
-free : (c : lts.Past-After-enum_told2 tie.the-claims reads.Pre reads.Post) → model.row_cause (links_of c.args.n c.args.table.now) (numbers_of c.in-Numbers.r) ≡ 0
+free : (c : lts.Past-After-enum_told2 tie.the-claims reads.Pre reads.Post tie.handed_clauses) → model.row_cause (links_of c.args.n c.args.table.now) (numbers_of c.in-Numbers.r) ≡ 0
 free c = sym c.row_cause-judgement.ensures ∙ ap code_of c.in-Fine.is
 
 pub returns-in_default : goal.returns-in_default

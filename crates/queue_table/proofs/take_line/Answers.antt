@@ -59,7 +59,7 @@ returns c =
       same =
           λ m.
           ap (model.read_lines m ls) line.same
-          ∙ read_next m ls (ended (take (end - args.at) (drop args.at args.text.now))) (lines (drop (end + 1) args.text.now)) added.result.judgement (links_of added.result.links added.new.1.1.0) (sym added.ensures.same);
+          ∙ read_next m ls (ended (take (end - args.at) (drop args.at args.text.now))) (lines (drop (end + 1) args.text.now)) added.result.judgement (links_of added.result.links added.new.table) (sym added.ensures.same);
       kept = added.ensures.kept;
       on = λ e. omega (arith, line.within.0);
       within = omega (arith, line.within.1);
