@@ -135,7 +135,7 @@ check_change-found-requires c =
 pub returns-in-Against : goal.returns-in-Against
 returns-in-Against c =
     let at = c.before.before in
-    stepped-refused _ _ _ _ (kept (start at.before.before.before.before)) (change _) _ (sym (found at) ∙ ap finding_of c.in-Against.is)
+    stepped-refused _ _ _ _ (kept (start at.before.before.before)) (change _) _ (sym (found at) ∙ ap finding_of c.in-Against.is)
 
 pub change-requires : goal.change-requires
 change-requires c = (c.requires.held_value.1, c.requires.consistent_arrays.stored.store_long, changed.narrow c.args.given c.requires.given_value)

@@ -43,6 +43,6 @@ overflow_add-result c = omega (arith, inside c.before.before.before.before.befor
 
 pub returns : goal.returns
 returns c =
-    let at = c.before.before.before.before.before.before.before.before.before.before in
+    let at = c.before.before.before.before.before.before.before.before.before.before.before in
     let out = c.take_out.ensures in
     stepped-released _ _ _ _ (found at.before) at.if-held-eq-SLOTS.false out.store_after out.consistent_arrays_2

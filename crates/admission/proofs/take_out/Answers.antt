@@ -75,7 +75,7 @@ pub remove_path-requires : goal.remove_path-requires
 remove_path-requires c =
     let p = c.before.before.before.before.before.before.before.before.before.before.before.before in
     let at = start p in
-    let r = ranged at in record { at_source = subst AtSource (sym (share p.before.before.before)) r.share; hops = rw (path p) r.hops; path_counted = rw (share p.before.before.before, path p) (released.counted _ _ _ _ at.requires.consistent_arrays at.args.slot at.requires.slot_lt_slot_count.0 at.requires.slot_lt_slot_count.1) }
+    let r = ranged at in record { at_source = subst AtSource (sym (share p.before.before)) r.share; hops = rw (path p) r.hops; path_counted = rw (share p.before.before, path p) (released.counted _ _ _ _ at.requires.consistent_arrays at.args.slot at.requires.slot_lt_slot_count.0 at.requires.slot_lt_slot_count.1) }
 
 pub raise_frames-requires : goal.raise_frames-requires
 raise_frames-requires c =
