@@ -1,7 +1,7 @@
 // The files that programs read.
 #![tactic(auto)]
 
-ghost use Rattle.std.specs.Prelude.{◌≤◌};
+ghost use Rattle.std.specs.Prelude.{◌≤◌, IfSome};
 ghost use Rattle.text_files.specs.Counts.{IsPrefixLen};
 
 use std::fs::File;
@@ -49,7 +49,15 @@ fn take<F: Read + Drop>(file: F, text: &mut [u8]) -> usize
     done
 }
 
-// How many bytes of the file stand at the start of `text`; none where it can't be opened.
+// How many bytes of the file stand at the start of `text`, where it can be opened.
+pub fn try_read<R: Files>(rt: &R, name: &[u8], text: &mut [u8]) -> Option<usize>
+    ensures { IfSome result (λ n. IsPrefixLen n text.new) }
+{
+    let file = open(rt, name)?;
+    Some(take(file, text))
+}
+
+// The same, and none where it can't be opened.
 pub fn read<R: Files>(rt: &R, name: &[u8], text: &mut [u8]) -> usize
     ensures { IsPrefixLen result text.new }
 {
