@@ -7,6 +7,7 @@
 // so that a wrong number spoils its own flow alone; where the paths before it end only says whether the pool is packed, and what
 // stands past the last held entry doesn't count.
 #![tactic(auto)]
+
 ghost use Rattle.std.specs.Prelude.{◌≡◌, ℕ, ◌+◌, ◌-◌, ◌^◌, ◌<◌, ◌≤◌, true, false, List, length, take, drop, ◌≢◌, slice_index_or, slice_set};
 ghost use Rattle.std.proofs.Math.Option.{none};
 ghost use Rattle.std.proofs.Math.Seq.{paste};

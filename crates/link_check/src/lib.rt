@@ -1,6 +1,7 @@
 // The levels of one link taken together (document 01, "The book"): the rate rule for the link, then delay and backlog
 // level by level. Why nothing overflows is said in `units`.
 #![tactic(auto)]
+
 ghost use Rattle.std.specs.Prelude.{◌≡◌, [], ◌+◌, ◌*◌, ◌^◌, ◌≤◌, ◌<◌};
 ghost use Rattle.model.specs.Words.{All};
 ghost use Rattle.model.specs.Total.{total, largest};

@@ -4,6 +4,7 @@
 // A path's entries name its queues, one number each (`queue_table::entry_at`). A search answers the index of the hop that
 // it finds, the path's length where it finds none; of hops with the same link and level it may answer any.
 #![tactic(auto)]
+
 ghost use Rattle.std.specs.Prelude.{◌≡◌, [], map, ◌≤◌, ◌<◌, ◌^◌, length, get_or};
 ghost use Rattle.model.specs.Words.{All, is_none};
 ghost use Rattle.model.specs.Sizes.{queues_most, hops_most};

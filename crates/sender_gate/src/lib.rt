@@ -2,6 +2,7 @@
 //
 // A gate may hold anything: its numbers are judged before one is used.
 #![tactic(auto)]
+
 ghost use Rattle.std.specs.Prelude.{◌≡◌, ◌≤◌, true};
 ghost use Rattle.model.specs.Gate.{gate_in_range, length_in_range, time_passed, tokens_at, gate_with, metered, no_gate};
 ghost use Rattle.sender_gate.specs.View.{gate_of, code_of, answer_of, Opens, Offers};
