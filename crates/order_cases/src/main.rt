@@ -1,6 +1,7 @@
 // Reads the order lines of the file orders.txt beside it and prints what each says: code in 3 columns, flow number in 6,
 // rate in 9, burst in 8, largest frame in 5, deadline in 9, hops in 3, and the last hop's link in 5 and level in 3.
 #![tactic(auto)]
+
 use causes::Cause;
 use columns::NextLine;
 use orders::Order;
