@@ -7,7 +7,7 @@
 // - each held slot: place in 4 columns, then the columns of its order line from the third on.
 #![tactic(auto)]
 ghost use Rattle.std.specs.Prelude.{◌+◌, ◌*◌, ◌≤◌, ◌<◌, ◌≡◌, length};
-ghost use Rattle.io.specs.Counts.{IsPrefixLen};
+ghost use Rattle.text_files.specs.Counts.{IsPrefixLen};
 ghost use Rattle.model.specs.Sizes.{queues_most, hops_most, head_columns, hop_columns, slot_count};
 ghost use Rattle.queue_table.specs.View.{WellFormed};
 ghost use Rattle.flow_store.specs.View.{PackedStore};
@@ -15,11 +15,11 @@ ghost use Rattle.figures.specs.View.{figure_numbers};
 ghost use Rattle.registry.specs.View.{Consistent};
 
 use flow_store::SLOTS;
-use libc::STDOUT_FILENO;
 use orders::{Flow, HEAD_COLUMNS, HOP_COLUMNS, MOST_HOPS};
 use queue_table::{QUEUES, Verdict};
 use recording::{ANSWER, ANSWERS, Form, TABLE};
 use registry::Registry;
+use std::env::{Env, FillError};
 use text_files::LIST;
 
 // How many columns more a slot's line has than an order line.
@@ -34,23 +34,23 @@ fn put(line: &mut [u8], first: usize, last: usize, n: u32)
     columns::write_at(line, first, last, columns::wide(n));
 }
 
-fn show_verdict(verdict: Verdict) {
+fn show_verdict(rt: &impl Print, verdict: Verdict) {
     match verdict {
         Verdict::Accepted => {}
         Verdict::Refused(fault, line) => {
             let out = recording::refusal_line(fault, line);
-            io::write_all(STDOUT_FILENO, &out);
+            let _ = rt.write_all(&out);
         }
     }
 }
 
-fn show_end(offset: usize) {
+fn show_end(rt: &impl Print, offset: usize) {
     let out = recording::end_line(offset);
-    io::write_all(STDOUT_FILENO, &out);
+    let _ = rt.write_all(&out);
 }
 
 // The figures of queue e.
-fn show_queue(e: usize, figures: &[u64])
+fn show_queue(rt: &impl Print, e: usize, figures: &[u64])
     requires { (e < queues_most) × (length figures.now ≡ figure_numbers) }
 {
     let own = figures::figure(e, figures);
@@ -64,17 +64,17 @@ fn show_queue(e: usize, figures: &[u64])
     columns::write_at(&mut out, 7, 18, rate.0);
     columns::write_at(&mut out, 19, 33, burst.0);
     columns::write_at(&mut out, 34, 38, frame.0);
-    io::write_all(STDOUT_FILENO, &out);
+    let _ = rt.write_all(&out);
 }
 
 // The queues of the table, link by link and level by level.
-fn show_queues(table: &[u32], figures: &[u64])
+fn show_queues(rt: &impl Print, table: &[u32], figures: &[u64])
     requires { WellFormed table.now × (length figures.now ≡ figure_numbers) }
 {
     let mut e = 0;
     while e < QUEUES {
         if queue_table::is_queue(e, table) {
-            show_queue(e, figures);
+            show_queue(rt, e, figures);
         }
         e += 1;
     }
@@ -90,16 +90,16 @@ fn write_flow(slot: usize, flow: Flow, entries: &[u32], out: &mut [u8]) -> usize
     PLACE + bytes
 }
 
-fn show_flow(slot: usize, flow: Flow, entries: &[u32])
+fn show_flow(rt: &impl Print, slot: usize, flow: Flow, entries: &[u32])
     requires { (slot < slot_count) × (flow.hops ≡ length entries.now) × (length entries.now ≤ hops_most) }
 {
     let mut out = [b' '; SLOT_LINE];
     let bytes = write_flow(slot, flow, entries, &mut out);
-    io::write_all(STDOUT_FILENO, &out[..bytes]);
+    let _ = rt.write_all(&out[..bytes]);
 }
 
 // A slot's line where it is held: a path has at most MOST_HOPS hops.
-fn show_slot(slot: usize, bits: &[u64], store: &[u32])
+fn show_slot(rt: &impl Print, slot: usize, bits: &[u64], store: &[u32])
     requires { PackedStore bits.now store.now × (slot < slot_count) }
 {
     if !flow_store::is_held(slot, bits) {
@@ -109,57 +109,57 @@ fn show_slot(slot: usize, bits: &[u64], store: &[u32])
     if MOST_HOPS < path.len() {
         return;
     }
-    show_flow(slot, flow_store::flow_at(slot, store), path);
+    show_flow(rt, slot, flow_store::flow_at(slot, store), path);
 }
 
-fn show_slots(bits: &[u64], store: &[u32])
+fn show_slots(rt: &impl Print, bits: &[u64], store: &[u32])
     requires { PackedStore bits.now store.now }
 {
     let mut slot = 0;
     while slot < SLOTS {
-        show_slot(slot, bits, store);
+        show_slot(rt, slot, bits, store);
         slot += 1;
     }
 }
 
-fn show_registry(registry: Registry)
+fn show_registry(rt: &impl Print, registry: Registry)
     requires { Consistent registry }
 {
     let table = registry.table;
     let bits = registry.bits;
     let store = registry.store;
     let figures = registry.figures;
-    show_queues(&table, &figures);
-    show_slots(&bits, &store);
+    show_queues(rt, &table, &figures);
+    show_slots(rt, &bits, &store);
 }
 
 // Any argument asks for the calls in place; the first counted is the program's name.
-fn form_asked() -> Form {
-    if 1 < os::arg_count() {
-        return Form::InPlace;
+fn form_asked(rt: &impl Env) -> Form {
+    match rt.arg(1, &mut []) {
+        Err(FillError::NotPresent) => Form::ByValue,
+        _ => Form::InPlace,
     }
-    Form::ByValue
 }
 
-fn replay(form: Form, table: &[u8], calls: &[u8]) {
+fn replay(rt: &impl Print, form: Form, table: &[u8], calls: &[u8]) {
     let mut answers = [0u8; ANSWERS];
     let replayed = recording::replay(form, table, calls, &mut answers);
     let verdict = replayed.verdict;
     let registry = replayed.registry;
     let end = ANSWER * replayed.count;
-    show_verdict(verdict);
-    io::write_all(STDOUT_FILENO, &answers[..end]);
+    show_verdict(rt, verdict);
+    let _ = rt.write_all(&answers[..end]);
     if replayed.end < calls.len() {
-        show_end(replayed.end);
+        show_end(rt, replayed.end);
     }
-    show_registry(registry);
+    show_registry(rt, registry);
 }
 
-fn main() {
-    let form = form_asked();
+fn main(rt: HostRuntime) {
+    let form = form_asked(&rt);
     let mut table = [0u8; TABLE];
     let mut calls = [0u8; LIST];
-    let n = text_files::read(b"table.txt", &mut table);
-    let m = text_files::read(b"calls.txt", &mut calls);
-    replay(form, &table[..n], &calls[..m]);
+    let n = text_files::read(&rt, b"table.txt", &mut table);
+    let m = text_files::read(&rt, b"calls.txt", &mut calls);
+    replay(&rt, form, &table[..n], &calls[..m]);
 }
