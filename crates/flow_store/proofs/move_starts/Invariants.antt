@@ -1,0 +1,11 @@
+-- `flow_store::move_starts` meets its contract. The invariant: the starts before position i have moved, and nothing else has.
+use Rattle.std.proofs.Common.{◌-◌}
+use Rattle.flow_store.specs.View.{slot_numbers}
+use Rattle.flow_store.proofs.StartLaws.{MovedTo}
+use Rattle.flow_store.proofs.move_starts.Given as goal
+
+abbrev pub invariant-loop-i : goal.invariant-loop-i
+invariant-loop-i l = MovedTo l.from l.by l.initial.store l.store l.i
+
+abbrev pub decreases-loop-i : goal.decreases-loop-i
+decreases-loop-i l = slot_numbers - l.i

@@ -1,0 +1,55 @@
+-- `flow_store::remove` meets its contract: what its parts leave is the view with the slot empty.
+use Rattle.std.proofs.Common.{◌≡◌, ◌+◌, ◌%◌, ◌^◌, length, sym, ap, ◌∙◌, arith}
+use Rattle.flow_store.specs.View.{count_at, counts_from, path_removed, StartsMoved}
+use Rattle.flow_store.proofs.ViewLaws.{count_held}
+use Rattle.flow_store.proofs.PoolLaws.{pooled, lent-pool}
+use Rattle.flow_store.proofs.StartLaws.{moved-pooled}
+use Rattle.flow_store.proofs.RemoveLaws.{order, within, pool', removed, removed-store}
+use Rattle.flow_store.proofs.remove.Goals as goal
+use Rattle.flow_store.proofs.remove.Tie as tie
+use Rattle.flow_store.proofs.remove.Lts as lts
+use Rattle.flow_store.proofs.remove.Reads as reads
+
+pub move_down-requires : goal.move_down-requires
+move_down-requires c =
+    let args = c.args in
+    let pre = c.requires in
+    let start = c.start_at-start.ensures.0 ∙ pre.0.packed.starts args.slot pre.1 pre.2 in
+    let count = c.hops_at-hops.ensures.0 ∙ sym (count_held args.bits.now args.store.now args.slot pre.2) in
+    let end = c.held_entries-end.ensures in
+    (omega (arith, count, start, end, order pre.1 pre.0), omega (arith, end, within pre.1 pre.0, ap length (lent-pool args.store.now)))
+
+pub clear_bit-requires : goal.clear_bit-requires
+clear_bit-requires c =
+    let pre = c.requires in
+    omega (arith, pre.0.bits-long, pre.1)
+
+-- What the parts leave.
+module _ (c : lts.After-slice_known5 tie.the-claims reads.Pre reads.Post tie.handed_clauses) where
+  abbrev first : lts.Start tie.the-claims reads.Pre reads.Post tie.handed_clauses
+  first = c.before.before.before.before.before.before.before.before.before.before.before.before.before.before.before.before.before.before
+
+  start : c.start_at-start.result ≡ counts_from first.args.slot 0 first.args.bits.now first.args.store.now
+  start = c.start_at-start.ensures.0 ∙ first.requires.0.packed.starts first.args.slot first.requires.1 first.requires.2
+
+  count : c.hops_at-hops.result ≡ count_at first.args.bits.now first.args.store.now first.args.slot
+  count = c.hops_at-hops.ensures.0 ∙ sym (count_held first.args.bits.now first.args.store.now first.args.slot first.requires.2)
+
+  complement : (c.wrapping_sub_u32.result + count_at first.args.bits.now first.args.store.now first.args.slot) % 2 ^ 32 ≡ 0
+  complement = rw (sym count) c.wrapping_sub_u32.ensures.value
+
+  shift : StartsMoved (first.args.slot + 1) c.wrapping_sub_u32.result (pooled first.args.store.now (pool' first.requires.1 first.requires.0)) c.move_starts.new.store
+  shift =
+      let end = c.held_entries-end.ensures in
+      let left = c.move_down.ensures ∙ (λ t. path_removed (start t) (end t) (count t) (lent-pool first.args.store.now t)) in
+      moved-pooled first.args.store.now left c.move_starts.ensures
+
+pub shape_of-bits : goal.shape_of-bits
+shape_of-bits c = c.clear_bit.ensures.long
+
+pub shape_of-store : goal.shape_of-store
+shape_of-store c = (removed-store (first c.before).requires.1 (first c.before).requires.0 (complement c.before) c.clear_bit.ensures (shift c.before)).store_long ∙ sym (first c.before).requires.0.store_long
+
+pub returns : goal.returns
+returns c =
+    let marked = c.clear_bit.ensures in record { store_after = removed (first c.before).requires.1 (first c.before).requires.0 (complement c.before) marked (shift c.before); packed_store = removed-store (first c.before).requires.1 (first c.before).requires.0 (complement c.before) marked (shift c.before) }
