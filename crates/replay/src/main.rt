@@ -1,4 +1,4 @@
-// Replays a recorded list of calls, by value or, with an argument (`replay in_place`), on a registry that is held and lent.
+// Replays a recorded list of calls, by value or, with an argument (`replay in-place`), on a registry that is held and lent.
 // Reads table.txt and calls.txt, one that can't be opened as empty, and prints, the same in either form,
 // - where the table is refused, its code in 3 columns and line in 6;
 // - the answer to each call: code in 3 columns, place in 4, link in 4 and level in 2;
