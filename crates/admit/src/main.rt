@@ -3,6 +3,7 @@
 // difference: a text that fills its area is one byte above its limit, and refused for its size. Standard error says in words
 // what went wrong with a file, the batch or the output.
 #![tactic(auto)]
+
 use batch::{ANSWER_BYTES, ORDER_BYTES, ORDER_LINES};
 use queue_table::TABLE_BYTES;
 

@@ -3,6 +3,7 @@
 // handed over, standard error says so: a file that can't be opened and counts as empty, a list that is too long, and what
 // `replay` prints of a refused table and of a list that doesn't close with a whole call.
 #![tactic(auto)]
+
 use order_text::TEXT;
 use queue_table::Verdict;
 use recording::{ANSWERS, Form, TABLE};

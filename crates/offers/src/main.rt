@@ -1,6 +1,7 @@
 // Prints what a gate answers to a list of offers (W-207). Reads offers.txt, one that can't be opened as empty: the opening in its first
 // line, then a line for each offer. Standard error says where the file can't be opened or is too long.
 #![tactic(auto)]
+
 ghost use Rattle.std.specs.Prelude.{◌≤◌, length};
 
 use offer_list::PRINTED;

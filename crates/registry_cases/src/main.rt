@@ -6,6 +6,7 @@
 // slot, clear for 0, 2 the store, 3 figures), index 4-8, the number 9-17. A w lends an area of so many dots, 2-5, to the writer
 // of order lines: code in 3 columns, bytes in 6, then the whole area and LF.
 #![tactic(auto)]
+
 use admission::Answer;
 use causes::Finding;
 use columns::{Field, NextLine};

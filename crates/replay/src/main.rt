@@ -6,6 +6,7 @@
 // - each queue of the table: link in 4, level in 2, rate sum in 12, burst sum in 15 and largest frame in 5;
 // - each held slot: place in 4 columns, then the columns of its order line from the third on.
 #![tactic(auto)]
+
 ghost use Rattle.std.specs.Prelude.{◌+◌, ◌*◌, ◌≤◌, ◌<◌, ◌≡◌, length};
 ghost use Rattle.text_files.specs.Counts.{IsPrefixLen};
 ghost use Rattle.model.specs.Sizes.{queues_most, hops_most, head_columns, hop_columns, slot_count};
