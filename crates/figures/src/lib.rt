@@ -5,6 +5,7 @@
 // A hop entry names a queue as in `queue_table`. Queue e has its rate sum, burst sum and largest frame one after the
 // other in `figures`; only this crate indexes that array. Why nothing overflows is said in `units`.
 #![tactic(auto)]
+
 mod checking;
 mod counting;
 mod shares;

@@ -1,6 +1,7 @@
 // The causes against a registration before its links are checked (document 01, "Order"): 12, 17, 14, 16, 15, 20, and
 // then 30 and 31; and whether each held flow meets 11 and those before 30 beside the others.
 #![tactic(auto)]
+
 ghost use Rattle.std.specs.Prelude.{◌≡◌, true, map, ◌+◌, ◌≤◌, ◌<◌, length, get_or};
 ghost use Rattle.std.proofs.Math.Option.{none};
 ghost use Rattle.model.specs.Words.{every, is_none};

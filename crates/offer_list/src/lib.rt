@@ -1,5 +1,6 @@
 // A list of offers to a gate as a text, and what is printed of it (W-207).
 #![tactic(auto)]
+
 ghost use Rattle.std.specs.Prelude.{◌≡◌, ◌+◌, ◌<◌, ◌≤◌, ◌++◌, length, drop};
 ghost use Rattle.std.proofs.Math.Option.{some};
 ghost use Rattle.model.specs.Columns.{lines};

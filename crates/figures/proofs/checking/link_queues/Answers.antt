@@ -1,0 +1,38 @@
+-- `figures::checking::link_queues` meets its contract. The invariant: the queues before `p` are loaded.
+use Prim.Native.Nat.{◌-◌}
+use mathlib.Core.Path.{◌≡◌, refl, sym, ap, subst, ◌∙◌}
+use native.Mathlib.Omega.{arith}
+use lib.ListN.{take, length-set}
+use lib.Seq.{take_all}
+use Rattle.model.specs.Words.{All}
+use Rattle.model.specs.Sizes.{levels_most}
+use Rattle.link_check.specs.View.{queue_of, queues_of, Narrow}
+use Rattle.queue_table.specs.View.{up_to, threshold_at, buffer_at, queue_at}
+use Rattle.figures.proofs.LoadLaws.{loaded-next, loaded-all}
+use Rattle.figures.proofs.checking.link_queues.Goals as goal
+
+pub loop-p-init : goal.loop-p-init
+unfolding up_to
+loop-p-init c = (omega arith, refl, refl, tt)
+
+pub loop-p-preserved : goal.loop-p-preserved
+unfolding queue_at
+loop-p-preserved c =
+    let at = c.loop-p in
+    let args = c.args in
+    let table = args.table.now in
+    let read = c.queue_at.ensures.threshold_value in
+    let entry = c.entry_at.ensures.0 in (
+      omega arith,
+      length-set at.queues at.p c.queue_at.result ∙ at.invariant.1,
+      loaded-next queue_of at.queues at.p c.queue_at.result (queue_at table args.link) (omega (arith, at.invariant.1)) at.invariant.2
+          (λ t. record { threshold = (read.0 ∙ ap (threshold_at table) entry) t; buffer = (read.1 ∙ ap (buffer_at table) entry) t }),
+      loaded-all Narrow at.queues at.p c.queue_at.result (omega (arith, at.invariant.1)) at.invariant.3 c.queue_at.ensures.threshold_bound,
+    )
+
+pub returns : goal.returns
+returns c =
+    let at = c.loop-p in
+    let end : at.p ≡ levels_most = omega (arith, at.invariant.0, c.loop-p-test.false) in
+    let whole : take at.p at.queues ≡ at.queues = take_all at.p at.queues (omega (arith, at.invariant.1)) in
+    (ap queues_of (sym whole) ∙ at.invariant.2 ∙ rw end, subst (All Narrow) whole at.invariant.3)

@@ -1,0 +1,27 @@
+-- `figures::shares::counted_at` meets its contract: the share is the one worked out there, and the figures those of the queue.
+use mathlib.Core.Path.{ap, ap₂, ◌∙◌}
+use native.Mathlib.Omega.{arith}
+use Rattle.model.specs.Formula as model
+use Rattle.model.specs.WithFlow.{together}
+use Rattle.figures.proofs.EntryLaws.{share-limited}
+use Rattle.figures.proofs.shares.counted_at.Goals as goal
+
+pub with_flow-requires : goal.with_flow-requires
+with_flow-requires c =
+    let limited = c.requires.e_lt_queues_most.1.1 in
+    let low = c.requires.e_lt_queues_most.0 in
+    let worked = c.share_at-there.ensures.share_value in
+    omega (
+      arith,
+      ap (λ (a : model.Aggregate). a.rate) c.figure-own.ensures,
+      ap (λ (a : model.Aggregate). a.burst) c.figure-own.ensures,
+      ap (λ (a : model.Aggregate). a.rate) worked,
+      ap (λ (a : model.Aggregate). a.burst) worked,
+      limited.rates c.args.e low,
+      limited.bursts c.args.e low,
+      share-limited c.requires.at_source.0 c.requires.at_source.1,
+    )
+
+pub returns : goal.returns
+returns c =
+    let worked = c.share_at-there.ensures in record { own_value = c.with_flow.ensures ∙ ap₂ together c.figure-own.ensures worked.share_value; past_value = worked.past_value }
