@@ -37,4 +37,4 @@ answer_opening-requires c = ((read c.before.before).within, omega (arith, c.requ
 pub returns : goal.returns
 returns c =
     let opened = c.answer_opening in
-    let same = sym (read c.before.before.before.before.before).same in record { area_after = opened.ensures.0 ∙ ap (λ (t : List ℕ). t ++ drop opened.result c.args.area.now) same; value = opened.ensures.1 ∙ ap length same }
+    let same = sym (read c.before.before.before.before.before).same in record { area_after = opened.ensures.area_after ∙ ap (λ (t : List ℕ). t ++ drop opened.result c.args.area.now) same; value = opened.ensures.value ∙ ap length same }

@@ -67,9 +67,9 @@ written c =
     let area = c.write_answer.new.part in
     let a = answer_of c.open-opened.result in
     let steps = c.answer_steps in
-    ap (put_mid gate_line_bytes (length area - gate_line_bytes) area) steps.ensures.0
-    ∙ line-then args.area.now area (gate_line a) (steps_text 2 args.opening.reading a.gate (lines (drop args.next args.text.now))) steps.result (gate-line-long a) c.write_answer.ensures steps.ensures.1
-    (omega (arith, followed c.before.before.before, steps.ensures.1))
+    ap (put_mid gate_line_bytes (length area - gate_line_bytes) area) steps.ensures.part_after
+    ∙ line-then args.area.now area (gate_line a) (steps_text 2 args.opening.reading a.gate (lines (drop args.next args.text.now))) steps.result (gate-line-long a) c.write_answer.ensures steps.ensures.value
+    (omega (arith, followed c.before.before.before, steps.ensures.value))
     ∙ ap (λ (t : List ℕ). t ++ drop (gate_line_bytes + steps.result) args.area.now) (sym (whole c.before.before.before))
 
 size : (c : lts.After-answer_steps tie.the-claims reads.Pre reads.Post tie.handed_clauses) → let args = c.args in

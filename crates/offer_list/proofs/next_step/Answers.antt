@@ -30,10 +30,10 @@ pub slice_bounds-read_step-end : goal.slice_bounds-read_step-end
 slice_bounds-read_step-end c = le_of_lt (ended_at c.before).within.1
 
 pub returns-in_default-read_step : goal.returns-in_default-read_step
-returns-in_default-read_step c = step-malformed _ _ _ (ended_at c.before.before.before.before) (sym c.before.before.Read-step.ensures ∙ ap step_in c.in_default-read_step.is)
+returns-in_default-read_step c = step-malformed _ _ _ (ended_at c.before.before.before.before) (sym c.read_step.ensures ∙ ap step_in c.in_default-read_step.is)
 
 pub overflow_add-result : goal.overflow_add-result
 overflow_add-result c = omega (arith, (ended_at c.before.before.before.before).within.1, c.well_formed)
 
 pub returns : goal.returns
-returns c = step-read _ _ _ (ended_at c.before.before.before.before) _ (sym c.before.before.before.Read-step.ensures ∙ ap step_in c.in-Fields.is)
+returns c = step-read _ _ _ (ended_at c.before.before.before.before) _ (sym c.read_step.ensures ∙ ap step_in c.in-Fields.is)

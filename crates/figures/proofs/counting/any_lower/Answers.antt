@@ -15,7 +15,7 @@ pub loop-i-preserved : goal.loop-i-preserved
 loop-i-preserved c =
     let args = c.args in
     raising-stays args.frame.0 args.entries.now args.figures.now c.loop-i.invariant c.loop-i-test.true
-    c.frame_index.ensures (omega (arith, c.if-figures-frame_index.false))
+    (c.frame_index.ensures.value, c.frame_index.ensures.upper_bound) (omega (arith, c.if-figures-frame_index.false))
 
 pub returns : goal.returns
 returns c = λ e. raising-all _ _ _ c.loop-i.invariant c.loop-i-test.false

@@ -1,10 +1,10 @@
 -- `figures::counting::raise_each` meets its contract. The invariant: the figures so far, raised by what the hops left have, are the whole.
 use Prim.Native.Nat.{◌-◌}
 use mathlib.Core.Path.{sym, ◌∙◌}
-use mathlib.Core.Logic.{⊎_elim}
 use native.Mathlib.Omega.{arith}
 use Rattle.figures.proofs.RaiseLaws.{raising-none, raising-grows, raising-stays, raising-all}
 use Rattle.figures.proofs.counting.raise_each.Goals as goal
+use Rattle.figures.proofs.counting.raise_each.Goals.{then-figures-at, else-figures-at}
 
 pub loop-i-init : goal.loop-i-init
 loop-i-init c = raising-none _ _ _ c.requires.1
@@ -12,10 +12,10 @@ loop-i-init c = raising-none _ _ _ c.requires.1
 pub loop-i-preserved : goal.loop-i-preserved
 loop-i-preserved c =
     let args = c.args in
-    ⊎_elim
-    (λ w. rw w.1 (raising-grows args.frame.0 args.entries.now args.figures.now c.loop-i.invariant c.loop-i-test.true c.frame_index-at.ensures (omega (arith, w.0.taken))))
-    (λ w. rw w.1 (raising-stays args.frame.0 args.entries.now args.figures.now c.loop-i.invariant c.loop-i-test.true c.frame_index-at.ensures (omega (arith, w.0.left))))
-    c.if-figures-at.branch
+    elim c.if-figures-at.branch [
+      | then-figures-at w ↦ rw w.figures-is (raising-grows args.frame.0 args.entries.now args.figures.now c.loop-i.invariant c.loop-i-test.true (c.frame_index-at.ensures.value, c.frame_index-at.ensures.upper_bound) (omega (arith, w.if-figures-at.true)))
+      | else-figures-at w ↦ rw w.figures-is (raising-stays args.frame.0 args.entries.now args.figures.now c.loop-i.invariant c.loop-i-test.true (c.frame_index-at.ensures.value, c.frame_index-at.ensures.upper_bound) (omega (arith, w.if-figures-at.false)))
+    ]
 
 pub shape_of-figures : goal.shape_of-figures
 shape_of-figures c = c.loop-i.invariant.long ∙ sym c.requires.1

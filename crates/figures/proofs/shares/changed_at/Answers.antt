@@ -48,6 +48,6 @@ returns c =
     let share = c.grown-more in record {
       own_value = c.replaced.ensures
           ∙ ap (λ (a : model.Aggregate). replaced a (aggregate_of was.result.share) (aggregate_of share.result)) c.figure-own.ensures
-          ∙ ap₂ (replaced (figure_at args.figures.now args.e)) was.ensures.0 share.ensures;
-      past_value = was.ensures.1;
+          ∙ ap₂ (replaced (figure_at args.figures.now args.e)) was.ensures.share_value share.ensures;
+      past_value = was.ensures.past_value;
     }
