@@ -1,5 +1,6 @@
 // The batch of `batch` for a host in C: host/devvonur.h.
 #![tactic(auto)]
+
 ghost use Rattle.batch.specs.View.{Batched};
 
 use batch::BatchResult;
