@@ -3,6 +3,7 @@
 //
 // The arrays are those of `queue_table` (table), `flow_store` (bits, store) and `figures` (figures).
 #![tactic(auto)]
+
 ghost use Rattle.std.specs.Prelude.{◌≡◌, true, ◌<◌, set};
 ghost use Rattle.std.proofs.Math.Option.{none};
 ghost use Rattle.model.specs.Sizes.{slot_count};

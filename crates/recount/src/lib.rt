@@ -3,6 +3,7 @@
 //
 // The arrays are those of `queue_table` (table), `flow_store` (bits, store) and `figures` (figures).
 #![tactic(auto)]
+
 ghost use Rattle.std.specs.Prelude.{◌≡◌, true, ℕ, ◌+◌, ◌<◌, length};
 ghost use Rattle.model.specs.Words.{All};
 ghost use Rattle.model.specs.Sizes.{queues_most, slot_count};
