@@ -1,6 +1,7 @@
 // Answer lines (document 01, "Columns"): the line is begun, then each field is filled from the right in the part of it that
 // starts at the field's column.
 #![tactic(auto)]
+
 ghost use Rattle.std.specs.Prelude.{◌≡◌, ◌++◌, ◌≤◌, length, drop};
 ghost use Rattle.model.specs.Answers.{answer_columns, answer_line};
 ghost use Rattle.causes.specs.View.{numbers_in};

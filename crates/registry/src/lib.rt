@@ -3,6 +3,7 @@
 //
 // The arrays are those of `queue_table` (table), `flow_store` (bits, store) and `figures` (figures).
 #![tactic(auto)]
+
 ghost use Rattle.std.specs.Prelude.{◌≡◌, true, false, length};
 ghost use Rattle.model.specs.Columns.{lines};
 ghost use Rattle.model.specs.Orders.{registering, releasing, changing, kind_number};
