@@ -3,6 +3,7 @@
 // The registry stands in local arrays, those of `queue_table`, `flow_store` and `figures`. It was made here, so that it is
 // consistent and 42 isn't looked for.
 #![tactic(auto)]
+
 ghost use Rattle.std.specs.Prelude.{◌≡◌, List, ℕ, ◌+◌, ◌≤◌, ◌<◌, length, drop};
 ghost use Rattle.model.specs.Columns.{lines};
 ghost use Rattle.admission.specs.View.{ConsistentArrays};

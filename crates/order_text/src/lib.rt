@@ -1,5 +1,6 @@
 // The registry written as order lines (W-204): kind 1, lowest slot first, in the columns that `orders` reads.
 #![tactic(auto)]
+
 ghost use Rattle.std.specs.Prelude.{◌≡◌, List, ◌++◌, map, ℕ, ◌+◌, ◌*◌, ◌^◌, ◌≤◌, ◌<◌, length, drop};
 ghost use Rattle.model.specs.Words.{joined};
 ghost use Rattle.model.specs.Sizes.{head_columns, hop_columns, slot_count};

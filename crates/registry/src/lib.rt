@@ -22,7 +22,7 @@ use orders::Kind;
 use queue_table::{TABLE_NUMBERS, Verdict};
 
 // The registry: the queue table, the slots' bits, their numbers with the pool of hop entries, and the figures of all queues.
-#[derive(Drop)]
+#[derive(Clone, Copy)]
 pub struct Registry {
     pub table: [u32; TABLE_NUMBERS],
     pub bits: [u64; SLOT_WORDS],

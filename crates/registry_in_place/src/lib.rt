@@ -1,5 +1,6 @@
 // Direct calls that change the registry where it stands (document 01, "Where each form goes"): thin functions over the calls by value.
 #![tactic(auto)]
+
 ghost use Rattle.model.specs.Orders.{registering, releasing, changing};
 ghost use Rattle.orders.specs.View.{kind_of};
 ghost use Rattle.registry.specs.View.{call_of, Performs};
