@@ -1,5 +1,6 @@
 // A recorded list of calls on a registry, and its replay.
 #![tactic(auto)]
+
 ghost use Rattle.std.specs.Prelude.{◌≡◌, ◌∷◌, ◌++◌, ◌≤◌, length, drop};
 ghost use Rattle.model.specs.Words.{and_then};
 ghost use Rattle.model.specs.Columns.{field_at, end_line};
