@@ -72,12 +72,10 @@ fn show_queue(rt: &impl Print, e: usize, figures: &[u64])
 fn show_queues(rt: &impl Print, table: &[u32], figures: &[u64])
     requires { WellFormed table.now × (length figures.now ≡ figure_numbers) }
 {
-    let mut e = 0;
-    while e < QUEUES {
+    for e in 0..QUEUES {
         if queue_table::is_queue(e, table) {
             show_queue(rt, e, figures);
         }
-        e += 1;
     }
 }
 
@@ -116,10 +114,8 @@ fn show_slot(rt: &impl Print, slot: usize, bits: &[u64], store: &[u32])
 fn show_slots(rt: &impl Print, bits: &[u64], store: &[u32])
     requires { PackedStore bits.now store.now }
 {
-    let mut slot = 0;
-    while slot < SLOTS {
+    for slot in 0..SLOTS {
         show_slot(rt, slot, bits, store);
-        slot += 1;
     }
 }
 
