@@ -160,7 +160,8 @@ fn raise_each(frame: Bytes, entries: &[u32], figures: &mut [u64])
     let mut i = 0;
     while i < entries.len() {
         let at = frame_index(i, entries);
-        if figures[at] < frame.0 {
+        let lower = figures[at] < frame.0;
+        if lower {
             figures[at] = frame.0;
         }
         i += 1;

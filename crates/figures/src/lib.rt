@@ -61,6 +61,9 @@ pub(crate) fn link_levels(link: usize, figures: &[u64]) -> [Aggregate; LEVELS]
     levels
 }
 
+// The largest burst sum of a queue of a consistent registry: its buffer is a number of 32 bits.
+const MOST_BURST: u64 = 4_294_967_296;
+
 // Whether the figures are small enough for the formulas. Those of a consistent registry are.
 pub fn limited(figures: &[u64]) -> bool
     requires { length figures.now ≡ figure_numbers }
@@ -72,7 +75,7 @@ pub fn limited(figures: &[u64]) -> bool
         if own.rate.0 > 10_000_000 {
             return false;
         }
-        if own.burst.0 > 4_294_967_296 {
+        if own.burst.0 > MOST_BURST {
             return false;
         }
         if own.frame.0 > 1542 {

@@ -35,8 +35,8 @@ module _ (c : lts.After-figure tie.the-claims reads.Pre reads.Post goal.the-inva
 pub returns-then-own-gt10000000 : goal.returns-then-own-gt10000000
 returns-then-own-gt10000000 c = large c.before.before.before (λ own read small. omega (arith, ap (λ (a : model.Aggregate). a.rate) read, c.if-own-gt10000000.true))
 
-pub returns-then-own-gt4294967296 : goal.returns-then-own-gt4294967296
-returns-then-own-gt4294967296 c = large c.before.before.before.before.before (λ own read small. omega (arith, ap (λ (a : model.Aggregate). a.burst) read, c.if-own-gt4294967296.true))
+pub returns-then-own-gt-MOST_BURST : goal.returns-then-own-gt-MOST_BURST
+returns-then-own-gt-MOST_BURST c = large c.before.before.before.before.before (λ own read small. omega (arith, ap (λ (a : model.Aggregate). a.burst) read, c.if-own-gt-MOST_BURST.true))
 
 pub returns-then-own-gt1542 : goal.returns-then-own-gt1542
 returns-then-own-gt1542 c = large c.before.before.before.before.before.before.before (λ own read small. omega (arith, ap (λ (a : model.Aggregate). a.frame) read, c.if-own-gt1542.true))
@@ -44,7 +44,7 @@ returns-then-own-gt1542 c = large c.before.before.before.before.before.before.be
 pub loop-e-preserved : goal.loop-e-preserved
 loop-e-preserved c =
     let at = c.before.before.before.before.before.before.before in
-    let small : Small (aggregate_of at.figure-own.result) = (c.if-own-gt10000000.false, c.if-own-gt4294967296.false, c.if-own-gt1542.false) in (
+    let small : Small (aggregate_of at.figure-own.result) = (c.if-own-gt10000000.false, c.if-own-gt-MOST_BURST.false, c.if-own-gt1542.false) in (
       omega arith,
       before-next (λ d. Small (figure_at (figures at) d)) (e at) at.loop-e.invariant.1 (subst Small (same at) small),
     )
