@@ -35,8 +35,10 @@ def expect(name, done, code, printed):
 
 def try_all(root, command):
     shutil.copy(ROOT / "run", root / "run")
+    (root / "tools").mkdir()
+    shutil.copy(ROOT / "tools" / "build", root / "tools" / "build")
     script(root / "kit" / "rt", "exit 0")
-    script(root / "target" / "bin" / "admit", f"exec {command}")
+    script(root / "crates" / "admit" / "out" / "admit", f"exec {command}")
     for example in [ROOT / "examples", ROOT / "examples" / "hall"]:
         expect(example.name, run(root, example), 0, (example / "printed.txt").read_bytes())
     shutil.copytree(ROOT / "examples", root / "examples")
@@ -59,7 +61,7 @@ def try_all(root, command):
         sys.exit("run: words are missing")
     for arguments in [["--nothing"], ["a", "b"]]:
         expect("usage", run(root, *arguments), 2, b"")
-    script(root / "target" / "bin" / "admit", "exit 7")
+    script(root / "crates" / "admit" / "out" / "admit", "exit 7")
     expect("a program that fails", run(root, ROOT / "examples"), 7, b"")
 
 

@@ -1,24 +1,25 @@
 // Prints what a gate answers to a list of offers (W-207). Reads offers.txt, one that can't be opened as empty: the opening in its first
 // line, then a line for each offer. Standard error says where the file can't be opened or is too long.
 #![tactic(auto)]
+
 ghost use Rattle.std.specs.Prelude.{◌≤◌, length};
 
-use libc::{STDERR_FILENO, STDOUT_FILENO};
 use offer_list::PRINTED;
 use text_files::LIST_AREA;
 
-fn print_answers(text: &[u8])
+fn print_answers(rt: &impl Print, err: &impl Print, text: &[u8])
     requires { length text.now ≤ 200000 }
 {
     let mut area = [0u8; PRINTED];
     let bytes = offer_list::answer(text, &mut area);
-    if !io::write_all(STDOUT_FILENO, &area[..bytes]) {
-        io::write_all(STDERR_FILENO, b"offers: the output can't be written\n");
+    if rt.write_all(&area[..bytes]).is_err() {
+        let _ = err.write_all(b"offers: the output can't be written\n");
     }
 }
 
-fn main() {
+fn main(rt: HostRuntime) {
+    let err = rt.stderr();
     let mut text = [0u8; LIST_AREA];
-    let n = text_files::read_list(b"offers", b"offers.txt", &mut text);
-    print_answers(&text[..n]);
+    let n = text_files::read_list(&rt, &err, b"offers", b"offers.txt", &mut text);
+    print_answers(&rt, &err, &text[..n]);
 }

@@ -1,12 +1,13 @@
 // Reads the order lines of the file orders.txt beside it and prints what each says: code in 3 columns, flow number in 6,
 // rate in 9, burst in 8, largest frame in 5, deadline in 9, hops in 3, and the last hop's link in 5 and level in 3.
 #![tactic(auto)]
+
 use causes::Cause;
 use columns::NextLine;
-use libc::STDOUT_FILENO;
 use orders::Order;
 
-fn show(code: u64, flow: orders::Flow, link: u32, level: u32) {
+// What standard output doesn't take is lost.
+fn show(rt: &impl Print, code: u64, flow: orders::Flow, link: u32, level: u32) {
     let mut out = *b"                                                   \n";
     let number = flow.number;
     let share = flow.share;
@@ -24,11 +25,11 @@ fn show(code: u64, flow: orders::Flow, link: u32, level: u32) {
     columns::write_at(&mut out, 41, 43, columns::wide(hops));
     columns::write_at(&mut out, 44, 48, columns::wide(link));
     columns::write_at(&mut out, 49, 51, columns::wide(level));
-    io::write_all(STDOUT_FILENO, &out);
+    let _ = rt.write_all(&out);
 }
 
 // A line with a code, a flow number, a rate and a burst only.
-fn bare(code: u64, number: u32, rate: units::Rate, burst: units::Bytes) {
+fn bare(rt: &impl Print, code: u64, number: u32, rate: units::Rate, burst: units::Bytes) {
     let flow = orders::Flow {
         number,
         share: units::Aggregate {
@@ -39,12 +40,13 @@ fn bare(code: u64, number: u32, rate: units::Rate, burst: units::Bytes) {
         deadline: units::Micros(0),
         hops: 0,
     };
-    show(code, flow, 0, 0);
+    show(rt, code, flow, 0, 0);
 }
 
-fn refused(cause: Cause) {
+fn refused(rt: &impl Print, cause: Cause) {
     let numbers = causes::numbers_of(cause);
     bare(
+        rt,
         columns::wide(numbers.code),
         0,
         units::Rate(0),
@@ -52,7 +54,7 @@ fn refused(cause: Cause) {
     );
 }
 
-fn judge(line: &[u8]) {
+fn judge(rt: &impl Print, line: &[u8]) {
     let read = orders::read_order(line);
     let order = read.order;
     let hops = read.hops;
@@ -67,38 +69,33 @@ fn judge(line: &[u8]) {
             }
             let link = orders::hop_link(&hops, n - 1);
             let level = orders::hop_level(&hops, n - 1);
-            show(0, flow, link, level);
+            show(rt, 0, flow, link, level);
         }
-        Order::Release(number) => bare(0, number, units::Rate(0), units::Bytes(0)),
+        Order::Release(number) => bare(rt, 0, number, units::Rate(0), units::Bytes(0)),
         Order::Change(given) => {
             let rate = given.rate;
             let burst = given.burst;
-            bare(0, given.number, rate, burst);
+            bare(rt, 0, given.number, rate, burst);
         }
-        Order::Malformed => refused(Cause::Malformed),
-        Order::OutOfRange => refused(Cause::OutOfRange),
+        Order::Malformed => refused(rt, Cause::Malformed),
+        Order::OutOfRange => refused(rt, Cause::OutOfRange),
     }
 }
 
-fn main() {
-    let fd = os::open_read(b"orders.txt");
-    if fd < 0 {
-        return;
-    }
+fn main(rt: HostRuntime) {
     let mut space = [0u8; 8192];
-    let n = io::read_full(fd, &mut space);
-    libc::close(fd);
-    walk(&space[..n]);
+    let n = text_files::read(&rt, b"orders.txt", &mut space);
+    walk(&rt, &space[..n]);
 }
 
-fn walk(text: &[u8]) {
+fn walk(rt: &impl Print, text: &[u8]) {
     let mut at = 0;
     while at < text.len() {
         let NextLine::Ended(end) = columns::next_line(text, at) else {
-            refused(Cause::Malformed);
+            refused(rt, Cause::Malformed);
             return;
         };
-        judge(&text[at..end]);
+        judge(rt, &text[at..end]);
         at = end + 1;
     }
 }

@@ -6,13 +6,14 @@
 // slot, clear for 0, 2 the store, 3 figures), index 4-8, the number 9-17. A w lends an area of so many dots, 2-5, to the writer
 // of order lines: code in 3 columns, bytes in 6, then the whole area and LF.
 #![tactic(auto)]
+
 use admission::Answer;
 use causes::Finding;
 use columns::{Field, NextLine};
-use libc::STDOUT_FILENO;
 use orders::Kind;
 use queue_table::TABLE_BYTES;
 use registry::Registry;
+use std::rt::Files;
 
 // One byte above the longest table text.
 const TABLE: usize = TABLE_BYTES + 1;
@@ -20,10 +21,11 @@ const TABLE: usize = TABLE_BYTES + 1;
 // The longest area that is lent to the writer.
 const AREA: usize = 300;
 
-fn show(answer: Answer) {
+// What standard output doesn't take is lost.
+fn show(rt: &impl Print, answer: Answer) {
     let mut out = *b"             \n";
     answer_line::write_answer(answer, &mut out);
-    io::write_all(STDOUT_FILENO, &out);
+    let _ = rt.write_all(&out);
 }
 
 // A number of an x line, 0 where there is none.
@@ -75,10 +77,10 @@ fn change(registry: Registry, array: u32, index: usize, n: u32) -> Registry {
     }
 }
 
-fn call(registry: Registry, kind: Kind, line: &[u8]) -> Registry {
+fn call(rt: &impl Print, registry: Registry, kind: Kind, line: &[u8]) -> Registry {
     let called = registry::step(registry, kind, line);
     let answer = called.answer;
-    show(answer);
+    show(rt, answer);
     called.registry
 }
 
@@ -90,43 +92,43 @@ fn code_of(finding: Finding) -> u32 {
 }
 
 // What the writer says of an area, and what stands in the area then.
-fn show_text(registry: Registry, area: &mut [u8]) {
+fn show_text(rt: &impl Print, registry: Registry, area: &mut [u8]) {
     let written = order_text::write(registry, area);
     let finding = written.finding;
     let mut out = *b"         \n";
     columns::write_at(&mut out, 1, 3, columns::wide(code_of(finding)));
     columns::write_at(&mut out, 4, 9, written.bytes as u64);
-    io::write_all(STDOUT_FILENO, &out);
-    io::write_all(STDOUT_FILENO, &area[..]);
-    io::write_all(STDOUT_FILENO, b"\n");
+    let _ = rt.write_all(&out);
+    let _ = rt.write_all(&area[..]);
+    let _ = rt.write_all(b"\n");
 }
 
 // An area of at most AREA bytes.
-fn hand_over(registry: Registry, size: usize) {
+fn hand_over(rt: &impl Print, registry: Registry, size: usize) {
     let mut area = [b'.'; AREA];
     if AREA < size {
         return;
     }
     let start = AREA - size;
-    show_text(registry, &mut area[start..]);
+    show_text(rt, registry, &mut area[start..]);
 }
 
-fn step(registry: Registry, line: &[u8]) -> Registry {
+fn step(rt: &impl Print, registry: Registry, line: &[u8]) -> Registry {
     if line.len() == 0 {
-        return call(registry, Kind::Register, line);
+        return call(rt, registry, Kind::Register, line);
     }
     if line[0] == b'r' {
-        return call(registry, Kind::Release, &line[1..]);
+        return call(rt, registry, Kind::Release, &line[1..]);
     }
     if line[0] == b'c' {
-        return call(registry, Kind::Change, &line[1..]);
+        return call(rt, registry, Kind::Change, &line[1..]);
     }
     if line[0] == b'w' {
-        hand_over(registry, number(columns::read_at(line, 2, 5)) as usize);
+        hand_over(rt, registry, number(columns::read_at(line, 2, 5)) as usize);
         return registry;
     }
     if line[0] != b'x' {
-        return call(registry, Kind::Register, line);
+        return call(rt, registry, Kind::Register, line);
     }
     let array = number(columns::read_at(line, 2, 3));
     let index = number(columns::read_at(line, 4, 8)) as usize;
@@ -134,53 +136,45 @@ fn step(registry: Registry, line: &[u8]) -> Registry {
     change(registry, array, index, n)
 }
 
-fn walk(text: &[u8], empty: Registry) {
+fn walk(rt: &impl Print, text: &[u8], empty: Registry) {
     let mut registry = empty;
     let mut at = 0;
     while at < text.len() {
         let NextLine::Ended(end) = columns::next_line(text, at) else {
-            step(registry, &text[at..]);
+            step(rt, registry, &text[at..]);
             return;
         };
         let next = end + 1;
-        registry = step(registry, &text[at..next]);
+        registry = step(rt, registry, &text[at..next]);
         at = next;
     }
 }
 
-fn judge(table: &[u8], orders: &[u8]) {
+fn judge(rt: &impl Print, table: &[u8], orders: &[u8]) {
     let opened = registry::open(table);
-    walk(orders, opened.registry);
+    walk(rt, orders, opened.registry);
 }
 
 // Whether there are such files.
-fn judge_files(table_name: &[u8], orders_name: &[u8]) -> bool {
-    let table_fd = os::open_read(table_name);
-    if table_fd < 0 {
-        return false;
-    }
+fn judge_files(rt: &(impl Files + Print), table_name: &[u8], orders_name: &[u8]) -> bool {
     let mut table = [0u8; TABLE];
-    let n = io::read_full(table_fd, &mut table);
-    libc::close(table_fd);
-    let orders_fd = os::open_read(orders_name);
-    if orders_fd < 0 {
+    let Some(n) = text_files::try_read(rt, table_name, &mut table) else {
         return false;
-    }
+    };
     let mut orders = [0u8; 16384];
-    let m = io::read_full(orders_fd, &mut orders);
-    libc::close(orders_fd);
-    judge(&table[..n], &orders[..m]);
+    let Some(m) = text_files::try_read(rt, orders_name, &mut orders) else {
+        return false;
+    };
+    judge(rt, &table[..n], &orders[..m]);
     true
 }
 
-fn main() {
-    let mut k: u8 = 0;
-    while k < 100 {
+fn main(rt: HostRuntime) {
+    for k in 0..100u8 {
         let table_name = [b't', 48 + k / 10, 48 + k % 10];
         let orders_name = [b'o', 48 + k / 10, 48 + k % 10];
-        if !judge_files(&table_name, &orders_name) {
+        if !judge_files(&rt, &table_name, &orders_name) {
             return;
         }
-        k += 1;
     }
 }

@@ -1,4 +1,4 @@
-// Replays a recorded list of calls, by value or, with an argument (`replay in_place`), on a registry that is held and lent.
+// Replays a recorded list of calls, by value or, with an argument (`replay in-place`), on a registry that is held and lent.
 // Reads table.txt and calls.txt, one that can't be opened as empty, and prints, the same in either form,
 // - where the table is refused, its code in 3 columns and line in 6;
 // - the answer to each call: code in 3 columns, place in 4, link in 4 and level in 2;
@@ -6,8 +6,9 @@
 // - each queue of the table: link in 4, level in 2, rate sum in 12, burst sum in 15 and largest frame in 5;
 // - each held slot: place in 4 columns, then the columns of its order line from the third on.
 #![tactic(auto)]
+
 ghost use Rattle.std.specs.Prelude.{◌+◌, ◌*◌, ◌≤◌, ◌<◌, ◌≡◌, length};
-ghost use Rattle.io.specs.Counts.{IsPrefixLen};
+ghost use Rattle.text_files.specs.Counts.{IsPrefixLen};
 ghost use Rattle.model.specs.Sizes.{queues_most, hops_most, head_columns, hop_columns, slot_count};
 ghost use Rattle.queue_table.specs.View.{WellFormed};
 ghost use Rattle.flow_store.specs.View.{PackedStore};
@@ -15,11 +16,11 @@ ghost use Rattle.figures.specs.View.{figure_numbers};
 ghost use Rattle.registry.specs.View.{Consistent};
 
 use flow_store::SLOTS;
-use libc::STDOUT_FILENO;
 use orders::{Flow, HEAD_COLUMNS, HOP_COLUMNS, MOST_HOPS};
 use queue_table::{QUEUES, Verdict};
 use recording::{ANSWER, ANSWERS, Form, TABLE};
 use registry::Registry;
+use std::env::{Env, FillError};
 use text_files::LIST;
 
 // How many columns more a slot's line has than an order line.
@@ -34,23 +35,23 @@ fn put(line: &mut [u8], first: usize, last: usize, n: u32)
     columns::write_at(line, first, last, columns::wide(n));
 }
 
-fn show_verdict(verdict: Verdict) {
+fn show_verdict(rt: &impl Print, verdict: Verdict) {
     match verdict {
         Verdict::Accepted => {}
         Verdict::Refused(fault, line) => {
             let out = recording::refusal_line(fault, line);
-            io::write_all(STDOUT_FILENO, &out);
+            let _ = rt.write_all(&out);
         }
     }
 }
 
-fn show_end(offset: usize) {
+fn show_end(rt: &impl Print, offset: usize) {
     let out = recording::end_line(offset);
-    io::write_all(STDOUT_FILENO, &out);
+    let _ = rt.write_all(&out);
 }
 
 // The figures of queue e.
-fn show_queue(e: usize, figures: &[u64])
+fn show_queue(rt: &impl Print, e: usize, figures: &[u64])
     requires { (e < queues_most) × (length figures.now ≡ figure_numbers) }
 {
     let own = figures::figure(e, figures);
@@ -64,19 +65,17 @@ fn show_queue(e: usize, figures: &[u64])
     columns::write_at(&mut out, 7, 18, rate.0);
     columns::write_at(&mut out, 19, 33, burst.0);
     columns::write_at(&mut out, 34, 38, frame.0);
-    io::write_all(STDOUT_FILENO, &out);
+    let _ = rt.write_all(&out);
 }
 
 // The queues of the table, link by link and level by level.
-fn show_queues(table: &[u32], figures: &[u64])
+fn show_queues(rt: &impl Print, table: &[u32], figures: &[u64])
     requires { WellFormed table.now × (length figures.now ≡ figure_numbers) }
 {
-    let mut e = 0;
-    while e < QUEUES {
+    for e in 0..QUEUES {
         if queue_table::is_queue(e, table) {
-            show_queue(e, figures);
+            show_queue(rt, e, figures);
         }
-        e += 1;
     }
 }
 
@@ -90,16 +89,16 @@ fn write_flow(slot: usize, flow: Flow, entries: &[u32], out: &mut [u8]) -> usize
     PLACE + bytes
 }
 
-fn show_flow(slot: usize, flow: Flow, entries: &[u32])
+fn show_flow(rt: &impl Print, slot: usize, flow: Flow, entries: &[u32])
     requires { (slot < slot_count) × (flow.hops ≡ length entries.now) × (length entries.now ≤ hops_most) }
 {
     let mut out = [b' '; SLOT_LINE];
     let bytes = write_flow(slot, flow, entries, &mut out);
-    io::write_all(STDOUT_FILENO, &out[..bytes]);
+    let _ = rt.write_all(&out[..bytes]);
 }
 
 // A slot's line where it is held: a path has at most MOST_HOPS hops.
-fn show_slot(slot: usize, bits: &[u64], store: &[u32])
+fn show_slot(rt: &impl Print, slot: usize, bits: &[u64], store: &[u32])
     requires { PackedStore bits.now store.now × (slot < slot_count) }
 {
     if !flow_store::is_held(slot, bits) {
@@ -109,57 +108,55 @@ fn show_slot(slot: usize, bits: &[u64], store: &[u32])
     if MOST_HOPS < path.len() {
         return;
     }
-    show_flow(slot, flow_store::flow_at(slot, store), path);
+    show_flow(rt, slot, flow_store::flow_at(slot, store), path);
 }
 
-fn show_slots(bits: &[u64], store: &[u32])
+fn show_slots(rt: &impl Print, bits: &[u64], store: &[u32])
     requires { PackedStore bits.now store.now }
 {
-    let mut slot = 0;
-    while slot < SLOTS {
-        show_slot(slot, bits, store);
-        slot += 1;
+    for slot in 0..SLOTS {
+        show_slot(rt, slot, bits, store);
     }
 }
 
-fn show_registry(registry: Registry)
+fn show_registry(rt: &impl Print, registry: Registry)
     requires { Consistent registry }
 {
     let table = registry.table;
     let bits = registry.bits;
     let store = registry.store;
     let figures = registry.figures;
-    show_queues(&table, &figures);
-    show_slots(&bits, &store);
+    show_queues(rt, &table, &figures);
+    show_slots(rt, &bits, &store);
 }
 
 // Any argument asks for the calls in place; the first counted is the program's name.
-fn form_asked() -> Form {
-    if 1 < os::arg_count() {
-        return Form::InPlace;
+fn form_asked(rt: &impl Env) -> Form {
+    match rt.arg(1, &mut []) {
+        Err(FillError::NotPresent) => Form::ByValue,
+        _ => Form::InPlace,
     }
-    Form::ByValue
 }
 
-fn replay(form: Form, table: &[u8], calls: &[u8]) {
+fn replay(rt: &impl Print, form: Form, table: &[u8], calls: &[u8]) {
     let mut answers = [0u8; ANSWERS];
     let replayed = recording::replay(form, table, calls, &mut answers);
     let verdict = replayed.verdict;
     let registry = replayed.registry;
     let end = ANSWER * replayed.count;
-    show_verdict(verdict);
-    io::write_all(STDOUT_FILENO, &answers[..end]);
+    show_verdict(rt, verdict);
+    let _ = rt.write_all(&answers[..end]);
     if replayed.end < calls.len() {
-        show_end(replayed.end);
+        show_end(rt, replayed.end);
     }
-    show_registry(registry);
+    show_registry(rt, registry);
 }
 
-fn main() {
-    let form = form_asked();
+fn main(rt: HostRuntime) {
+    let form = form_asked(&rt);
     let mut table = [0u8; TABLE];
     let mut calls = [0u8; LIST];
-    let n = text_files::read(b"table.txt", &mut table);
-    let m = text_files::read(b"calls.txt", &mut calls);
-    replay(form, &table[..n], &calls[..m]);
+    let n = text_files::read(&rt, b"table.txt", &mut table);
+    let m = text_files::read(&rt, b"calls.txt", &mut calls);
+    replay(&rt, form, &table[..n], &calls[..m]);
 }

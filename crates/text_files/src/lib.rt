@@ -1,62 +1,115 @@
 // The files that programs read.
 #![tactic(auto)]
-ghost use Rattle.std.specs.Prelude.{◌≤◌};
-ghost use Rattle.io.specs.Counts.{IsPrefixLen};
 
-use libc::STDERR_FILENO;
+ghost use Rattle.std.specs.Prelude.{◌≤◌, IfSome};
+ghost use Rattle.text_files.specs.Counts.{IsPrefixLen};
+
+use std::fs::File;
+use std::io::Read;
+use std::rt::Files;
+use std::str;
 
 // Only so many bytes of a list of calls or offers count. The area has one more, so that a longer list shows.
 pub const LIST: usize = 200_000;
 
 pub const LIST_AREA: usize = LIST + 1;
 
-// How many bytes of an open file stand at the start of `text`. The file is closed then.
-fn take(fd: i32, text: &mut [u8]) -> usize
-    ensures { IsPrefixLen result text.new }
-{
-    let n = io::read_full(fd, text);
-    libc::close(fd);
-    n
+// The file of this name, where it can be opened. A name is UTF-8.
+fn open<R: Files>(rt: &R, name: &[u8]) -> Option<R::File> {
+    let Ok(path) = str::from_utf8(name) else {
+        return None;
+    };
+    File::open(rt, path).ok()
 }
 
-// How many bytes of the file stand at the start of `text`; none where it can't be opened.
-pub fn read(name: &[u8], text: &mut [u8]) -> usize
+// How many bytes one read puts at the start of `text`; none where it fails.
+fn read_some<F: Read>(file: &mut F, text: &mut [u8]) -> usize
     ensures { IsPrefixLen result text.new }
 {
-    let fd = os::open_read(name);
-    if fd < 0 {
-        return 0;
+    match file.read(text) {
+        Ok(n) => n,
+        Err(_) => 0,
     }
-    take(fd, text)
 }
 
-// What `program` says of a file.
-fn tell(program: &[u8], name: &[u8], words: &[u8]) {
-    io::write_all(STDERR_FILENO, program);
-    io::write_all(STDERR_FILENO, b": ");
-    io::write_all(STDERR_FILENO, name);
-    io::write_all(STDERR_FILENO, words);
+// How many bytes of an open file stand at the start of `text`: up to its end, the end of `text` or a read that fails. The file is
+// closed then.
+fn take<F: Read + Drop>(file: F, text: &mut [u8]) -> usize
+    ensures { IsPrefixLen result text.new }
+{
+    let mut file = file;
+    let mut done = 0;
+    while done < text.len() {
+        let n = read_some(&mut file, &mut text[done..]);
+        if n == 0 {
+            break;
+        }
+        done += n;
+    }
+    done
+}
+
+// How many bytes of the file stand at the start of `text`, where it can be opened.
+pub fn try_read<R: Files>(rt: &R, name: &[u8], text: &mut [u8]) -> Option<usize>
+    ensures { IfSome result (λ n. IsPrefixLen n text.new) }
+{
+    let file = open(rt, name)?;
+    Some(take(file, text))
+}
+
+// The same, and none where it can't be opened.
+pub fn read<R: Files>(rt: &R, name: &[u8], text: &mut [u8]) -> usize
+    ensures { IsPrefixLen result text.new }
+{
+    let Some(file) = open(rt, name) else {
+        return 0;
+    };
+    take(file, text)
+}
+
+// What `program` says of a file on `err`. What `err` doesn't take is lost.
+fn tell<E: Print>(err: &E, program: &[u8], name: &[u8], words: &[u8]) {
+    let _ = err.write_all(program);
+    let _ = err.write_all(b": ");
+    let _ = err.write_all(name);
+    let _ = err.write_all(words);
 }
 
 // The same, and `program` says so where the file can't be opened.
-pub fn read_or_tell(program: &[u8], name: &[u8], text: &mut [u8]) -> usize
+pub fn read_or_tell<R: Files, E: Print>(
+    rt: &R,
+    err: &E,
+    program: &[u8],
+    name: &[u8],
+    text: &mut [u8],
+) -> usize
     ensures { IsPrefixLen result text.new }
 {
-    let fd = os::open_read(name);
-    if fd < 0 {
-        tell(program, name, b": can't be opened, counts as empty\n");
+    let Some(file) = open(rt, name) else {
+        tell(err, program, name, b": can't be opened, counts as empty\n");
         return 0;
-    }
-    take(fd, text)
+    };
+    take(file, text)
 }
 
 // The same of a list, of which no more than LIST bytes count; `program` says so where there are more.
-pub fn read_list(program: &[u8], name: &[u8], text: &mut [u8]) -> usize
+pub fn read_list<R: Files, E: Print>(
+    rt: &R,
+    err: &E,
+    program: &[u8],
+    name: &[u8],
+    text: &mut [u8],
+) -> usize
     ensures { IsPrefixLen result text.new × (result ≤ 200000) }
 {
-    let n = read_or_tell(program, name, text);
+    let n = read_or_tell(rt, err, program, name, text);
     if LIST < n {
-        tell(program, name, b": only the first 200,000 bytes count\n");
+        tell(
+            err,
+            program,
+            name,
+            b": only the first 200,000 bytes count\n",
+        );
         return LIST;
     }
     n
