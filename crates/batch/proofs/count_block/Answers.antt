@@ -1,5 +1,5 @@
 -- `batch::count_block` meets its contract. The invariant: the lines ended so far and those from the next byte on are those from `at` on.
-use Prim.Native.Nat.{ℕ, ◌+◌, ◌-◌, ◌<◌}
+use Prim.Native.Nat.{ℕ, ◌+◌, ◌<◌}
 use mathlib.Core.Path.{◌≡◌, ap}
 use native.Mathlib.Omega.{arith}
 use lib.ListN.{length, drop}

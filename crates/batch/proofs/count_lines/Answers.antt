@@ -1,5 +1,5 @@
 -- `batch::count_lines` meets its contract. The invariant: the lines ended so far and those of the rest are all lines, and a byte is left.
-use Prim.Native.Nat.{ℕ, ◌+◌, ◌-◌}
+use Prim.Native.Nat.{ℕ, ◌+◌}
 use mathlib.Core.Path.{◌≡◌, sym, ap, ◌∙◌}
 use mathlib.Core.List.{List}
 use native.Mathlib.Omega.{arith}

@@ -1,5 +1,5 @@
 -- `batch::count_rest` meets its contract. The invariant: the lines ended so far and those of the rest are all lines.
-use Prim.Native.Nat.{◌+◌, ◌-◌, ◌<◌}
+use Prim.Native.Nat.{◌+◌, ◌<◌}
 use mathlib.Core.Path.{refl}
 use native.Mathlib.Omega.{arith}
 use lib.ListN.{length}

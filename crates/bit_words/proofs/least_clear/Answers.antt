@@ -1,5 +1,4 @@
 -- `bit_words::least_clear` meets its contract. The invariant: every bit before word i is set.
-use Prim.Native.Nat.{◌-◌}
 use native.Mathlib.Omega.{arith}
 use Rattle.bit_words.proofs.WordLaws.{least-found, word-full}
 use Rattle.bit_words.proofs.least_clear.Goals as goal

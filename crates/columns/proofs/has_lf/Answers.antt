@@ -1,5 +1,4 @@
 -- `columns::has_lf` meets its contract. The invariant: the flag says whether an LF stands in the bytes passed.
-use Prim.Native.Nat.{◌-◌}
 use mathlib.Core.Path.{◌∙◌, ap}
 use native.Mathlib.Omega.{arith}
 use Rattle.columns.specs.View.{lf_within}

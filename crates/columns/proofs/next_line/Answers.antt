@@ -1,5 +1,4 @@
 -- `columns::next_line` meets its contract. The invariant: the bytes from `at` to `i` hold no LF, so they stand before the lines from `i` on.
-use Prim.Native.Nat.{◌-◌}
 use mathlib.Core.Path.{◌∙◌}
 use native.Mathlib.Omega.{arith}
 use Rattle.model.proofs.Laws.Columns.{line-ended, line-unended}

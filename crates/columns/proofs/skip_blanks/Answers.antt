@@ -1,5 +1,4 @@
 -- `columns::skip_blanks` meets its contract. The invariant: the field says what the bytes from `i` on say.
-use Prim.Native.Nat.{◌-◌}
 use mathlib.Core.Path.{refl, ◌∙◌}
 use native.Mathlib.Omega.{arith}
 use Rattle.model.proofs.Laws.Columns.{field-blank}

@@ -1,5 +1,5 @@
 -- `columns::write_field` meets its contract. The invariant: what is still to be written, before the columns from `at` on, stays the same.
-use Prim.Native.Nat.{◌-◌, ◌≤◌}
+use Prim.Native.Nat.{◌≤◌}
 use mathlib.Core.Path.{◌≡◌}
 use mathlib.Core.List.{◌++◌}
 use lib.ListN.{length, drop}

@@ -1,6 +1,5 @@
 -- `figures::clear` meets its contract. The invariant: what stands before position `i` is 0.
 use borrow.Author.Rules.{rules}
-use Prim.Native.Nat.{◌-◌}
 use mathlib.Core.Path.{◌∙◌}
 use native.Mathlib.Omega.{arith}
 use lib.ListN.{length-set}

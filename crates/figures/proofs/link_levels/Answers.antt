@@ -1,5 +1,4 @@
 -- `figures::link_levels` meets its contract. The invariant: the levels before `p` are loaded.
-use Prim.Native.Nat.{◌-◌}
 use mathlib.Core.Path.{◌≡◌, refl, sym, ap, ◌∙◌}
 use native.Mathlib.Omega.{arith}
 use lib.ListN.{length-set}

@@ -1,6 +1,6 @@
 -- `figures::same` meets its contract. The invariant: the arrays agree before position `i`.
 use borrow.Author.Rules.{rules}
-use Prim.Native.Nat.{ℕ, ◌-◌}
+use Prim.Native.Nat.{ℕ}
 use mathlib.Core.Path.{◌≡◌, ap}
 use mathlib.Core.Bool.{true≢false, false≢true}
 use mathlib.Core.List.{List}

@@ -1,5 +1,5 @@
 -- `flow_check::slots_stand` meets its contract. The invariant: the slots before this one stand, and their numbers are marked.
-use Prim.Native.Nat.{ℕ, ◌-◌}
+use Prim.Native.Nat.{ℕ}
 use mathlib.Core.Path.{◌≡◌, sym, ◌∙◌}
 use mathlib.Core.Bool.{Bool, true}
 use mathlib.Core.List.{List}

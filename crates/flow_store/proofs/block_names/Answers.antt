@@ -1,5 +1,5 @@
 -- `flow_store::block_names` meets its contract. The invariant: where none was found the store so far have other numbers.
-use Rattle.std.proofs.Common.{◌-◌, false, true≢false, arith}
+use Rattle.std.proofs.Common.{true≢false, arith}
 use Rattle.flow_store.proofs.ScanLaws.{others-join, others-one}
 use Rattle.flow_store.proofs.block_names.Goals as goal
 

@@ -1,5 +1,5 @@
 -- `flow_store::change` meets its contract: its two stores change the slot's rate and burst, and no count.
-use Rattle.std.proofs.Common.{◌≡◌, ℕ, ◌+◌, ◌-◌, ◌*◌, ◌<◌, Bool, true, false, cond, List, length, get_or, set, sym, refl, ap, ◌∙◌, arith, length-set, get_or-set_other, get_or-set_same, drop-set-lt}
+use Rattle.std.proofs.Common.{◌≡◌, ℕ, ◌+◌, ◌*◌, ◌<◌, Bool, true, false, cond, List, length, get_or, set, sym, refl, ap, ◌∙◌, arith, length-set, get_or-set_other, get_or-set_same, drop-set-lt}
 use mathlib.Core.Option.{none}
 use Rattle.model.specs.Sizes.{slot_count}
 use Rattle.model.specs.Orders.{Flow, Change}

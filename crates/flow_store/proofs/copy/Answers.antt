@@ -1,5 +1,5 @@
 -- `flow_store::copy` meets its contract. The invariant: the first i numbers are copied.
-use Rattle.std.proofs.Common.{◌≡◌, ◌-◌, length, ap, ◌∙◌, add-one, arith}
+use Rattle.std.proofs.Common.{◌≡◌, length, ap, ◌∙◌, add-one, arith}
 use lib.Seq.{paste-zero, paste-suc, length-paste}
 use Rattle.flow_store.proofs.copy.Goals as goal
 use Rattle.flow_store.proofs.copy.Lts as lts

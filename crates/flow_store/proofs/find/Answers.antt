@@ -1,5 +1,5 @@
 -- `flow_store::find` meets its contract. The invariant: what is found from slot i on is what is found from the first on.
-use Rattle.std.proofs.Common.{◌≡◌, ◌-◌, true, false, sym, ◌∙◌, ⊎_elim, arith, eq-eqb, ne_eqb}
+use Rattle.std.proofs.Common.{◌≡◌, true, false, sym, ◌∙◌, arith, eq-eqb, ne_eqb}
 use Rattle.model.specs.Reference.{holds}
 use Rattle.flow_store.proofs.ScanLaws.{named, holds_named, scan-found, scan-on, scan-end, scan-whole, scan-skip}
 use Rattle.flow_store.proofs.find.Goals as goal

@@ -1,5 +1,5 @@
 -- `flow_store::is_packed` meets its contract. The invariant: the store before slot i are packed, and their entries end at `end`.
-use Rattle.std.proofs.Common.{◌≡◌, ◌+◌, ◌-◌, true, false, sym, ◌∙◌, subst, true≢false, arith}
+use Rattle.std.proofs.Common.{◌≡◌, ◌+◌, sym, ◌∙◌, subst, true≢false, arith}
 use Rattle.model.specs.Sizes.{slot_count}
 use Rattle.flow_store.proofs.StartLaws.{PackedTo, packed-first, packed-free, packed-held, packed_all, start-wrong, path-past}
 use Rattle.flow_store.proofs.is_packed.Goals as goal

@@ -1,5 +1,4 @@
 -- `flow_store::move_starts` meets its contract. The invariant: the starts before position i have moved, and nothing else has.
-use Rattle.std.proofs.Common.{◌-◌}
 use Rattle.flow_store.proofs.StartLaws.{moved-first, moved-next, moved_all}
 use Rattle.flow_store.proofs.move_starts.Goals as goal
 

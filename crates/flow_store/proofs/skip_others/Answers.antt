@@ -1,5 +1,5 @@
 -- `flow_store::skip_others` meets its contract. The invariant: no slot before the next block has the number.
-use Rattle.std.proofs.Common.{◌-◌, arith}
+use Rattle.std.proofs.Common.{arith}
 use Rattle.flow_store.proofs.ScanLaws.{others-join}
 use Rattle.flow_store.proofs.skip_others.Goals as goal
 

@@ -1,5 +1,5 @@
 -- `link_check::blockings` meets its contract. The invariant: the entries from `i` on are right, and `largest` is what blocks above level `i`.
-use Prim.Native.Nat.{◌-◌, ◌≤◌}
+use Prim.Native.Nat.{◌≤◌}
 use mathlib.Core.Path.{◌≡◌}
 use lib.ListN.{length, drop}
 use Rattle.model.specs.Sizes.{levels_most}

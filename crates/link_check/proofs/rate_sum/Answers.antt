@@ -1,6 +1,6 @@
 -- `link_check::rate_sum` meets its contract. The invariant: the sum of the levels passed and the total of those left make the total.
 use borrow.Author.Rules.{rules}
-use Prim.Native.Nat.{◌+◌, ◌-◌}
+use Prim.Native.Nat.{◌+◌}
 use mathlib.Core.Path.{◌≡◌, ap}
 use native.Mathlib.Omega.{arith}
 use lib.ListN.{length, get_or, drop}

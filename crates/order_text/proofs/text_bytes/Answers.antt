@@ -1,5 +1,5 @@
 -- `order_text::text_bytes` meets its contract: with the bytes of the slots that are left it is the whole text's.
-use Prim.Native.Nat.{◌+◌, ◌-◌}
+use Prim.Native.Nat.{◌+◌}
 use mathlib.Core.Path.{ap}
 use mathlib.Core.Option.{none}
 use native.Mathlib.Omega.{arith}

@@ -1,5 +1,5 @@
 -- `order_text::write_path` meets its contract: what is left of the path goes to `at`, hop by hop.
-use Prim.Native.Nat.{ℕ, ◌+◌, ◌-◌}
+use Prim.Native.Nat.{ℕ, ◌-◌}
 use mathlib.Core.List.{List, ◌++◌}
 use lib.ListN.{length, drop}
 use Rattle.model.specs.Words.{joined}

@@ -1,5 +1,5 @@
 -- `order_text::write_slots` meets its contract: the lines of the slots that are left go to `at`, slot by slot.
-use Prim.Native.Nat.{◌+◌, ◌-◌}
+use Prim.Native.Nat.{◌-◌}
 use mathlib.Core.List.{◌++◌}
 use lib.ListN.{length, drop}
 use Rattle.model.specs.Words.{joined}

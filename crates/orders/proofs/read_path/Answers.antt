@@ -1,5 +1,5 @@
 -- `orders::read_path` meets its contract. The invariant: the hops read so far, before what the rest of the line says, are the whole path.
-use Prim.Native.Nat.{◌+◌, ◌-◌, ◌*◌}
+use Prim.Native.Nat.{◌+◌, ◌*◌}
 use mathlib.Core.Path.{refl, sym, ◌∙◌, ap}
 use native.Mathlib.Omega.{arith}
 use mathlib.Core.List.{[]}

@@ -1,5 +1,4 @@
 -- `path_check::all_queues` meets its contract. The invariant: the search from entry i on answers what the whole search does.
-use Prim.Native.Nat.{◌-◌}
 use mathlib.Core.Path.{refl, sym, ap, ◌∙◌}
 use mathlib.Core.Bool.{not}
 use mathlib.Core.List.{map}

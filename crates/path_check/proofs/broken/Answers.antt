@@ -1,5 +1,4 @@
 -- `path_check::broken` meets its contract. The invariant: the search from hop i on answers what the whole search does.
-use Prim.Native.Nat.{◌-◌}
 use mathlib.Core.Path.{refl, sym, ◌∙◌}
 use native.Mathlib.Omega.{arith}
 use Rattle.model.specs.Reference.{starts_elsewhere}

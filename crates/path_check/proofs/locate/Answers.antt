@@ -1,6 +1,5 @@
 -- `path_check::locate` meets its contract. The invariant: the entries so far name the hops so far,
 -- and the search from hop i on answers what the whole search does. Assumes nothing.
-use Prim.Native.Nat.{◌-◌}
 use mathlib.Core.Path.{refl, subst}
 use native.Mathlib.Omega.{arith}
 use Rattle.orders.specs.View.{hop_in}

@@ -1,5 +1,4 @@
 -- `path_check::path_delay` meets its contract. The invariant: the sum so far and what is left are the whole.
-use Prim.Native.Nat.{◌-◌}
 use native.Mathlib.Omega.{arith}
 use Rattle.model.proofs.Laws.Path.{total-on, total-ended}
 use Rattle.path_check.specs.View.{delay_at}

@@ -1,5 +1,5 @@
 -- `path_check::repeated` meets its contract. The invariant: hop i is next, and `met` has the links of the hops before it.
-use Prim.Native.Nat.{◌-◌, ◌<◌}
+use Prim.Native.Nat.{◌<◌}
 use native.Mathlib.Omega.{arith}
 use Rattle.bit_words.specs.View.{word_bits}
 use Rattle.path_check.proofs.MetLaws.{link-inside, searched-first, searched-found, searched-end, searched-next}

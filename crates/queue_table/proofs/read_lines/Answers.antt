@@ -1,5 +1,5 @@
 -- `queue_table::read_lines` meets its contract. The invariant: the lines left, after the links read so far, say what the whole text says.
-use Prim.Native.Nat.{ℕ, ◌-◌, ◌≤◌, ◌<◌}
+use Prim.Native.Nat.{ℕ, ◌≤◌, ◌<◌}
 use mathlib.Core.Path.{◌≡◌, refl, sym, ◌∙◌, ap}
 use mathlib.Core.List.{List, [], reverse}
 use native.Mathlib.Omega.{arith}

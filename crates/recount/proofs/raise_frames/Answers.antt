@@ -1,5 +1,5 @@
 -- `recount::raise_frames` meets its contract. The invariant: the figures so far, raised by what the slots left have, are the whole.
-use Prim.Native.Nat.{◌-◌, ◌<◌}
+use Prim.Native.Nat.{◌<◌}
 use mathlib.Core.Path.{sym, ◌∙◌}
 use native.Mathlib.Omega.{arith}
 use Rattle.model.specs.Sizes.{slot_count}

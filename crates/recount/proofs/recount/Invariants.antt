@@ -1,5 +1,5 @@
 -- `recount::recount` meets its contract. The invariant: the figures are those of the slots from `slot` on.
-use Prim.Native.Nat.{◌-◌, ◌≤◌}
+use Prim.Native.Nat.{◌≤◌}
 use Rattle.model.specs.Sizes.{slot_count}
 use Rattle.recount.specs.View.{Counted}
 use Rattle.recount.proofs.recount.Given as goal

@@ -1,5 +1,4 @@
 -- `figures::checking::check_links` meets its contract. The invariant: what the hops left say is what the whole path says.
-use Prim.Native.Nat.{◌-◌}
 use mathlib.Core.Path.{sym, ap, subst, ◌∙◌}
 use mathlib.Core.Option.{some-ne-none}
 use native.Mathlib.Omega.{arith}

@@ -1,5 +1,4 @@
 -- `figures::checking::link_queues` meets its contract. The invariant: the queues before `p` are loaded.
-use Prim.Native.Nat.{◌-◌}
 use mathlib.Core.Path.{◌≡◌, refl, sym, ap, subst, ◌∙◌}
 use native.Mathlib.Omega.{arith}
 use lib.ListN.{take, length-set}

@@ -1,5 +1,5 @@
 -- `figures::counting::add_path` meets its contract. The invariant: what the hops left add and the figures so far make the whole.
-use Prim.Native.Nat.{◌-◌, ◌^◌}
+use Prim.Native.Nat.{◌^◌}
 use mathlib.Core.Path.{sym, subst, ◌∙◌}
 use native.Mathlib.Omega.{arith}
 use Rattle.figures.specs.View.{LimitedShare}

@@ -1,5 +1,4 @@
 -- `figures::counting::any_lower` meets its contract. The invariant: the hops so far raise nothing.
-use Prim.Native.Nat.{◌-◌}
 use mathlib.Core.Bool.{true≢false}
 use native.Mathlib.Omega.{arith}
 use Rattle.figures.proofs.RaiseLaws.{raising-none, raising-stays, raising-all}

@@ -1,5 +1,5 @@
 -- `figures::counting::change_path` meets its contract. The invariant: what the hops left add by the old share is still in the figures.
-use Prim.Native.Nat.{◌-◌, ◌^◌}
+use Prim.Native.Nat.{◌^◌}
 use mathlib.Core.Path.{sym, ◌∙◌}
 use native.Mathlib.Omega.{arith}
 use Rattle.figures.proofs.EntryLaws.{HopAt, hop-at, share-limited}

@@ -1,5 +1,4 @@
 -- `figures::counting::raise_each` meets its contract. The invariant: the figures so far, raised by what the hops left have, are the whole.
-use Prim.Native.Nat.{◌-◌}
 use mathlib.Core.Path.{sym, ◌∙◌}
 use native.Mathlib.Omega.{arith}
 use Rattle.figures.proofs.RaiseLaws.{raising-none, raising-grows, raising-stays, raising-all}

@@ -1,5 +1,4 @@
 -- `figures::counting::remove_path` meets its contract. The invariant: the figures so far are those of the others and of what the hops left add.
-use Prim.Native.Nat.{◌-◌}
 use mathlib.Core.Path.{sym, ◌∙◌}
 use mathlib.Core.Bool.{true≢false}
 use mathlib.Core.Logic.{inl, inr}

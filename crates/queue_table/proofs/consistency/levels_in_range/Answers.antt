@@ -1,7 +1,6 @@
 -- `queue_table::consistency::levels_in_range` meets its contract. The invariant: every level before p passes.
-use Prim.Native.Nat.{ℕ, ◌-◌}
+use Prim.Native.Nat.{ℕ}
 use mathlib.Core.Path.{◌≡◌, sym, ap, ◌∙◌}
-use mathlib.Core.Bool.{true}
 use native.Mathlib.Omega.{arith}
 use Rattle.model.specs.Words.{every}
 use Rattle.queue_table.specs.View.{up_to, queue_at}
