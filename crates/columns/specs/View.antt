@@ -2,7 +2,7 @@
 use Rattle.std.specs.Prelude.{ℕ, zero, suc, ◌+◌, ◌-◌, ◌≤◌, ◌<◌, ◌≡◌, Bool, false, ◌||◌, List, [], ◌∷◌, length, get_or, take, drop, eqb}
 use Rattle.std.proofs.Math.Option.{Option, none, some}
 use Rattle.model.specs.Columns.{Line, ended, unended, lines, field}
-use Rattle.model.proofs.Laws.Columns.{prepend_all}
+use Rattle.model.specs.Laws.Columns.{prepend_all}
 use Rattle.columns.specs.declared.Field.{Field}
 use Rattle.columns.specs.declared.Field.TheVariants.{Number, Malformed}
 use Rattle.columns.specs.declared.NextLine.{NextLine}

@@ -23,7 +23,8 @@ fn add_hop(e: usize, share: Aggregate, figures: &mut [u64])
     let largest = figures[at + FRAME];
     figures[at] = rates;
     figures[at + BURST] = bursts;
-    if largest < frame.0 {
+    let lower = largest < frame.0;
+    if lower {
         figures[at + FRAME] = frame.0;
     }
 }

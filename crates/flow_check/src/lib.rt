@@ -91,7 +91,8 @@ pub fn judge_flow(flow: Flow, hops: &[u32], table: &[u32], bits: &[u64], store: 
     let share = flow.share;
     let burst = share.burst.0;
     let frame = share.frame.0;
-    if flow_store::find(number, bits, store) < SLOTS {
+    let held = flow_store::find(number, bits, store) < SLOTS;
+    if held {
         return Judged {
             finding: Finding::Against(Cause::NumberHeld),
             entries: [0; MOST_HOPS],

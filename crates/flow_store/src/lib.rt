@@ -187,7 +187,8 @@ pub fn is_packed(bits: &[u64], store: &[u32]) -> bool
                 return false;
             }
             end += hops;
-            if POOL < end {
+            let past = POOL < end;
+            if past {
                 return false;
             }
         }

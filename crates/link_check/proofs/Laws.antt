@@ -10,7 +10,8 @@ use lib.Seq.{drop-cons}
 use Rattle.units.specs.declared.Bytes.{Bytes}
 use Rattle.model.specs.Formula.{blocking}
 use Rattle.model.proofs.Laws.List.{drop-set}
-use Rattle.model.proofs.Laws.LinkSteps.{blockings, blocking-more}
+use Rattle.model.specs.Laws.LinkSteps.{blockings}
+use Rattle.model.proofs.Laws.LinkSteps.{blocking-more}
 use Rattle.units.specs.declared.Aggregate.{Aggregate}
 use Rattle.units.specs.View.{aggregate_of}
 use Rattle.link_check.specs.View.{aggregates_of, bytes_of}

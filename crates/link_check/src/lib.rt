@@ -7,7 +7,7 @@ ghost use Rattle.model.specs.Words.{All};
 ghost use Rattle.model.specs.Total.{total, largest};
 ghost use Rattle.model.specs.LinkCheck.{levels_finding, link_finding};
 ghost use Rattle.model.specs.Reference.{link_cause};
-ghost use Rattle.model.proofs.Laws.LinkSteps.{level_finding, blockings};
+ghost use Rattle.model.specs.Laws.LinkSteps.{level_finding, blockings};
 ghost use Rattle.units.specs.View.{aggregate_of};
 ghost use Rattle.causes.specs.View.{finding_of};
 ghost use Rattle.link_check.specs.View.{aggregates_of, queue_of, queues_of, Narrow, bytes_of, level_finding_of};

@@ -29,3 +29,4 @@ pub mod Timely
 pub mod Gate
 pub mod Offers
 pub mod OfferList
+pub mod Laws

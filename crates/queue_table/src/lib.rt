@@ -102,7 +102,7 @@ struct Lines {
 }
 
 // A table by value. A refused text has no links.
-#[derive(Drop)]
+#[derive(Clone, Copy)]
 pub struct QueueTable {
     pub verdict: Verdict,
     pub numbers: [u32; TABLE_NUMBERS],

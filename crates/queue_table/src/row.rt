@@ -184,7 +184,8 @@ fn in_turn(r: Row, n: usize, table: &[u32]) -> bool
     if LINKS < link as usize {
         return false;
     }
-    if LEVELS < level as usize {
+    let too_deep = LEVELS < level as usize;
+    if too_deep {
         return false;
     }
     if begins(r, n) {

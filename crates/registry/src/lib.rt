@@ -31,14 +31,14 @@ pub struct Registry {
 }
 
 // What a table text gives: its verdict, and an empty registry.
-#[derive(Drop)]
+#[derive(Clone, Copy)]
 pub struct Opened {
     pub verdict: Verdict,
     pub registry: Registry,
 }
 
 // What a call gives back.
-#[derive(Drop)]
+#[derive(Clone, Copy)]
 pub struct Called {
     pub answer: Answer,
     pub registry: Registry,

@@ -31,18 +31,18 @@ module _ (c : lts.After-find tie.the-claims reads.Pre reads.Post) where
   abbrev number : ℕ
   number = start.args.flow.number
 
-  held : leb 1 (with_number number (held_flows (state start).slots)) ≡ ltb c.find.result slot_count
+  held : leb 1 (with_number number (held_flows (state start).slots)) ≡ ltb c.find-held.result slot_count
   held =
       number-index number (state start).slots
       ∙ ap (ltb (first_index (holds number) (state start).slots)) (length-slots start.args.bits.now start.args.store.now)
-      ∙ ap (λ (i : ℕ). ltb i slot_count) (sym c.find.ensures)
+      ∙ ap (λ (i : ℕ). ltb i slot_count) (sym c.find-held.ensures)
 
-pub returns-then-find-lt-SLOTS : goal.returns-then-find-lt-SLOTS
+pub returns-then-held : goal.returns-then-held
 unfolding flow_of
-returns-then-find-lt-SLOTS c =
+returns-then-held c =
     let at = c.before.before.before.before.before.before.before.before in
     record {
-      first = sym (early-held (state at) (line_flow at.args.flow at.args.hops.now) (held c.before.before ∙ lt-ltb _ slot_count c.if-find-lt-SLOTS.true));
+      first = sym (early-held (state at) (line_flow at.args.flow at.args.hops.now) (held c.before.before ∙ lt-ltb _ slot_count c.if-held.true));
       named = λ e. absurd (none-ne-some _ (sym e));
     }
 
@@ -51,7 +51,7 @@ unfolding flow_of
 returns-then-burst-frame c =
     let at = c.before.before.before.before.before.before.before.before.before in
     record {
-      first = sym (early-frame (state at) (line_flow at.args.flow at.args.hops.now) (held c.before.before.before ∙ le-ltb _ slot_count c.if-find-lt-SLOTS.false) (lt-ltb _ _ c.if-burst-frame.true));
+      first = sym (early-frame (state at) (line_flow at.args.flow at.args.hops.now) (held c.before.before.before ∙ le-ltb _ slot_count c.if-held.false) (lt-ltb _ _ c.if-burst-frame.true));
       named = λ e. absurd (none-ne-some _ (sym e));
     }
 
@@ -60,6 +60,6 @@ unfolding flow_of
 returns c =
     let at = c.before.before.before.before.before.before.before.before.before.before in
     record {
-      first = c.judge_path.ensures.first ∙ sym (early-path (state at) (line_flow at.args.flow at.args.hops.now) (held c.before.before.before.before ∙ le-ltb _ slot_count c.if-find-lt-SLOTS.false) (le-ltb _ _ c.if-burst-frame.false));
+      first = c.judge_path.ensures.first ∙ sym (early-path (state at) (line_flow at.args.flow at.args.hops.now) (held c.before.before.before.before ∙ le-ltb _ slot_count c.if-held.false) (le-ltb _ _ c.if-burst-frame.false));
       named = c.judge_path.ensures.named;
     }

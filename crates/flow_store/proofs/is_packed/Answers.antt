@@ -21,24 +21,24 @@ returns-then-start-end c =
           (λ same. c.if-start-end.true (c.start_at-start.ensures.0 ∙ same));
     }
 
-pub returns-then-end-gt-POOL : goal.returns-then-end-gt-POOL
-returns-then-end-gt-POOL c =
+pub returns-then-past : goal.returns-then-past
+returns-then-past c =
     let args = c.args in
     let held = sym c.is_held-held.ensures ∙ c.if-held.true in record {
       packed = λ e. absurd (true≢false (sym e));
       fact = λ e. path-past args.bits.now args.store.now c.loop-slot.invariant.1 c.loop-slot-test.true held
-          (omega (arith, c.if-end-gt-POOL.true, c.hops_at-hops.ensures.0));
+          (omega (arith, c.if-past.true, c.hops_at-hops.ensures.0));
     }
 
-pub loop-slot-preserved-else-end-gt-POOL : goal.loop-slot-preserved-else-end-gt-POOL
-loop-slot-preserved-else-end-gt-POOL c =
+pub loop-slot-preserved-else-past : goal.loop-slot-preserved-else-past
+loop-slot-preserved-else-past c =
     let args = c.args in
     let hops = c.hops_at-hops in
     let held = sym c.is_held-held.ensures ∙ c.if-held.true in
     let own = sym c.start_at-start.ensures.0 ∙ c.if-start-end.false in (
       omega (arith, c.loop-slot-test.true),
       subst (λ n. PackedTo args.bits.now args.store.now (c.loop-slot.slot + 1) (c.loop-slot.end + n)) (sym hops.ensures.0)
-          (packed-held args.bits.now args.store.now c.loop-slot.invariant.1 held own (omega (arith, c.if-end-gt-POOL.false, hops.ensures.0))),
+          (packed-held args.bits.now args.store.now c.loop-slot.invariant.1 held own (omega (arith, c.if-past.false, hops.ensures.0))),
     )
 
 pub loop-slot-preserved : goal.loop-slot-preserved

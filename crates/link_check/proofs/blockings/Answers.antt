@@ -6,7 +6,8 @@ use native.Mathlib.Omega.{arith}
 use lib.ListN.{length, length-set}
 use Rattle.model.specs.Sizes.{levels_most}
 use Rattle.model.specs.Formula.{blocking}
-use Rattle.model.proofs.Laws.LinkSteps.{blockings, blocking-none}
+use Rattle.model.specs.Laws.LinkSteps.{blockings}
+use Rattle.model.proofs.Laws.LinkSteps.{blocking-none}
 use Rattle.units.specs.View.{aggregate_of}
 use Rattle.link_check.proofs.Laws.{length-mapped, mapped_end, top-previous, blocked-previous}
 use Rattle.link_check.proofs.blockings.Goals as goal

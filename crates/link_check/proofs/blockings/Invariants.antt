@@ -4,7 +4,7 @@ use mathlib.Core.Path.{◌≡◌}
 use lib.ListN.{length, drop}
 use Rattle.model.specs.Sizes.{levels_most}
 use Rattle.model.specs.Formula.{blocking}
-use Rattle.model.proofs.Laws.LinkSteps.{blockings}
+use Rattle.model.specs.Laws.LinkSteps.{blockings}
 use Rattle.link_check.specs.View.{aggregates_of, bytes_of}
 use Rattle.link_check.proofs.blockings.Given as goal
 

@@ -8,7 +8,8 @@ use borrow.Author.Tests.{eq-eqb, ne_eqb}
 use Rattle.model.specs.Total.{total}
 use Rattle.model.specs.Formula.{residual, delay_bound, backlog_bound, delay, backlog, interference, level_residual}
 use Rattle.model.specs.LinkCheck.{is_empty, level_code, or_else}
-use Rattle.model.proofs.Laws.LinkSteps.{level_finding, blocking-none}
+use Rattle.model.specs.Laws.LinkSteps.{level_finding}
+use Rattle.model.proofs.Laws.LinkSteps.{blocking-none}
 use Rattle.link_check.proofs.check_level.Goals as goal
 use Rattle.link_check.proofs.check_level.Tie as tie
 use Rattle.link_check.proofs.check_level.Lts as lts

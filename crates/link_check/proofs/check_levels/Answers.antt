@@ -12,7 +12,8 @@ use Rattle.model.specs.Formula as model
 use Rattle.model.proofs.Laws.All.{all_get_d}
 use Rattle.model.specs.QueueTable.{Queue}
 use Rattle.model.specs.WithFlow.{no_flow}
-use Rattle.model.proofs.Laws.LinkSteps.{level_finding, blockings, blockings-at, Passed, passed_none, passed-all, passed-room, passed-next, passed-found}
+use Rattle.model.specs.Laws.LinkSteps.{level_finding, blockings}
+use Rattle.model.proofs.Laws.LinkSteps.{blockings-at, Passed, passed_none, passed-all, passed-room, passed-next, passed-found}
 use Rattle.units.specs.View.{aggregate_of}
 use Rattle.queue_table.specs.declared.access.Queue as queue_table
 use Rattle.link_check.specs.View.{aggregates_of, bytes_of, queue_of, queues_of, Narrow, level_finding_of}

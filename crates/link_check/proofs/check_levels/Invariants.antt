@@ -3,7 +3,8 @@
 use Prim.Native.Nat.{ℕ, ◌-◌, ◌≤◌}
 use mathlib.Core.Path.{◌≡◌}
 use Rattle.model.specs.Sizes.{levels_most}
-use Rattle.model.proofs.Laws.LinkSteps.{blockings, Passed}
+use Rattle.model.specs.Laws.LinkSteps.{blockings}
+use Rattle.model.proofs.Laws.LinkSteps.{Passed}
 use Rattle.units.specs.View.{aggregate_of}
 use Rattle.link_check.specs.View.{aggregates_of, bytes_of, queues_of}
 use Rattle.link_check.proofs.check_levels.Given as goal

@@ -8,6 +8,7 @@ use borrow.Author.Tests.{leb-true, eqb-true, eqb-false, le-leb, lt-leb, eq-eqb, 
 use Rattle.model.proofs.Laws.List.{drop-set}
 use Rattle.model.proofs.Laws.Test.{and_both}
 use Rattle.model.specs.Columns.{is_digit, digits, number, field, padded, justified, between, Line, ended, unended, prepend, lines}
+use Rattle.model.specs.Laws.Columns.{prepend_all}
 
 pub of_other : (b : ℕ) (l : List ℕ) → (b ≡ 48 → ⊥) → number b l ≡ digits 0 (b ∷ l)
 unfolding number
@@ -53,11 +54,6 @@ module _ (s : List ℕ) (i : ℕ) (h : i < length s) where
   pub lines_more : (get_or s i 0 ≡ 10 → ⊥) → lines (drop i s) ≡ prepend (get_or s i 0) (lines (drop (i + 1) s))
   unfolding lines
   lines_more e = ap lines (next) ∙ simp (ne_eqb (get_or s i 0) 10 e)
-
--- Bytes without an LF, put before the lines that follow.
-unfoldable pub prepend_all : List ℕ → List Line → List Line
-prepend_all [] ls = ls
-prepend_all (b ∷ bs) ls = prepend b (prepend_all bs ls)
 
 pub prepend_all-snoc : (bs : List ℕ) (b : ℕ) (ls : List Line) → prepend_all (bs ++ (b ∷ [])) ls ≡ prepend_all bs (prepend b ls)
 unfolding prepend_all

@@ -15,11 +15,7 @@ use Rattle.model.specs.Formula.{Aggregate, within_rate, delay, backlog, blocking
 use Rattle.model.specs.QueueTable.{Queue}
 use Rattle.model.specs.LinkCheck.{Finding, is_empty, level_code, or_else, levels_finding, rate_code, link_finding}
 use Rattle.model.specs.WithFlow.{no_flow, together}
-
--- Blocking at each level.
-unfoldable pub blockings : (best_effort : ℕ) → List Aggregate → List ℕ
-blockings best_effort [] = []
-blockings best_effort (a ∷ below) = blocking best_effort below ∷ blockings best_effort below
+use Rattle.model.specs.Laws.LinkSteps.{blockings, clear, level_finding}
 
 pub blockings-at : (best_effort : ℕ) (levels : List Aggregate) (i : ℕ) → i < length levels
     → get_or (blockings best_effort levels) i 0 ≡ blocking best_effort (drop (suc i) levels)
@@ -44,13 +40,6 @@ level_code-same : (speed best_effort best_effort' : ℕ) (q : Queue) (own : Aggr
     → level_code speed best_effort q above own below ≡ level_code speed best_effort' q above' own below'
 unfolding level_code delay backlog interference level_residual
 level_code-same speed best_effort best_effort' q own above above' below below' rates bursts blocked = simp (rates, bursts, blocked)
-
-abbrev pub clear : Finding
-clear = record { code = 0; level = 0 }
-
--- The finding at one level: the levels above it come as one with their sums, those below and the best-effort frame as one frame that blocks.
-unfoldable pub level_finding : (speed n : ℕ) → Queue → (above own : Aggregate) (blocked : ℕ) → Finding
-level_finding speed n q above own blocked = or_else (record { code = level_code speed blocked q (above ∷ []) own []; level = n }) clear
 
 or_else-clear : (code n : ℕ) (b : Finding) → or_else (record { code = code; level = n }) b ≡ or_else (or_else (record { code = code; level = n }) clear) b
 unfolding or_else

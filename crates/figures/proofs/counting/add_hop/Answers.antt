@@ -14,13 +14,13 @@ overflow_add-bursts-2 c = record { fits = sum_fits c.args.figures.now _ c.args.s
 pub bounds-figures-at-5 : goal.bounds-figures-at-5
 bounds-figures-at-5 c = simp length-set (omega arith)
 
-pub bounds-figures-at-then-largest-frame : goal.bounds-figures-at-then-largest-frame
-bounds-figures-at-then-largest-frame c = simp length-set (omega arith)
+pub bounds-figures-at-then-lower : goal.bounds-figures-at-then-lower
+bounds-figures-at-then-lower c = simp length-set (omega arith)
 
-pub returns-then-largest-frame : goal.returns-then-largest-frame
-returns-then-largest-frame c =
-    frame-grows c.args.figures.now c.args.e (aggregate_of c.args.share) c.if-largest-frame.true
+pub returns-then-lower : goal.returns-then-lower
+returns-then-lower c =
+    frame-grows c.args.figures.now c.args.e (aggregate_of c.args.share) c.if-lower.true
 
-pub returns-else-largest-frame : goal.returns-else-largest-frame
-returns-else-largest-frame c =
-    frame-stays c.args.figures.now c.args.e (aggregate_of c.args.share) c.if-largest-frame.false
+pub returns-else-lower : goal.returns-else-lower
+returns-else-lower c =
+    frame-stays c.args.figures.now c.args.e (aggregate_of c.args.share) c.if-lower.false

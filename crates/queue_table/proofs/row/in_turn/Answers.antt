@@ -11,14 +11,14 @@ pub returns-then-link-gt-LINKS : goal.returns-then-link-gt-LINKS
 unfolding row_in_turn
 returns-then-link-gt-LINKS c = sym (simp (lt-leb _ _ c.if-link-gt-LINKS.true, and-false))
 
-pub returns-then-level-gt-LEVELS : goal.returns-then-level-gt-LEVELS
+pub returns-then-too_deep : goal.returns-then-too_deep
 unfolding row_in_turn
-returns-then-level-gt-LEVELS c = sym (simp (lt-leb _ _ c.if-level-gt-LEVELS.true, and-false))
+returns-then-too_deep c = sym (simp (lt-leb _ _ c.if-too_deep.true, and-false))
 
 pub returns-then-begins : goal.returns-then-begins
 unfolding row_in_turn
-returns-then-begins c = sym (simp (begins-at c.args.table.now c.args.n (numbers_of c.args.r) ∙ sym c.begins.ensures ∙ c.if-begins.true, le-leb _ _ c.if-link-gt-LINKS.false, le-leb _ _ c.if-level-gt-LEVELS.false, or-true))
+returns-then-begins c = sym (simp (begins-at c.args.table.now c.args.n (numbers_of c.args.r) ∙ sym c.begins.ensures ∙ c.if-begins.true, le-leb _ _ c.if-link-gt-LINKS.false, le-leb _ _ c.if-too_deep.false, or-true))
 
 pub returns : goal.returns
 unfolding row_in_turn
-returns c = c.continues.ensures ∙ sym (simp (begins-at c.args.table.now c.args.n (numbers_of c.args.r) ∙ sym c.begins.ensures ∙ c.if-begins.false, le-leb _ _ c.if-link-gt-LINKS.false, le-leb _ _ c.if-level-gt-LEVELS.false, or-false, and-true))
+returns c = c.continues.ensures ∙ sym (simp (begins-at c.args.table.now c.args.n (numbers_of c.args.r) ∙ sym c.begins.ensures ∙ c.if-begins.false, le-leb _ _ c.if-link-gt-LINKS.false, le-leb _ _ c.if-too_deep.false, or-false, and-true))
