@@ -16,9 +16,7 @@ pub const LIST_AREA: usize = LIST + 1;
 
 // The file of this name, where it can be opened. A name is UTF-8.
 fn open<R: Files>(rt: &R, name: &[u8]) -> Option<R::File> {
-    let Ok(path) = str::from_utf8(name) else {
-        return None;
-    };
+    let path = str::from_utf8(name).ok()?;
     File::open(rt, path).ok()
 }
 
@@ -26,18 +24,14 @@ fn open<R: Files>(rt: &R, name: &[u8]) -> Option<R::File> {
 fn read_some<F: Read>(file: &mut F, text: &mut [u8]) -> usize
     ensures { IsPrefixLen result text.new }
 {
-    match file.read(text) {
-        Ok(n) => n,
-        Err(_) => 0,
-    }
+    file.read(text).unwrap_or(0)
 }
 
 // How many bytes of an open file stand at the start of `text`: up to its end, the end of `text` or a read that fails. The file is
 // closed then.
-fn take<F: Read + Drop>(file: F, text: &mut [u8]) -> usize
+fn take<F: Read + Drop>(mut file: F, text: &mut [u8]) -> usize
     ensures { IsPrefixLen result text.new }
 {
-    let mut file = file;
     let mut done = 0;
     while done < text.len() {
         let n = read_some(&mut file, &mut text[done..]);
@@ -61,10 +55,7 @@ pub fn try_read<R: Files>(rt: &R, name: &[u8], text: &mut [u8]) -> Option<usize>
 pub fn read<R: Files>(rt: &R, name: &[u8], text: &mut [u8]) -> usize
     ensures { IsPrefixLen result text.new }
 {
-    let Some(file) = open(rt, name) else {
-        return 0;
-    };
-    take(file, text)
+    try_read(rt, name, text).unwrap_or(0)
 }
 
 // What `program` says of a file on `err`. What `err` doesn't take is lost.
@@ -85,11 +76,11 @@ pub fn read_or_tell<R: Files, E: Print>(
 ) -> usize
     ensures { IsPrefixLen result text.new }
 {
-    let Some(file) = open(rt, name) else {
+    let Some(n) = try_read(rt, name, text) else {
         tell(err, program, name, b": can't be opened, counts as empty\n");
         return 0;
     };
-    take(file, text)
+    n
 }
 
 // The same of a list, of which no more than LIST bytes count; `program` says so where there are more.
