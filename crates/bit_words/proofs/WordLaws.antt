@@ -29,11 +29,11 @@ module _ (words : List ℕ) where
       go (no l) = is-bit words j i (j % word_bits) 1 (omega arith) refl (own (j % word_bits) (omega arith))
 
   -- The bits of word w from t on are clear too.
-  clear-more : (i w t : ℕ) → i ≡ w + 1 → ((j : ℕ) → word_bits * i ≤ j → j < word_bits * length words → is_set words j ≡ false)
+  clear-more : (w t : ℕ) → ((j : ℕ) → word_bits * (w + 1) ≤ j → j < word_bits * length words → is_set words j ≡ false)
       → ((b : ℕ) → t ≤ b → bit (get_or words w 0) b ≡ 0) → (j : ℕ) → word_bits * w + t ≤ j → j < word_bits * length words → is_set words j ≡ false
-  clear-more i w t e after own j low lt = go (dec_lt j (word_bits * i))
+  clear-more w t after own j low lt = go (dec_lt j (word_bits * (w + 1)))
     where
-      go : Dec (j < word_bits * i) → is_set words j ≡ false
+      go : Dec (j < word_bits * (w + 1)) → is_set words j ≡ false
       go (yes l) = is-bit words j w (j % word_bits) 0 (omega arith) refl (own (j % word_bits) (omega arith))
       go (no l) = after j (omega arith) lt
 
@@ -55,19 +55,19 @@ module _ (words : List ℕ) where
     word-full e j lt = set_more i word_bits (omega arith) below (λ b l. set-where b l (bit-above {m = 0} (omega arith) (omega arith))) j (omega arith)
 
   -- The bits past word w are clear: it has a set bit, or none.
-  module _ (i w : ℕ) (next : i ≡ w + 1) (after : (j : ℕ) → word_bits * i ≤ j → j < word_bits * length words → is_set words j ≡ false) where
-    pub past-found : w < length words → 0 < get_or words w 0 → get_or words w 0 < 2 ^ word_bits → PastSet words (word_bits * i - count_leading_zeros word_bits (get_or words w 0))
+  module _ (w : ℕ) (after : (j : ℕ) → word_bits * (w + 1) ≤ j → j < word_bits * length words → is_set words j ≡ false) where
+    pub past-found : w < length words → 0 < get_or words w 0 → get_or words w 0 < 2 ^ word_bits → PastSet words (word_bits * (w + 1) - count_leading_zeros word_bits (get_or words w 0))
     past-found inside p fits =
         let top = highest word_bits (get_or words w 0) p fits in
-        let place : word_bits * i - count_leading_zeros word_bits (get_or words w 0) ≡ word_bits * w + (top.0 + 1) = omega (arith, top.1) in
+        let place : word_bits * (w + 1) - count_leading_zeros word_bits (get_or words w 0) ≡ word_bits * w + (top.0 + 1) = omega (arith, top.1) in
         record {
           inside = omega arith;
-          clear-after = λ j low. clear-more i w (top.0 + 1) next after (λ b l. top.3 b (omega arith)) j (omega arith);
+          clear-after = λ j low. clear-more w (top.0 + 1) after (λ b l. top.3 b (omega arith)) j (omega arith);
           set = λ j lt last. is-bit words j w top.0 1 (omega (arith, top.1)) (omega (arith, top.1)) top.2;
         }
 
     pub word-clear : get_or words w 0 ≡ 0 → (j : ℕ) → word_bits * w ≤ j → j < word_bits * length words → is_set words j ≡ false
-    word-clear e j low = clear-more i w 0 next after (λ b l. bit-above {m = 0} (omega arith) (omega arith)) j (omega arith)
+    word-clear e j low = clear-more w 0 after (λ b l. bit-above {m = 0} (omega arith) (omega arith)) j (omega arith)
 
   -- A word stored that differs from the one before in bit at % 64 alone, which is v.
   module _ (at word v : ℕ) (inside : at < word_bits * length words) (own : bit word (at % word_bits) ≡ v)

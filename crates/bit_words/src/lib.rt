@@ -21,7 +21,7 @@ pub fn set_bit(at: usize, words: &mut [u64])
     ensures { BitChanged at true words.old words.new }
 {
     let mask: u64 = 1 << (at % WORD);
-    words[at / WORD] = words[at / WORD] | mask;
+    words[at / WORD] |= mask;
 }
 
 // Clears a bit, whatever it is.
@@ -30,7 +30,7 @@ pub fn clear_bit(at: usize, words: &mut [u64])
     ensures { BitChanged at false words.old words.new }
 {
     let mask: u64 = 1 << (at % WORD);
-    words[at / WORD] = words[at / WORD] & !mask;
+    words[at / WORD] &= !mask;
 }
 
 // The lowest set bit of a word.
@@ -38,7 +38,7 @@ fn lowest_set(word: u64) -> u32
     requires { 0 < word }
     ensures { LowestSet word_bits word result }
 {
-    u64::trailing_zeros(word)
+    word.trailing_zeros()
 }
 
 // The least clear bit, found from the first word that has one; no word is read twice. The number of all bits where all are set.
@@ -46,15 +46,13 @@ pub fn least_clear(words: &[u64]) -> usize
     requires { word_bits * length words.now < 2 ^ 64 }
     ensures { LeastClear words.now result }
 {
-    let mut i = 0;
-    while i < words.len() {
-        let clear = !words[i];
+    for (i, word) in words.iter().enumerate() {
+        let clear = !*word;
         if clear != 0 {
             return WORD * i + lowest_set(clear) as usize;
         }
-        i += 1;
     }
-    WORD * i
+    WORD * words.len()
 }
 
 // The position past the greatest set bit, found from the last word that has one; 0 where none is set.
@@ -62,13 +60,11 @@ pub fn past_set(words: &[u64]) -> usize
     requires { word_bits * length words.now < 2 ^ 64 }
     ensures { PastSet words.now result }
 {
-    let mut i = words.len();
-    while 0 < i {
-        let word = words[i - 1];
+    for i in (0..words.len()).rev() {
+        let word = words[i];
         if word != 0 {
-            return WORD * i - u64::leading_zeros(word) as usize;
+            return WORD * (i + 1) - word.leading_zeros() as usize;
         }
-        i -= 1;
     }
     0
 }
