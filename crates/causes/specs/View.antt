@@ -1,11 +1,9 @@
 -- The causes in the terms of the model: document 01's code, link and level of each.
-use Rattle.std.specs.Prelude.{ℕ}
+use Rattle.std.specs.Prelude.{ℕ, Result, Ok, Err}
 use Rattle.std.proofs.Math.Option.{Option, none, some}
 use Rattle.model.specs.Reference as model
 use Rattle.causes.specs.declared.Cause.{Cause}
 use Rattle.causes.specs.declared.Cause.TheVariants.{Malformed, OutOfRange, NumberHeld, NumberNotHeld, NoQueue, StartsElsewhere, MetEarlier, FrameAboveBurst, OverDeadline, OverRate, OverDelay, OverBacklog, NoSlot, NoEntries, Inconsistent, AreaTooShort}
-use Rattle.causes.specs.declared.Finding.{Finding}
-use Rattle.causes.specs.declared.Finding.TheVariants.{Nothing, Against}
 use Rattle.causes.specs.declared.Numbers.{Numbers}
 
 -- A cause that names neither link nor level.
@@ -30,9 +28,10 @@ cause_of NoEntries = bare 31
 cause_of Inconsistent = bare 42
 cause_of AreaTooShort = bare 43
 
-abbrev pub finding_of : Finding → Option model.Cause
-finding_of Nothing = none
-finding_of (Against cause) = some (cause_of cause)
+-- What is against something, none where nothing is.
+abbrev pub finding_of : Result (Unit {0}) Cause → Option model.Cause
+finding_of (Ok _) = none
+finding_of (Err cause) = some (cause_of cause)
 
 abbrev pub numbers_in : Numbers → model.Cause
 numbers_in n = record { code = n.code; link = n.link; level = n.level }

@@ -5,7 +5,7 @@
 ghost use Rattle.std.specs.Prelude.{◌≡◌};
 ghost use Rattle.causes.specs.View.{cause_of, numbers_in};
 
-#[derive(Clone, Copy)]
+#[derive(Clone, Copy, Debug, PartialEq, Eq)]
 pub enum Cause {
     // 10: columns wrong.
     Malformed,
@@ -41,15 +41,8 @@ pub enum Cause {
     AreaTooShort,
 }
 
-// What a check finds.
-#[derive(Clone, Copy)]
-pub enum Finding {
-    Nothing,
-    Against(Cause),
-}
-
 // What an answer line has for a cause.
-#[derive(Clone, Copy)]
+#[derive(Clone, Copy, Debug, PartialEq, Eq)]
 pub struct Numbers {
     pub code: u32,
     pub link: u32,
@@ -74,25 +67,27 @@ fn named(code: u32, link: u32, level: u32) -> Numbers
 }
 
 // Document 01's code of a cause, and the link and level that it names.
-pub fn numbers_of(cause: Cause) -> Numbers
-    ensures { numbers_in result ≡ cause_of cause }
-{
-    match cause {
-        Cause::Malformed => bare(10),
-        Cause::OutOfRange => bare(11),
-        Cause::NumberHeld => bare(12),
-        Cause::NumberNotHeld => bare(13),
-        Cause::NoQueue(link, level) => named(14, link, level),
-        Cause::StartsElsewhere(link, level) => named(15, link, level),
-        Cause::MetEarlier(link, level) => named(16, link, level),
-        Cause::FrameAboveBurst => bare(17),
-        Cause::OverDeadline => bare(20),
-        Cause::OverRate(link) => named(21, link, 0),
-        Cause::OverDelay(link, level) => named(22, link, level),
-        Cause::OverBacklog(link, level) => named(23, link, level),
-        Cause::NoSlot => bare(30),
-        Cause::NoEntries => bare(31),
-        Cause::Inconsistent => bare(42),
-        Cause::AreaTooShort => bare(43),
+impl From<Cause> for Numbers {
+    ghost from_gives = { λ cause numbers. numbers_in numbers ≡ cause_of cause };
+
+    fn from(cause: Cause) -> Numbers {
+        match cause {
+            Cause::Malformed => bare(10),
+            Cause::OutOfRange => bare(11),
+            Cause::NumberHeld => bare(12),
+            Cause::NumberNotHeld => bare(13),
+            Cause::NoQueue(link, level) => named(14, link, level),
+            Cause::StartsElsewhere(link, level) => named(15, link, level),
+            Cause::MetEarlier(link, level) => named(16, link, level),
+            Cause::FrameAboveBurst => bare(17),
+            Cause::OverDeadline => bare(20),
+            Cause::OverRate(link) => named(21, link, 0),
+            Cause::OverDelay(link, level) => named(22, link, level),
+            Cause::OverBacklog(link, level) => named(23, link, level),
+            Cause::NoSlot => bare(30),
+            Cause::NoEntries => bare(31),
+            Cause::Inconsistent => bare(42),
+            Cause::AreaTooShort => bare(43),
+        }
     }
 }

@@ -1,17 +1,15 @@
 -- What the answers of this crate say in the terms of the model.
 use Rattle.std.specs.Prelude.{ℕ, zero, suc, ◌+◌, ◌-◌, ◌≤◌, ◌<◌, ◌≡◌, Bool, false, ◌||◌, List, [], ◌∷◌, length, get_or, take, drop, eqb}
+use Rattle.std.specs.Prelude.{Some, None}
+use Rattle.std.specs.Prelude as code
 use Rattle.std.proofs.Math.Option.{Option, none, some}
 use Rattle.model.specs.Columns.{Line, ended, unended, lines, field}
 use Rattle.model.specs.Laws.Columns.{prepend_all}
-use Rattle.columns.specs.declared.Field.{Field}
-use Rattle.columns.specs.declared.Field.TheVariants.{Number, Malformed}
-use Rattle.columns.specs.declared.NextLine.{NextLine}
-use Rattle.columns.specs.declared.NextLine.TheVariants.{Ended, Unended}
 
 -- The number of a field, none where it is malformed.
-abbrev pub value_of : Field → Option ℕ
-value_of (Number n) = some n
-value_of Malformed = none
+abbrev pub value_of : code.Option ℕ → Option ℕ
+value_of (Some n) = some n
+value_of None = none
 
 -- Blanks up to `at` don't count, and none stands there.
 pub record AfterBlanks (s : List ℕ) (at : ℕ) : Type 0 where
@@ -31,14 +29,14 @@ pub record SameLine (text : List ℕ) (at i : ℕ) : Type 0 where
   pub same : lines (drop at text) ≡ prepend_all (take (i - at) (drop at text)) (lines (drop i text))
 
 -- The lines of a text from `at` on, by where the first of them ends.
-abbrev pub lines_from : List ℕ → ℕ → NextLine → List Line
-lines_from text at (Ended e) = ended (take (e - at) (drop at text)) ∷ lines (drop (e + 1) text)
-lines_from text at Unended = unended ∷ []
+abbrev pub lines_from : List ℕ → ℕ → code.Option ℕ → List Line
+lines_from text at (Some e) = ended (take (e - at) (drop at text)) ∷ lines (drop (e + 1) text)
+lines_from text at None = unended ∷ []
 
-abbrev pub ends_within : List ℕ → ℕ → NextLine → Type 0
-ends_within text at (Ended e) = (at ≤ e) × (e < length text)
-ends_within text at Unended = Unit {0}
+abbrev pub ends_within : List ℕ → ℕ → code.Option ℕ → Type 0
+ends_within text at (Some e) = (at ≤ e) × (e < length text)
+ends_within text at None = Unit {0}
 
-pub record FirstLine (text : List ℕ) (at : ℕ) (found : NextLine) : Type 0 where
+pub record FirstLine (text : List ℕ) (at : ℕ) (found : code.Option ℕ) : Type 0 where
   pub same : lines (drop at text) ≡ lines_from text at found
   pub within : ends_within text at found

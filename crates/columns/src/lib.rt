@@ -5,91 +5,62 @@ ghost use Rattle.std.specs.Prelude.{◌≡◌, ◌++◌, cond, ◌+◌, ◌%◌,
 ghost use Rattle.model.specs.Columns.{field, field_at, digits, justified, written_at, end_line, between};
 ghost use Rattle.columns.specs.View.{value_of, AfterBlanks, lf_within, SameLine, FirstLine};
 
-const BLANK: u8 = 32;
+const BLANK: u8 = b' ';
 
-pub const LF: u8 = 10;
-
-// What a field says.
-#[derive(Clone, Copy)]
-pub enum Field {
-    Number(u32),
-    Malformed,
-}
-
-// The line of a text that starts at a position.
-#[derive(Clone, Copy)]
-pub enum NextLine {
-    // It ends in the LF at this position.
-    Ended(usize),
-    // No LF follows.
-    Unended,
-}
-
-fn byte(x: u8) -> u32
-    ensures { result ≡ x }
-{
-    x as u32
-}
+pub const LF: u8 = b'\n';
 
 // The position of the first byte that is no blank, or the field's width.
 fn skip_blanks(s: &[u8]) -> usize
     ensures { AfterBlanks s.now result }
 {
-    let mut i = 0;
-    while i < s.len() {
-        if s[i] != BLANK {
+    for (i, byte) in s.iter().enumerate() {
+        if *byte != BLANK {
             return i;
         }
-        i += 1;
     }
-    i
+    s.len()
 }
 
-// The number of a run of digits.
-fn read_digits(s: &[u8]) -> Field
+// The number of a run of digits, none where another byte stands among them.
+fn read_digits(s: &[u8]) -> Option<u32>
     requires { length s.now ≤ 9 }
     ensures { value_of result ≡ digits 0 s.now }
 {
     let mut n: u32 = 0;
-    let mut i = 0;
-    while i < s.len() {
-        let b = byte(s[i]);
-        if b < 48 {
-            return Field::Malformed;
+    for byte in s {
+        if !byte.is_ascii_digit() {
+            return None;
         }
-        if 57 < b {
-            return Field::Malformed;
-        }
-        n = n * 10 + (b - 48);
-        i += 1;
+        n = n * 10 + u32::from(*byte - b'0');
     }
-    Field::Number(n)
+    Some(n)
 }
 
-fn read_field(s: &[u8]) -> Field
+// The number of a field, none where it is malformed.
+fn read_field(s: &[u8]) -> Option<u32>
     requires { length s.now ≤ 9 }
     ensures { value_of result ≡ field s.now }
 {
     let at = skip_blanks(s);
     if s.len() <= at {
-        return Field::Malformed;
+        return None;
     }
-    if s[at] == 48 {
+    if s[at] == b'0' {
         if at + 1 < s.len() {
-            return Field::Malformed;
+            return None;
         }
-        return Field::Number(0);
+        return Some(0);
     }
     read_digits(&s[at..])
 }
 
-// The field in columns `first` to `last` of a line, counted from 1, up to 9 of them.
-pub fn read_at(line: &[u8], first: usize, last: usize) -> Field
+// The number of the field in columns `first` to `last` of a line, counted from 1, up to 9 of them; none where it is malformed.
+pub fn read_at(line: &[u8], first: usize, last: usize) -> Option<u32>
     requires { (1 ≤ first) × ((first ≤ last) × (last < first + 9)) }
     ensures { value_of result ≡ field_at first last line.now }
 {
     if line.len() < last {
-        return Field::Malformed;
+        return None;
     }
     let start = first - 1;
     read_field(&line[start..last])
@@ -98,7 +69,7 @@ pub fn read_at(line: &[u8], first: usize, last: usize) -> Field
 fn digit(n: u64) -> u8
     ensures { result ≡ 48 + n % 10 }
 {
-    48 + (n % 10) as u8
+    b'0' + (n % 10) as u8
 }
 
 fn digit_or_blank(n: u64) -> u8
@@ -110,21 +81,12 @@ fn digit_or_blank(n: u64) -> u8
     digit(n)
 }
 
-// A number of a field, for sums that need room.
-pub fn wide(n: u32) -> u64
-    ensures { result ≡ n }
-{
-    n as u64
-}
-
 // Whether a number is in a range, both ends in it.
+#[tactic(auto, unfolding(model::specs::Columns::between))]
 pub fn within(low: u64, high: u64, n: u64) -> bool
     ensures { result ≡ between low high n }
 {
-    if n < low {
-        return false;
-    }
-    n <= high
+    low <= n && n <= high
 }
 
 // Writes a number right-justified into the first `width` bytes of a part of a line already begun.
@@ -132,13 +94,11 @@ fn write_field(part: &mut [u8], width: usize, n: u64)
     requires { (1 ≤ width) × (width ≤ length part.old) }
     ensures { part.new ≡ justified width n ++ drop width part.old }
 {
-    let mut at = width - 1;
-    part[at] = digit(n);
+    part[width - 1] = digit(n);
     let mut rest = n / 10;
-    while 0 < at {
-        at -= 1;
+    for at in (0..width - 1).rev() {
         part[at] = digit_or_blank(rest);
-        rest = rest / 10;
+        rest /= 10;
     }
 }
 
@@ -159,9 +119,9 @@ pub fn write_end(part: &mut [u8], n: u64)
     requires { 14 ≤ length part.old }
     ensures { part.new ≡ end_line n ++ drop 14 part.old }
 {
-    part[0] = 101;
-    part[1] = 110;
-    part[2] = 100;
+    part[0] = b'e';
+    part[1] = b'n';
+    part[2] = b'd';
     write_at(part, 4, 13, n);
     part[13] = LF;
 }
@@ -172,12 +132,10 @@ fn has_lf(text: &[u8], at: usize) -> bool
     ensures { result ≡ lf_within text.now at 8 }
 {
     let mut found = false;
-    let mut i = 0;
-    while i < 8 {
+    for i in 0..8 {
         if text[at + i] == LF {
             found = true;
         }
-        i += 1;
     }
     found
 }
@@ -197,17 +155,15 @@ fn skip_blocks(text: &[u8], at: usize) -> usize
     i
 }
 
-// Where the line that starts at `at` ends.
-pub fn next_line(text: &[u8], at: usize) -> NextLine
+// The position of the LF in which the line that starts at `at` ends, none where no LF follows.
+pub fn next_line(text: &[u8], at: usize) -> Option<usize>
     requires { at < length text.now }
     ensures { FirstLine text.now at result }
 {
-    let mut i = skip_blocks(text, at);
-    while i < text.len() {
+    for i in skip_blocks(text, at)..text.len() {
         if text[i] == LF {
-            return NextLine::Ended(i);
+            return Some(i);
         }
-        i += 1;
     }
-    NextLine::Unended
+    None
 }
