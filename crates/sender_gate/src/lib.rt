@@ -43,77 +43,61 @@ pub struct GateAnswer {
     pub code: u32,
 }
 
-fn code_of(outcome: Outcome) -> u32
-    ensures { result ≡ code_of outcome }
-{
-    match outcome {
-        Outcome::Done => 0,
-        Outcome::Dropped => 1,
-        Outcome::FrameOutOfRange => 60,
-        Outcome::GateOutOfRange => 61,
+impl From<Outcome> for u32 {
+    ghost from_gives = { λ outcome code. code ≡ code_of outcome };
+
+    fn from(outcome: Outcome) -> u32 {
+        match outcome {
+            Outcome::Done => 0,
+            Outcome::Dropped => 1,
+            Outcome::FrameOutOfRange => 60,
+            Outcome::GateOutOfRange => 61,
+        }
     }
 }
 
-// With so many tokens at this reading. Field by field: a gate that is copied whole takes the bytes past its last field along.
+// With so many tokens at this reading.
+#[tactic(auto, unfolding(model::specs::Gate::gate_with))]
 fn answer(outcome: Outcome, gate: Gate, tokens: Tokens, reading: u32) -> GateAnswer
     ensures { answer_of result ≡ record { code = code_of outcome; gate = gate_with (gate_of gate) tokens.0 reading } }
 {
-    let rate = gate.rate;
-    let burst = gate.burst;
-    let frame = gate.frame;
-    let then = Gate {
-        rate,
-        burst,
-        frame,
-        tokens,
-        reading,
-    };
     GateAnswer {
-        gate: then,
-        code: code_of(outcome),
+        gate: Gate {
+            tokens,
+            reading,
+            ..gate
+        },
+        code: u32::from(outcome),
     }
 }
 
 fn in_range(gate: Gate) -> bool
     ensures { result ≡ gate_in_range (gate_of gate) }
 {
-    let rate = gate.rate;
-    let burst = gate.burst;
-    let frame = gate.frame;
-    let tokens = gate.tokens;
-    if !orders::rate_in_range(rate) {
-        return false;
-    }
-    if !orders::burst_in_range(burst) {
-        return false;
-    }
-    if !orders::frame_in_range(frame) {
-        return false;
-    }
-    if burst.0 < frame.0 {
-        return false;
-    }
-    let full = units::tokens_of(burst);
-    tokens.0 <= full.0
+    orders::rate_in_range(gate.rate)
+        && orders::burst_in_range(gate.burst)
+        && orders::frame_in_range(gate.frame)
+        && gate.frame.0 <= gate.burst.0
+        && gate.tokens.0 <= units::tokens_of(gate.burst).0
 }
 
 // Round the corner where the clock has rolled over.
+#[tactic(auto, unfolding(model::specs::Gate::time_passed))]
 fn time_passed(last: u32, now: u32) -> Micros
     ensures { result.0 ≡ time_passed last now }
 {
-    Micros(std::num::wrapping_sub_u32(now, last) as u64)
+    Micros(u64::from(now.wrapping_sub(last)))
 }
 
 // A frame that finds so many tokens there.
+#[tactic(auto, unfolding(model::specs::Gate::metered))]
 fn meter(gate: Gate, length: Bytes, now: u32, there: Tokens) -> GateAnswer
     requires { length.0 ≤ 1000000 }
     ensures { answer_of result ≡ metered (gate_of gate) length.0 now there.0 }
 {
     let taken = units::tokens_of(length);
-    let t = taken.0;
-    let all = there.0;
-    if t <= all {
-        return answer(Outcome::Done, gate, Tokens(all - t), now);
+    if taken.0 <= there.0 {
+        return answer(Outcome::Done, gate, Tokens(there.0 - taken.0), now);
     }
     answer(Outcome::Dropped, gate, there, now)
 }
@@ -123,18 +107,16 @@ fn meter_at(gate: Gate, length: Bytes, now: u32) -> GateAnswer
     requires { (gate_in_range (gate_of gate) ≡ true) × (length_in_range (gate_of gate) length.0 ≡ true) }
     ensures { answer_of result ≡ metered (gate_of gate) length.0 now (tokens_at (gate_of gate) now) }
 {
-    let rate = gate.rate;
-    let burst = gate.burst;
-    let tokens = gate.tokens.0;
-    let full = units::tokens_of(burst);
-    let added = units::tokens_added(rate, time_passed(gate.reading, now));
-    if full.0 - tokens < added.0 {
+    let full = units::tokens_of(gate.burst);
+    let added = units::tokens_added(gate.rate, time_passed(gate.reading, now));
+    if full.0 - gate.tokens.0 < added.0 {
         return meter(gate, length, now, full);
     }
-    meter(gate, length, now, Tokens(tokens + added.0))
+    meter(gate, length, now, Tokens(gate.tokens.0 + added.0))
 }
 
 // What there is after a refused opening: an offer to it is 61.
+#[tactic(auto, unfolding(model::specs::Gate::no_gate))]
 fn no_gate() -> Gate
     ensures { gate_of result ≡ no_gate }
 {
@@ -169,13 +151,11 @@ pub fn open(rate: Rate, burst: Bytes, frame: Bytes, now: u32) -> GateAnswer
 pub fn offer(gate: Gate, length: Bytes, now: u32) -> GateAnswer
     ensures { Offers gate length.0 now result }
 {
-    let frame = gate.frame;
-    let tokens = gate.tokens;
     if !in_range(gate) {
-        return answer(Outcome::GateOutOfRange, gate, tokens, gate.reading);
+        return answer(Outcome::GateOutOfRange, gate, gate.tokens, gate.reading);
     }
-    if !columns::within(SMALLEST_FRAME, frame.0, length.0) {
-        return answer(Outcome::FrameOutOfRange, gate, tokens, gate.reading);
+    if !columns::within(SMALLEST_FRAME, gate.frame.0, length.0) {
+        return answer(Outcome::FrameOutOfRange, gate, gate.tokens, gate.reading);
     }
     meter_at(gate, length, now)
 }

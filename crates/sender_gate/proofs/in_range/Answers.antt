@@ -1,45 +1,48 @@
 -- `sender_gate::in_range` meets its contract: its tests are the definition's, in the same order.
-use Rattle.std.proofs.Common.{◌≡◌, Bool, ◌&&◌, leb, sym, refl, ap, ◌∙◌, ap₂, le-leb}
-use borrow.Author.Tests.{lt-leb}
+use Rattle.std.proofs.Common.{◌≡◌, ◌&&◌, leb, sym, ap, ◌∙◌}
 use Rattle.model.specs.Orders.{rate_in_range, burst_in_range, frame_in_range}
+use Rattle.model.specs.Gate.{gate_in_range}
+use Rattle.model.proofs.Laws.Test.{and_both}
 use Rattle.model.proofs.Laws.Columns.{between-true}
-use Rattle.model.specs.Gate.{Gate, full_of, gate_in_range}
 use Rattle.sender_gate.proofs.in_range.Goals as goal
+use Rattle.sender_gate.proofs.in_range.Goals.{then-rate_in_range, else-rate_in_range, then-burst_in_range, else-burst_in_range, then-frame_in_range, else-frame_in_range}
+use Rattle.sender_gate.proofs.in_range.Tie as tie
+use Rattle.sender_gate.proofs.in_range.Lts as lts
+use Rattle.sender_gate.proofs.in_range.Reads as reads
 
-tests : (g : Gate) {rate burst frame holds : Bool} → rate_in_range g.rate ≡ rate → burst_in_range g.burst ≡ burst → frame_in_range g.frame ≡ frame → leb g.frame g.burst ≡ holds
-    → gate_in_range g ≡ (rate && burst && frame && holds && leb g.tokens (full_of g))
+module _ (c : lts.Joined3 tie.the-claims reads.Pre reads.Post) where
+  two : c.if-rate_in_range.value ≡ (rate_in_range c.args.gate.rate.0 && burst_in_range c.args.gate.burst.0)
+  two =
+      elim c.if-rate_in_range.branch [
+        | then-rate_in_range w ↦ rw (sym c.rate_in_range.ensures ∙ w.if-rate_in_range.true) (w.value-is ∙ w.burst_in_range.ensures)
+        | else-rate_in_range w ↦ rw (sym c.rate_in_range.ensures ∙ w.if-rate_in_range.false) (w.value-is ∙ w.if-rate_in_range.false)
+      ]
+
+  three : c.if-burst_in_range.value ≡ (rate_in_range c.args.gate.rate.0 && burst_in_range c.args.gate.burst.0 && frame_in_range c.args.gate.frame.0)
+  three =
+      elim c.if-burst_in_range.branch [
+        | then-burst_in_range w ↦ rw (sym two ∙ w.if-burst_in_range.true) (w.value-is ∙ w.frame_in_range.ensures)
+        | else-burst_in_range w ↦ rw (sym two ∙ w.if-burst_in_range.false) (w.value-is ∙ w.if-burst_in_range.false)
+      ]
+
+  four : c.if-frame_in_range.value ≡ (rate_in_range c.args.gate.rate.0 && burst_in_range c.args.gate.burst.0 && frame_in_range c.args.gate.frame.0 && leb c.args.gate.frame.0 c.args.gate.burst.0)
+  four =
+      elim c.if-frame_in_range.branch [
+        | then-frame_in_range w ↦ rw (sym three ∙ w.if-frame_in_range.true) w.value-is
+        | else-frame_in_range w ↦ rw (sym three ∙ w.if-frame_in_range.false) (w.value-is ∙ w.if-frame_in_range.false)
+      ]
+
+pub tokens_of-requires : goal.tokens_of-requires
+tokens_of-requires c =
+    let gate = c.args.gate in
+    let before_last = (and_both (rate_in_range gate.rate.0 && burst_in_range gate.burst.0 && frame_in_range gate.frame.0) _ (sym (four c.before.before) ∙ c.if-gate.true)).0 in
+    let burst = (and_both (rate_in_range gate.rate.0) _ (and_both (rate_in_range gate.rate.0 && burst_in_range gate.burst.0) _ before_last).0).1 in
+    (between-true 84 1000000 gate.burst.0 burst).1
+
+pub returns-then-gate : goal.returns-then-gate
 unfolding gate_in_range
-tests g rate burst frame holds =
-    ap (λ (b : Bool). b && leb g.tokens (full_of g)) (ap₂ (λ (a b : Bool). a && b) (ap₂ (λ (a b : Bool). a && b) (ap₂ (λ (a b : Bool). a && b) rate burst) frame) holds)
+returns-then-gate c = rw (sym (four c.before.before.before.before.before) ∙ c.if-gate.true) (ap (leb c.args.gate.tokens.0) c.tokens_of.ensures)
 
-pub returns-then-not-rate_in_range : goal.returns-then-not-rate_in_range
-returns-then-not-rate_in_range c = sym (tests _ (sym c.rate_in_range.ensures ∙ c.if-not-rate_in_range.true) refl refl refl)
-
-pub returns-then-not-burst_in_range : goal.returns-then-not-burst_in_range
-returns-then-not-burst_in_range c =
-    sym (tests _ (sym c.rate_in_range.ensures ∙ c.if-not-rate_in_range.false) (sym c.burst_in_range.ensures ∙ c.if-not-burst_in_range.true) refl refl)
-
-pub returns-then-not-frame_in_range : goal.returns-then-not-frame_in_range
-returns-then-not-frame_in_range c =
-    sym
-    (tests _ (sym c.rate_in_range.ensures ∙ c.if-not-rate_in_range.false) (sym c.burst_in_range.ensures ∙ c.if-not-burst_in_range.false)
-    (sym c.frame_in_range.ensures ∙ c.if-not-frame_in_range.true)
-    refl)
-
-pub returns-then-burst-frame : goal.returns-then-burst-frame
-returns-then-burst-frame c =
-    sym
-    (tests _ (sym c.rate_in_range.ensures ∙ c.if-not-rate_in_range.false) (sym c.burst_in_range.ensures ∙ c.if-not-burst_in_range.false)
-    (sym c.frame_in_range.ensures ∙ c.if-not-frame_in_range.false)
-    (lt-leb _ _ c.if-burst-frame.true))
-
-pub tokens_of-full-requires : goal.tokens_of-full-requires
-tokens_of-full-requires c = (between-true 84 1000000 _ (sym c.burst_in_range.ensures ∙ c.if-not-burst_in_range.false)).1
-
-pub returns : goal.returns
-returns c =
-    ap (leb c.args.gate.tokens.0) c.tokens_of-full.ensures
-    ∙ sym
-    (tests _ (sym c.rate_in_range.ensures ∙ c.if-not-rate_in_range.false) (sym c.burst_in_range.ensures ∙ c.if-not-burst_in_range.false)
-    (sym c.frame_in_range.ensures ∙ c.if-not-frame_in_range.false)
-    (le-leb _ _ c.if-burst-frame.false))
+pub returns-else-gate : goal.returns-else-gate
+unfolding gate_in_range
+returns-else-gate c = rw (sym (four c.before) ∙ c.if-gate.false) c.if-gate.false

@@ -1,12 +1,9 @@
 -- `sender_gate::meter_at` meets its contract: no more is added than a full bucket has room for, so that no sum is above it.
-use Rattle.std.proofs.Common.{ℕ, ◌*◌, ◌≤◌, ap, ◌∙◌, arith}
+use Rattle.std.proofs.Common.{ℕ, ◌*◌, ap, ◌∙◌, arith}
 use Rattle.model.specs.Gate.{time_passed, tokens_at, metered}
 use Rattle.model.proofs.Laws.Gate.{gate-bounds, length-bounds}
 use Rattle.sender_gate.specs.View.{gate_of}
 use Rattle.sender_gate.proofs.meter_at.Goals as goal
-use Rattle.sender_gate.proofs.meter_at.Tie as tie
-use Rattle.sender_gate.proofs.meter_at.Lts as lts
-use Rattle.sender_gate.proofs.meter_at.Reads as reads
 
 pub tokens_of-full-requires : goal.tokens_of-full-requires
 tokens_of-full-requires c = (gate-bounds _ c.requires.0).burst.1
@@ -18,23 +15,19 @@ tokens_added-added-requires c = ((gate-bounds _ c.requires.0).rate.1, omega (ari
 pub overflow_sub-full : goal.overflow_sub-full
 overflow_sub-full c = omega (arith, (gate-bounds _ c.requires.0).tokens, c.tokens_of-full.ensures)
 
--- The frame is no longer than an order line's.
-short : (c : lts.Start tie.the-claims reads.Pre reads.Post) → c.args.length.0 ≤ 1000000
-short c = omega (arith, (length-bounds _ _ c.requires.1).1, (gate-bounds _ c.requires.0).frame.1)
-
 pub meter-requires : goal.meter-requires
-meter-requires c = short c.before.before.before.before.before.before.before.before
+meter-requires c = omega (arith, (length-bounds _ _ c.requires.1).1, (gate-bounds _ c.requires.0).frame.1)
 
-pub returns-then-full-tokens : goal.returns-then-full-tokens
+pub returns-then-full-gate : goal.returns-then-full-gate
 unfolding tokens_at
-returns-then-full-tokens c =
+returns-then-full-gate c =
     let args = c.args in
     let added = c.tokens_added-added.ensures ∙ ap (λ (t : ℕ). args.gate.rate.0 * t) c.time_passed.ensures in
     c.meter.ensures
-    ∙ ap (metered (gate_of args.gate) args.length.0 args.now) (omega (arith, added, c.tokens_of-full.ensures, c.if-full-tokens.true))
+    ∙ ap (metered (gate_of args.gate) args.length.0 args.now) (omega (arith, added, c.tokens_of-full.ensures, c.if-full-gate.true))
 
 pub meter-requires-2 : goal.meter-requires-2
-meter-requires-2 c = short c.before.before.before.before.before.before.before.before.before
+meter-requires-2 c = omega (arith, (length-bounds _ _ c.requires.1).1, (gate-bounds _ c.requires.0).frame.1)
 
 pub returns : goal.returns
 unfolding tokens_at
@@ -42,4 +35,4 @@ returns c =
     let args = c.args in
     let added = c.tokens_added-added.ensures ∙ ap (λ (t : ℕ). args.gate.rate.0 * t) c.time_passed.ensures in
     c.meter-2.ensures
-    ∙ ap (metered (gate_of args.gate) args.length.0 args.now) (omega (arith, added, (gate-bounds _ c.requires.0).tokens, c.tokens_of-full.ensures, c.if-full-tokens.false))
+    ∙ ap (metered (gate_of args.gate) args.length.0 args.now) (omega (arith, added, (gate-bounds _ c.requires.0).tokens, c.tokens_of-full.ensures, c.if-full-gate.false))

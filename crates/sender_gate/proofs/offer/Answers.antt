@@ -32,7 +32,7 @@ pub returns-then-not-within : goal.returns-then-not-within
 unfolding gate_with length_in_range
 returns-then-not-within c =
     let args = c.args in
-    c.answer-then-not-within.ensures ∙ sym (decided (gate_of args.gate) args.length.0 args.now (ranged c.before.before.before) (sym c.within.ensures ∙ c.if-not-within.true))
+    c.answer-then-not-within.ensures ∙ sym (decided (gate_of args.gate) args.length.0 args.now (ranged c.before.before.before.before) (sym c.within.ensures ∙ c.if-not-within.true))
 
 pub meter_at-requires : goal.meter_at-requires
 meter_at-requires c = (ranged c.before.before, fitting (c))
