@@ -51,82 +51,71 @@ fn ceil_div(a: u64, b: u64) -> u64
     requires { (1 ≤ b) × (a + b < 2 ^ 64) }
     ensures { result ≡ ceil_div a b }
 {
-    (a + (b - 1)) / b
+    a.div_ceil(b)
 }
 
 // The shortest sending time on a link of `speed` Mbit/s: that of the smallest frame, 672 bits. 0 where the speed is 0, which no table has.
+#[tactic(auto, unfolding(model::specs::Formula::shortest_sending))]
 pub fn shortest_sending(speed: u32) -> Micros
     ensures { result.0 ≡ shortest_sending speed }
 {
     if speed == 0 {
         return Micros(0);
     }
-    Micros(ceil_div(672, speed as u64))
+    Micros(ceil_div(672, u64::from(speed)))
 }
 
 // A hop's part of S, never below 0.
+#[tactic(auto, unfolding(model::specs::Formula::hop_growth))]
 pub fn hop_growth(threshold: Micros, speed: u32) -> Micros
     ensures { result.0 ≡ hop_growth threshold.0 speed }
 {
-    let least = shortest_sending(speed);
-    let t = threshold.0;
-    let s = least.0;
-    if t < s {
-        return Micros(0);
-    }
-    Micros(t - s)
+    Micros(threshold.0.saturating_sub(shortest_sending(speed).0))
 }
 
 // The burst of a flow at a hop, where S over the earlier hops is `sum`.
+#[tactic(auto, unfolding(model::specs::Formula::burst_at_hop))]
 pub fn burst_at_hop(rate: Rate, burst: Bytes, sum: Micros) -> Bytes
     requires { (rate.0 ≤ 10000000) × ((burst.0 ≤ 1000000) × (sum.0 ≤ thresholds_most)) }
     ensures { result.0 ≡ burst_at_hop rate.0 burst.0 sum.0 }
 {
-    let r = rate.0;
-    let b = burst.0;
-    let s = sum.0;
-    Bytes(b + ceil_div(r * s, 8000))
+    Bytes(burst.0 + ceil_div(rate.0 * sum.0, 8000))
 }
 
 // Res: the rate that the levels above leave of a link of `speed` Mbit/s.
+#[tactic(auto, unfolding(model::specs::Formula::residual))]
 pub fn residual_rate(speed: u64, above: Rate) -> Rate
     requires { (speed ≤ 10000) × (above.0 ≤ 1000 * speed) }
     ensures { result.0 ≡ residual speed above.0 }
 {
-    let a = above.0;
-    Rate(1000 * speed - a)
+    Rate(1000 * speed - above.0)
 }
 
 // The rate rule: the rate sum of all levels of a link stays below its speed.
+#[tactic(auto, unfolding(model::specs::Formula::within_rate))]
 pub fn within_rate(speed: u64, sum: Rate) -> bool
     requires { speed ≤ 10000 }
     ensures { result ≡ within_rate speed sum.0 }
 {
-    let s = sum.0;
-    s < 1000 * speed
+    sum.0 < 1000 * speed
 }
 
 // Delay, eq. 12.
+#[tactic(auto, unfolding(model::specs::Formula::delay_bound))]
 pub fn delay_bound(y: Bytes, burst: Bytes, res: Rate) -> Micros
     requires { (1 ≤ res.0) × ((res.0 ≤ 10000000) × (y.0 + burst.0 ≤ 2 ^ 40)) }
     ensures { result.0 ≡ delay_bound y.0 burst.0 res.0 }
 {
-    let y = y.0;
-    let b = burst.0;
-    let r = res.0;
-    Micros(ceil_div(8000 * (y + b), r))
+    Micros(ceil_div(8000 * (y.0 + burst.0), res.0))
 }
 
 // Backlog, eq. 13.
+#[tactic(auto, unfolding(model::specs::Formula::backlog_bound))]
 pub fn backlog_bound(rate: Rate, burst: Bytes, y: Bytes, res: Rate) -> Bytes
     requires { (rate.0 ≤ 10000000) × ((1 ≤ res.0) × ((res.0 ≤ 10000000) × (y.0 + burst.0 ≤ 2 ^ 40))) }
     ensures { result.0 ≡ backlog_bound rate.0 burst.0 y.0 res.0 }
 {
-    let r = rate.0;
-    let b = burst.0;
-    let y = y.0;
-    let c = res.0;
-    Bytes(b + ceil_div(r * y, c))
+    Bytes(burst.0 + ceil_div(rate.0 * y.0, res.0))
 }
 
 // Whether the delay stays within a threshold, by a product: no quotient is worked out where only a comparison is asked.
@@ -134,11 +123,7 @@ pub fn within_delay(y: Bytes, burst: Bytes, res: Rate, threshold: Micros) -> boo
     requires { (1 ≤ res.0) × (res.0 ≤ 10000000) × (y.0 + burst.0 ≤ 2 ^ 40) × (threshold.0 < 2 ^ 32) }
     ensures { result ≡ leb (delay_bound y.0 burst.0 res.0) threshold.0 }
 {
-    let y = y.0;
-    let b = burst.0;
-    let r = res.0;
-    let t = threshold.0;
-    8000 * (y + b) <= t * r
+    8000 * (y.0 + burst.0) <= threshold.0 * res.0
 }
 
 // Whether the backlog stays within a buffer, by a product too; the burst sum alone may be above it.
@@ -146,24 +131,16 @@ pub fn within_backlog(rate: Rate, burst: Bytes, y: Bytes, res: Rate, buffer: Byt
     requires { (rate.0 ≤ 10000000) × (1 ≤ res.0) × (res.0 ≤ 10000000) × (y.0 ≤ 2 ^ 40) × (buffer.0 < 2 ^ 32) }
     ensures { result ≡ leb (backlog_bound rate.0 burst.0 y.0 res.0) buffer.0 }
 {
-    let r = rate.0;
-    let b = burst.0;
-    let y = y.0;
-    let c = res.0;
-    let most = buffer.0;
-    if most < b {
-        return false;
-    }
-    r * y <= (most - b) * c
+    burst.0 <= buffer.0 && rate.0 * y.0 <= (buffer.0 - burst.0) * res.0
 }
 
 // The tokens that a burst or a frame takes.
+#[tactic(auto, unfolding(model::specs::Gate::tokens_of))]
 pub fn tokens_of(bytes: Bytes) -> Tokens
     requires { bytes.0 ≤ 1000000 }
     ensures { result.0 ≡ tokens_of bytes.0 }
 {
-    let b = bytes.0;
-    Tokens(8000 * b)
+    Tokens(8000 * bytes.0)
 }
 
 // The tokens that a rate adds in the time between two readings of a clock of 32 bits.
@@ -171,20 +148,13 @@ pub fn tokens_added(rate: Rate, passed: Micros) -> Tokens
     requires { (rate.0 ≤ 10000000) × (passed.0 < turn) }
     ensures { result.0 ≡ rate.0 * passed.0 }
 {
-    let r = rate.0;
-    let p = passed.0;
-    Tokens(r * p)
+    Tokens(rate.0 * passed.0)
 }
 
 pub fn larger(a: Bytes, b: Bytes) -> Bytes
     ensures { result.0 ≡ max a.0 b.0 }
 {
-    let x = a.0;
-    let y = b.0;
-    if x < y {
-        return b;
-    }
-    a
+    Bytes(a.0.max(b.0))
 }
 
 impl Aggregate {
@@ -193,16 +163,10 @@ impl Aggregate {
         requires { (self.rate.0 + share.rate.0 ≤ 2 ^ 40) × (self.burst.0 + share.burst.0 ≤ 2 ^ 40) }
         ensures { aggregate_of result ≡ together (aggregate_of self) (aggregate_of share) }
     {
-        let r = self.rate;
-        let b = self.burst;
-        let f = self.frame;
-        let rate = share.rate;
-        let burst = share.burst;
-        let frame = share.frame;
         Aggregate {
-            rate: Rate(r.0 + rate.0),
-            burst: Bytes(b.0 + burst.0),
-            frame: larger(f, frame),
+            rate: Rate(self.rate.0 + share.rate.0),
+            burst: Bytes(self.burst.0 + share.burst.0),
+            frame: larger(self.frame, share.frame),
         }
     }
 
@@ -211,9 +175,9 @@ impl Aggregate {
         requires { AtSource (aggregate_of self) × (sum.0 ≤ thresholds_most) }
         ensures { aggregate_of result ≡ grown (aggregate_of self) sum.0 }
     {
-        let rate = self.rate;
-        let frame = self.frame;
-        let burst = burst_at_hop(rate, self.burst, sum);
-        Aggregate { rate, burst, frame }
+        Aggregate {
+            burst: burst_at_hop(self.rate, self.burst, sum),
+            ..self
+        }
     }
 }

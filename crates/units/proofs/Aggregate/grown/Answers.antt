@@ -2,4 +2,4 @@
 use Rattle.units.proofs.Aggregate.grown.Goals as goal
 
 pub returns : goal.returns
-returns c = rw c.burst_at_hop-burst.ensures
+returns c = rw c.burst_at_hop.ensures
