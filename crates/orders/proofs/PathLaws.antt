@@ -1,20 +1,18 @@
 -- The hops of the array that a path is read into, and those read so far before what the rest of the line says: one hop more, a malformed one, and the end.
 -- Assumes nothing.
 use Prim.Native.Nat.{ℕ, zero, suc, ◌+◌, ◌-◌, ◌*◌, ◌<◌}
-use mathlib.Core.Path.{◌≡◌, refl, sym, ap, ◌∙◌, subst⁻¹}
+use mathlib.Core.Path.{◌≡◌, refl, sym, ap, ◌∙◌}
 use mathlib.Core.List.{List, [], ◌∷◌, ◌++◌, append-nil}
 use mathlib.Core.Option.{Option, none, some}
 use native.Mathlib.Omega.{arith}
 use native.Mathlib.Nat.{sub-zero}
 use native.Mathlib.Numerals.{add-one}
-use lib.ListN.{length, get_or, take, drop, set}
-use lib.Seq.{append_snoc, take-suc-set, drop-drop}
+use lib.ListN.{length, get_or, take, drop, set, length-drop}
+use lib.Seq.{append_snoc, take-suc-set, take_all, drop-drop}
 use Rattle.model.specs.Words.{and_then}
 use Rattle.model.specs.Sizes.{hops_most, head_columns, hop_columns}
 use Rattle.model.specs.Orders.{Hop, hop_field, hop_fields}
-use Rattle.orders.specs.declared.Order.{Order}
-use Rattle.orders.specs.declared.OrderLine.{OrderLine}
-use Rattle.orders.specs.View.{hop_numbers, hops_in, hop_in, order_of, order_with, hops_fit}
+use Rattle.orders.specs.View.{hop_numbers, hops_in, hop_in}
 
 -- The hops `before`, and then those that are read, if they can be.
 abbrev joined : List Hop → Option (List Hop) → Option (List Hop)
@@ -80,7 +78,7 @@ hops-next hops i link level e h =
     ∙ take-suc-set (hops_in hops) i (record { link = link; level = level }) (omega (arith, hops-long hops hops_most e))
 
 -- The columns before hop i.
-abbrev start : ℕ → ℕ
+abbrev pub start : ℕ → ℕ
 start i = head_columns + hop_columns * i
 
 next-hop : (i : ℕ) (line : List ℕ) → drop hop_columns (drop (start i) line) ≡ drop (start (suc i)) line
@@ -116,10 +114,6 @@ path-end line hops n i e =
     let none_left : n - n ≡ 0 = omega arith in
     rw (e, none_left) (joined-all (take n (hops_in hops)) (drop (start n) line))
 
--- An order without hops has none to fit.
-pub bare-fits : (o bare : Order) → o ≡ bare → hops_fit bare → hops_fit o
-bare-fits o bare e h = subst⁻¹ hops_fit e h
-
--- What a line says goes by its order alone, beside its hops.
-pub with-order : (l : OrderLine) (o : Order) → l.order ≡ o → order_of l ≡ order_with o l.hops
-with-order l o e = ap (λ (r : Order). order_with r l.hops) e
+-- A part up to the end is what is left.
+pub field-of-rest : (line : List ℕ) (at : ℕ) {o : Option Hop} → o ≡ hop_field (take (length line - at) (drop at line)) → hop_field (drop at line) ≡ o
+field-of-rest line at e = ap hop_field (sym (take_all (length line - at) (drop at line) (simp length-drop (omega arith)))) ∙ sym e

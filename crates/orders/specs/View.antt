@@ -1,5 +1,7 @@
 -- What the answers of this crate say in the terms of the model.
-use Rattle.std.specs.Prelude.{ℕ, ◌+◌, ◌*◌, ◌≤◌, Bool, true, false, List, [], ◌∷◌, take, get_or}
+use Rattle.std.specs.Prelude.{ℕ, ◌+◌, ◌*◌, ◌≤◌, List, [], ◌∷◌, take, get_or}
+use Rattle.std.specs.Prelude.{Some, None, Result, Ok, Err}
+use Rattle.std.specs.Prelude as code
 use Rattle.std.proofs.Math.Option.{Option, none, some}
 use Rattle.model.specs.Sizes.{hops_most}
 use Rattle.model.specs.Orders as model
@@ -7,18 +9,12 @@ use Rattle.orders.specs.declared.Flow.{Flow}
 use Rattle.orders.specs.declared.Change as declared
 use Rattle.orders.specs.declared.Kind.{Kind}
 use Rattle.orders.specs.declared.Kind.TheVariants as kind
-use Rattle.orders.specs.declared.KindRead.{KindRead}
-use Rattle.orders.specs.declared.KindRead.TheVariants as kind-read
+use Rattle.orders.specs.declared.OtherKind.{OtherKind}
 use Rattle.orders.specs.declared.Order.{Order}
-use Rattle.orders.specs.declared.Order.TheVariants.{Register, Release, Change, Malformed, OutOfRange}
+use Rattle.orders.specs.declared.Order.TheVariants.{Register, Release, Change}
+use Rattle.orders.specs.declared.Unread.{Unread}
+use Rattle.orders.specs.declared.Unread.TheVariants.{Malformed, OutOfRange}
 use Rattle.orders.specs.declared.OrderLine.{OrderLine}
-use Rattle.orders.specs.declared.Source.{Source}
-use Rattle.orders.specs.declared.Source.TheVariants as source
-use Rattle.orders.specs.declared.Head.{Head}
-use Rattle.orders.specs.declared.Head.TheVariants as head
-use Rattle.orders.specs.declared.Hop.{Hop}
-use Rattle.orders.specs.declared.Hop.TheVariants as hop
-use Rattle.orders.specs.declared.Path.{Path}
 
 -- The numbers of a path: link and level of each hop in turn.
 abbrev pub hop_numbers : ℕ
@@ -43,9 +39,9 @@ kind_of kind.Register = model.registering
 kind_of kind.Release = model.releasing
 kind_of kind.Change = model.changing
 
-abbrev pub kind_in : KindRead → Option model.Kind
-kind_in (kind-read.Is kind) = some (kind_of kind)
-kind_in kind-read.Other = none
+abbrev pub kind_in : Result Kind OtherKind → Option model.Kind
+kind_in (Ok kind) = some (kind_of kind)
+kind_in (Err other) = none
 
 -- The columns of a flow before its hops.
 abbrev pub fields_of : Flow → model.Head
@@ -67,40 +63,36 @@ abbrev pub change_of : declared.Change → model.Change
 change_of c = record { number = c.number; rate = c.rate.0; burst = c.burst.0 }
 
 -- What an order says with the hops beside it; only a registration has any.
-abbrev pub order_with : Order → (hops : List ℕ) → model.Order
-order_with (Register f) hops = model.register (line_flow f hops)
-order_with (Release n) hops = model.release n
-order_with (Change c) hops = model.change (change_of c)
-order_with Malformed hops = model.rejected 10
-order_with OutOfRange hops = model.rejected 11
+abbrev pub order_with : Result Order Unread → (hops : List ℕ) → model.Order
+order_with (Ok (Register f)) hops = model.register (line_flow f hops)
+order_with (Ok (Release n)) hops = model.release n
+order_with (Ok (Change c)) hops = model.change (change_of c)
+order_with (Err Malformed) hops = model.rejected 10
+order_with (Err OutOfRange) hops = model.rejected 11
 
 abbrev pub order_of : OrderLine → model.Order
 order_of l = order_with l.order l.hops
 
 -- A registration's hops are in the array.
-abbrev pub hops_fit : Order → Type 0
-hops_fit (Register f) = f.hops ≤ hops_most
-hops_fit (Release n) = Unit {0}
-hops_fit (Change c) = Unit {0}
-hops_fit Malformed = Unit {0}
-hops_fit OutOfRange = Unit {0}
+abbrev pub hops_fit : Result Order Unread → Type 0
+hops_fit (Ok (Register f)) = f.hops ≤ hops_most
+hops_fit (Ok (Release n)) = Unit {0}
+hops_fit (Ok (Change c)) = Unit {0}
+hops_fit (Err u) = Unit {0}
 
-abbrev pub source_of : Source → Option model.Change
-source_of (source.Fields c) = some (change_of c)
-source_of source.Malformed = none
+abbrev pub source_of : code.Option declared.Change → Option model.Change
+source_of (Some c) = some (change_of c)
+source_of None = none
 
-abbrev pub head_of : Head → Option model.Head
-head_of (head.Fields f) = some (fields_of f)
-head_of head.Malformed = none
+abbrev pub head_of : code.Option Flow → Option model.Head
+head_of (Some f) = some (fields_of f)
+head_of None = none
 
-abbrev pub hop_of : Hop → Option model.Hop
-hop_of (hop.At link level) = some (record { link = link; level = level })
-hop_of hop.Malformed = none
-
-abbrev pub path_when : Bool → List model.Hop → Option (List model.Hop)
-path_when true path = some path
-path_when false path = none
+abbrev pub hop_of : code.Option (ℕ × ℕ) → Option model.Hop
+hop_of (Some (link, level)) = some (record { link = link; level = level })
+hop_of None = none
 
 -- The first n hops of what was read, none where a field is malformed.
-abbrev pub path_of : Path → (n : ℕ) → Option (List model.Hop)
-path_of p n = path_when p.whole (line_path p.hops n)
+abbrev pub path_of : code.Option (List ℕ) → (n : ℕ) → Option (List model.Hop)
+path_of (Some hops) n = some (line_path hops n)
+path_of None n = none

@@ -1,14 +1,14 @@
 // What an order line says (document 01, "Columns", order lines).
 #![tactic(auto)]
 
-ghost use Rattle.std.specs.Prelude.{◌≡◌, ◌≤◌, ◌<◌, length, drop};
+ghost use Rattle.std.specs.Prelude.{◌≡◌, ℕ, List, ◌≤◌, ◌<◌, length};
 ghost use Rattle.model.specs.Sizes.{hops_most};
 ghost use Rattle.model.specs.Columns.{field_at, lines};
-ghost use Rattle.model.specs.Orders.{kind_number, kind_of_number, read_order, release_line, change_line, registration, change_fields, rate_in_range, burst_in_range, frame_in_range, change_in_range, head_fields, head_in_range, hop_field, path_fields};
+ghost use Rattle.model.specs.Orders.{kind_number, kind_of_number, read_order, release_line, change_line, registration, change_fields, number_in_range, rate_in_range, burst_in_range, frame_in_range, change_in_range, head_fields, head_in_range, hop_field, path_fields};
 ghost use Rattle.model.specs.Reference.{line_of_kind, only_line};
-ghost use Rattle.orders.specs.View.{hop_numbers, hop_in, kind_of, kind_in, change_of, order_of, hops_fit, fields_of, source_of, head_of, hop_of, path_of};
+ghost use Rattle.orders.specs.declared.Unread.TheVariants.{OutOfRange};
+ghost use Rattle.orders.specs.View.{hop_numbers, hop_in, kind_of, kind_in, change_of, order_with, order_of, hops_fit, fields_of, source_of, head_of, hop_of, path_of};
 
-use columns::{Field, NextLine};
 use units::{Aggregate, Bytes, Micros, Rate};
 
 // The bytes of the smallest frame.
@@ -40,19 +40,16 @@ pub struct Flow {
 }
 
 // What a line or a call asks for.
-#[derive(Clone, Copy)]
+#[derive(Clone, Copy, Debug, PartialEq, Eq)]
 pub enum Kind {
     Register,
     Release,
     Change,
 }
 
-// The kind that a number stands for.
-#[derive(Clone, Copy)]
-pub enum KindRead {
-    Is(Kind),
-    Other,
-}
+// A number that stands for no kind.
+#[derive(Clone, Copy, Debug, PartialEq, Eq)]
+pub struct OtherKind;
 
 #[derive(Clone, Copy)]
 pub enum Order {
@@ -62,6 +59,11 @@ pub enum Order {
     Release(u32),
     // With a flow number, and its new rate and burst.
     Change(Change),
+}
+
+// Why a line gives no order.
+#[derive(Clone, Copy, Debug, PartialEq, Eq)]
+pub enum Unread {
     // 10: columns wrong.
     Malformed,
     // 11: out of range.
@@ -76,211 +78,141 @@ pub struct Change {
     pub burst: Bytes,
 }
 
-// An order, and the hops of its path where it is a registration: the first `hops` of them. The rest is free.
+// What a line gives, and the hops of its path where that is a registration: the first `hops` of them. The rest is free.
 #[derive(Clone, Copy)]
 pub struct OrderLine {
-    pub order: Order,
+    pub order: Result<Order, Unread>,
     pub hops: [u32; HOP_NUMBERS],
 }
 
-#[derive(Clone, Copy)]
-enum Source {
-    Fields(Change),
-    Malformed,
-}
-
-#[derive(Clone, Copy)]
-enum Head {
-    Fields(Flow),
-    Malformed,
-}
-
-#[derive(Clone, Copy)]
-enum Hop {
-    At(u32, u32),
-    Malformed,
-}
-
-// The array stands first: behind a flag of one byte it would be copied at an odd address.
-#[derive(Clone, Copy)]
-struct Path {
-    hops: [u32; HOP_NUMBERS],
-    whole: bool,
-}
-
-// An order without hops.
-fn bare(order: Order) -> OrderLine
-    ensures { result.order ≡ order }
-{
-    OrderLine {
-        order,
-        hops: [0; HOP_NUMBERS],
-    }
-}
-
-fn read_release(line: &[u8]) -> OrderLine
-    ensures result_value { order_of result ≡ release_line line.now }
-    ensures hops_fit { hops_fit result.order }
+#[tactic(auto, unfolding(model::specs::Orders::release_line, model::specs::Orders::release_of))]
+fn read_release(line: &[u8]) -> Result<Order, Unread>
+    ensures result_value { (hops : List ℕ) → order_with result hops ≡ release_line line.now }
+    ensures hops_fit { hops_fit result }
 {
     if line.len() != 8 {
-        return bare(Order::Malformed);
+        return Err(Unread::Malformed);
     }
-    let Field::Number(number) = columns::read_at(line, 3, 8) else {
-        return bare(Order::Malformed);
-    };
-    if columns::within(1, MOST_NUMBER as u64, columns::wide(number)) {
-        return bare(Order::Release(number));
+    let number = columns::read_at(line, 3, 8).ok_or(Unread::Malformed)?;
+    if !number_in_range(number) {
+        return Err(Unread::OutOfRange);
     }
-    bare(Order::OutOfRange)
+    Ok(Order::Release(number))
 }
 
 // The flow number, rate and burst, with which a registration and a change begin.
-fn read_source(line: &[u8]) -> Source
+#[tactic(auto, unfolding(model::specs::Orders::change_fields))]
+fn read_source(line: &[u8]) -> Option<Change>
     ensures { source_of result ≡ change_fields line.now }
 {
-    let Field::Number(number) = columns::read_at(line, 3, 8) else {
-        return Source::Malformed;
-    };
-    let Field::Number(rate) = columns::read_at(line, 9, 17) else {
-        return Source::Malformed;
-    };
-    let Field::Number(burst) = columns::read_at(line, 18, 25) else {
-        return Source::Malformed;
-    };
-    Source::Fields(Change {
+    let number = columns::read_at(line, 3, 8)?;
+    let rate = columns::read_at(line, 9, 17)?;
+    let burst = columns::read_at(line, 18, 25)?;
+    Some(Change {
         number,
-        rate: Rate(columns::wide(rate)),
-        burst: Bytes(columns::wide(burst)),
+        rate: Rate(u64::from(rate)),
+        burst: Bytes(u64::from(burst)),
     })
 }
 
 // The columns of a registration before its hops.
-fn read_head(line: &[u8]) -> Head
+#[tactic(auto, unfolding(model::specs::Orders::head_fields))]
+fn read_head(line: &[u8]) -> Option<Flow>
     ensures { head_of result ≡ head_fields line.now }
 {
-    let Source::Fields(source) = read_source(line) else {
-        return Head::Malformed;
-    };
-    let Field::Number(frame) = columns::read_at(line, 26, 30) else {
-        return Head::Malformed;
-    };
-    let Field::Number(deadline) = columns::read_at(line, 31, 38) else {
-        return Head::Malformed;
-    };
-    let Field::Number(hops) = columns::read_at(line, 39, 41) else {
-        return Head::Malformed;
-    };
-    let rate = source.rate;
-    let burst = source.burst;
-    Head::Fields(Flow {
+    let source = read_source(line)?;
+    let frame = columns::read_at(line, 26, 30)?;
+    let deadline = columns::read_at(line, 31, 38)?;
+    let hops = columns::read_at(line, 39, 41)?;
+    Some(Flow {
         number: source.number,
         share: Aggregate {
-            rate,
-            burst,
-            frame: Bytes(columns::wide(frame)),
+            rate: source.rate,
+            burst: source.burst,
+            frame: Bytes(u64::from(frame)),
         },
-        deadline: Micros(columns::wide(deadline)),
+        deadline: Micros(u64::from(deadline)),
         hops,
     })
+}
+
+// The range of a flow number.
+#[tactic(auto, unfolding(model::specs::Orders::number_in_range))]
+fn number_in_range(number: u32) -> bool
+    ensures { result ≡ number_in_range number }
+{
+    columns::within(1, MOST_NUMBER as u64, u64::from(number))
 }
 
 // The ranges of a rate, a burst and a largest frame.
 pub fn rate_in_range(rate: Rate) -> bool
     ensures { result ≡ rate_in_range rate.0 }
 {
-    let r = rate.0;
-    columns::within(1, 10_000_000, r)
+    columns::within(1, 10_000_000, rate.0)
 }
 
 pub fn burst_in_range(burst: Bytes) -> bool
     ensures { result ≡ burst_in_range burst.0 }
 {
-    let b = burst.0;
-    columns::within(SMALLEST_FRAME, 1_000_000, b)
+    columns::within(SMALLEST_FRAME, 1_000_000, burst.0)
 }
 
 pub fn frame_in_range(frame: Bytes) -> bool
     ensures { result ≡ frame_in_range frame.0 }
 {
-    let f = frame.0;
-    columns::within(SMALLEST_FRAME, 1542, f)
+    columns::within(SMALLEST_FRAME, 1542, frame.0)
 }
 
 // The ranges of a change.
+#[tactic(auto, unfolding(model::specs::Orders::change_in_range))]
 fn source_in_range(source: Change) -> bool
     ensures { result ≡ change_in_range (change_of source) }
 {
-    let number = source.number;
-    let rate = source.rate;
-    let burst = source.burst;
-    if !columns::within(1, MOST_NUMBER as u64, columns::wide(number)) {
-        return false;
-    }
-    if !rate_in_range(rate) {
-        return false;
-    }
-    burst_in_range(burst)
+    number_in_range(source.number) && rate_in_range(source.rate) && burst_in_range(source.burst)
 }
 
 // The ranges of a registration, its hop count aside.
+#[tactic(auto, unfolding(model::specs::Orders::head_in_range, model::specs::Orders::change_in_range))]
 pub fn in_range(flow: Flow) -> bool
     ensures { result ≡ head_in_range (fields_of flow) }
 {
-    let number = flow.number;
-    let share = flow.share;
-    let rate = share.rate;
-    let burst = share.burst;
-    let frame = share.frame;
-    let deadline = flow.deadline.0;
     let source = Change {
-        number,
-        rate,
-        burst,
+        number: flow.number,
+        rate: flow.share.rate,
+        burst: flow.share.burst,
     };
-    if !source_in_range(source) {
-        return false;
-    }
-    if !frame_in_range(frame) {
-        return false;
-    }
-    columns::within(1, 10_000_000, deadline)
+    source_in_range(source)
+        && frame_in_range(flow.share.frame)
+        && columns::within(1, 10_000_000, flow.deadline.0)
 }
 
-// The hop whose six columns start at `at`.
-fn read_hop(line: &[u8], at: usize) -> Hop
-    requires { at ≤ length line.now }
-    ensures { hop_of result ≡ hop_field (drop at line.now) }
+// The link and level of the hop that these columns begin with.
+#[tactic(auto, unfolding(model::specs::Orders::hop_field))]
+fn read_hop(columns: &[u8]) -> Option<(u32, u32)>
+    ensures { hop_of result ≡ hop_field columns.now }
 {
-    let rest = &line[at..];
-    let Field::Number(link) = columns::read_at(rest, 1, 4) else {
-        return Hop::Malformed;
-    };
-    let Field::Number(level) = columns::read_at(rest, 5, 6) else {
-        return Hop::Malformed;
-    };
-    Hop::At(link, level)
+    let link = columns::read_at(columns, 1, 4)?;
+    let level = columns::read_at(columns, 5, 6)?;
+    Some((link, level))
 }
 
 // So many hops after the head's columns.
-fn read_path(line: &[u8], count: u32) -> Path
+#[tactic(auto, unfolding(model::specs::Orders::path_fields))]
+fn read_path(line: &[u8], count: u32) -> Option<[u32; HOP_NUMBERS]>
     requires { count ≤ hops_most }
     ensures { path_of result count ≡ path_fields count line.now }
 {
     let n = count as usize;
-    let mut hops = [0u32; HOP_NUMBERS];
     if line.len() != HEAD_COLUMNS + HOP_COLUMNS * n {
-        return Path { whole: false, hops };
+        return None;
     }
-    let mut i = 0;
-    while i < n {
-        let Hop::At(link, level) = read_hop(line, HEAD_COLUMNS + HOP_COLUMNS * i) else {
-            return Path { whole: false, hops };
-        };
+    let mut hops = [0; HOP_NUMBERS];
+    for i in 0..n {
+        let (link, level) = read_hop(&line[HEAD_COLUMNS + HOP_COLUMNS * i..])?;
         hops[2 * i] = link;
         hops[2 * i + 1] = level;
-        i += 1;
     }
-    Path { whole: true, hops }
+    Some(hops)
 }
 
 // The link of hop `i`, counted from 0.
@@ -299,72 +231,117 @@ pub fn hop_level(hops: &[u32], i: usize) -> u32
     hops[2 * i + 1]
 }
 
-fn read_registration(line: &[u8]) -> OrderLine
-    ensures result_value { order_of result ≡ registration line.now }
-    ensures hops_fit { hops_fit result.order }
+#[tactic(auto, unfolding(model::specs::Orders::registration, model::specs::Orders::registration_of, model::specs::Orders::with_path, model::specs::Orders::hops_in_range, model::specs::Columns::between))]
+fn read_registration(line: &[u8], hops: &mut [u32; HOP_NUMBERS]) -> Result<Order, Unread>
+    ensures result_value { order_with result hops.new ≡ registration line.now }
+    ensures hops_fit { hops_fit result }
 {
-    let Head::Fields(flow) = read_head(line) else {
-        return bare(Order::Malformed);
-    };
-    let count = flow.hops;
-    if !columns::within(1, MOST_HOPS as u64, columns::wide(count)) {
-        return bare(Order::OutOfRange);
+    let flow = read_head(line).ok_or(Unread::Malformed)?;
+    if !columns::within(1, MOST_HOPS as u64, u64::from(flow.hops)) {
+        return Err(Unread::OutOfRange);
     }
-    let path = read_path(line, count);
-    let whole = path.whole;
-    if !whole {
-        return bare(Order::Malformed);
-    }
+    *hops = read_path(line, flow.hops).ok_or(Unread::Malformed)?;
     if !in_range(flow) {
-        return bare(Order::OutOfRange);
+        return Err(Unread::OutOfRange);
     }
-    let hops = path.hops;
-    OrderLine {
-        order: Order::Register(flow),
-        hops,
-    }
+    Ok(Order::Register(flow))
 }
 
-fn read_change(line: &[u8]) -> OrderLine
-    ensures result_value { order_of result ≡ change_line line.now }
-    ensures hops_fit { hops_fit result.order }
+#[tactic(auto, unfolding(model::specs::Orders::change_line, model::specs::Orders::change_of))]
+fn read_change(line: &[u8]) -> Result<Order, Unread>
+    ensures result_value { (hops : List ℕ) → order_with result hops ≡ change_line line.now }
+    ensures hops_fit { hops_fit result }
 {
     if line.len() != 25 {
-        return bare(Order::Malformed);
+        return Err(Unread::Malformed);
     }
-    let Source::Fields(source) = read_source(line) else {
-        return bare(Order::Malformed);
-    };
-    if source_in_range(source) {
-        return bare(Order::Change(source));
+    let source = read_source(line).ok_or(Unread::Malformed)?;
+    if !source_in_range(source) {
+        return Err(Unread::OutOfRange);
     }
-    bare(Order::OutOfRange)
+    Ok(Order::Change(source))
 }
 
 // Document 01's number of a kind.
-pub fn kind_number(kind: Kind) -> u32
-    ensures { result ≡ kind_number (kind_of kind) }
-{
-    match kind {
-        Kind::Register => 1,
-        Kind::Release => 2,
-        Kind::Change => 3,
+impl From<Kind> for u32 {
+    ghost from_gives = { λ kind n. n ≡ kind_number (kind_of kind) };
+
+    #[tactic(auto, unfolding(model::specs::Orders::kind_number))]
+    fn from(kind: Kind) -> u32 {
+        match kind {
+            Kind::Register => 1,
+            Kind::Release => 2,
+            Kind::Change => 3,
+        }
     }
 }
 
-pub fn kind_of_number(number: u32) -> KindRead
-    ensures { kind_in result ≡ kind_of_number number }
+impl TryFrom<u32> for Kind {
+    type Error = OtherKind;
+
+    ghost try_from_gives = { λ number r. kind_in r ≡ kind_of_number number };
+
+    #[tactic(auto, unfolding(model::specs::Orders::kind_of_number, model::specs::Orders::kind_number))]
+    fn try_from(number: u32) -> Result<Kind, OtherKind> {
+        match number {
+            1 => Ok(Kind::Register),
+            2 => Ok(Kind::Release),
+            3 => Ok(Kind::Change),
+            _ => Err(OtherKind),
+        }
+    }
+}
+
+// Another kind is out of range.
+impl From<OtherKind> for Unread {
+    ghost from_gives = { λ _ unread. unread ≡ OutOfRange };
+
+    fn from(_kind: OtherKind) -> Unread {
+        Unread::OutOfRange
+    }
+}
+
+// The order of a line, without its LF. The hops of a registration are put into `hops`.
+#[tactic(auto, unfolding(model::specs::Orders::read_order, model::specs::Orders::order_of_kind, model::specs::Orders::kind_order))]
+fn read_line(line: &[u8], hops: &mut [u32; HOP_NUMBERS]) -> Result<Order, Unread>
+    ensures result_value { order_with result hops.new ≡ read_order line.now }
+    ensures hops_fit { hops_fit result }
 {
-    if number == kind_number(Kind::Register) {
-        return KindRead::Is(Kind::Register);
+    let number = columns::read_at(line, 1, 2).ok_or(Unread::Malformed)?;
+    match Kind::try_from(number)? {
+        Kind::Register => read_registration(line, hops),
+        Kind::Release => read_release(line),
+        Kind::Change => read_change(line),
     }
-    if number == kind_number(Kind::Release) {
-        return KindRead::Is(Kind::Release);
+}
+
+// The order of a line that has to be of this kind.
+#[tactic(auto, unfolding(model::specs::Reference::line_of_kind))]
+fn read_own_kind(kind: Kind, line: &[u8], hops: &mut [u32; HOP_NUMBERS]) -> Result<Order, Unread>
+    ensures result_value { order_with result hops.new ≡ line_of_kind (kind_number (kind_of kind)) line.now (field_at 1 2 line.now) }
+    ensures hops_fit { hops_fit result }
+{
+    let found = columns::read_at(line, 1, 2).ok_or(Unread::Malformed)?;
+    if found != u32::from(kind) {
+        return Err(Unread::OutOfRange);
     }
-    if number == kind_number(Kind::Change) {
-        return KindRead::Is(Kind::Change);
+    read_line(line, hops)
+}
+
+// The order of the one line that these bytes have to be.
+#[tactic(auto, using(crate::proofs::CallLaws::call_laws), unfolding(model::specs::Reference::only_line))]
+fn read_only_line(kind: Kind, bytes: &[u8], hops: &mut [u32; HOP_NUMBERS]) -> Result<Order, Unread>
+    ensures result_value { order_with result hops.new ≡ only_line (kind_number (kind_of kind)) (lines bytes.now) }
+    ensures hops_fit { hops_fit result }
+{
+    if bytes.is_empty() {
+        return Err(Unread::Malformed);
     }
-    KindRead::Other
+    let end = columns::next_line(bytes, 0).ok_or(Unread::Malformed)?;
+    if end + 1 < bytes.len() {
+        return Err(Unread::Malformed);
+    }
+    read_own_kind(kind, &bytes[..end], hops)
 }
 
 // The order of a line, without its LF.
@@ -372,31 +349,9 @@ pub fn read_order(line: &[u8]) -> OrderLine
     ensures result_value { order_of result ≡ read_order line.now }
     ensures hops_fit { hops_fit result.order }
 {
-    let Field::Number(number) = columns::read_at(line, 1, 2) else {
-        return bare(Order::Malformed);
-    };
-    let KindRead::Is(kind) = kind_of_number(number) else {
-        return bare(Order::OutOfRange);
-    };
-    match kind {
-        Kind::Register => read_registration(line),
-        Kind::Release => read_release(line),
-        Kind::Change => read_change(line),
-    }
-}
-
-// The order of a line that has to be of this kind.
-fn read_own_kind(kind: Kind, line: &[u8]) -> OrderLine
-    ensures result_value { order_of result ≡ line_of_kind (kind_number (kind_of kind)) line.now (field_at 1 2 line.now) }
-    ensures hops_fit { hops_fit result.order }
-{
-    let Field::Number(found) = columns::read_at(line, 1, 2) else {
-        return bare(Order::Malformed);
-    };
-    if found != kind_number(kind) {
-        return bare(Order::OutOfRange);
-    }
-    read_order(line)
+    let mut hops = [0; HOP_NUMBERS];
+    let order = read_line(line, &mut hops);
+    OrderLine { order, hops }
 }
 
 // The order of a direct call: exactly one line with its LF, of the call's own kind; another kind is 11, its rest unread.
@@ -404,14 +359,7 @@ pub fn read_call(kind: Kind, bytes: &[u8]) -> OrderLine
     ensures result_value { order_of result ≡ only_line (kind_number (kind_of kind)) (lines bytes.now) }
     ensures hops_fit { hops_fit result.order }
 {
-    if bytes.len() == 0 {
-        return bare(Order::Malformed);
-    }
-    let NextLine::Ended(end) = columns::next_line(bytes, 0) else {
-        return bare(Order::Malformed);
-    };
-    if end + 1 < bytes.len() {
-        return bare(Order::Malformed);
-    }
-    read_own_kind(kind, &bytes[..end])
+    let mut hops = [0; HOP_NUMBERS];
+    let order = read_only_line(kind, bytes, &mut hops);
+    OrderLine { order, hops }
 }

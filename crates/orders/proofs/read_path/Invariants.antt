@@ -10,7 +10,4 @@ use Rattle.orders.proofs.read_path.Given as goal
 
 abbrev pub invariant-loop-i : goal.invariant-loop-i
 invariant-loop-i l =
-    (length l.hops ≡ hop_numbers) × (l.i ≤ l.n) × (read-so-far l.line l.hops l.n l.i ≡ hop_fields l.n (drop head_columns l.line))
-
-abbrev pub decreases-loop-i : goal.decreases-loop-i
-decreases-loop-i l = l.n - l.i
+    (length l.hops ≡ hop_numbers) × (read-so-far l.line l.hops l.n l.i ≡ hop_fields l.n (drop head_columns l.line))
