@@ -1,6 +1,7 @@
 -- The hops of an order line, located one by one: the entries so far name the hops so far, and what is left of the search.
 -- Assumes nothing.
 use Prim.Native.Nat.{ℕ, ◌+◌, ◌≤◌, ◌<◌}
+use Rattle.std.specs.Prelude.{Ok, Err}
 use mathlib.Core.Path.{◌≡◌, sym, ap, ap₂, subst, ◌∙◌}
 use mathlib.Core.Bool.{true, not}
 use mathlib.Core.List.{List, [], ◌∷◌, ◌++◌, map, map-append}
@@ -15,13 +16,13 @@ use Rattle.model.specs.Orders.{Hop}
 use Rattle.model.proofs.Laws.All.{all_append}
 use Rattle.model.specs.Aggregates as model
 use Rattle.model.specs.Reference.{at_hop, no_queue}
-use Rattle.model.proofs.Laws.Path.{search_from, search-on}
+use Rattle.model.proofs.Laws.Path.{search_from, search-on, search-ended}
 use Rattle.orders.specs.View.{hop_numbers, hops_in, hop_in, line_path}
 use Rattle.orders.proofs.PathLaws.{hops-long, hops-at}
 use Rattle.queue_table.specs.View.{table_of, hop_at, is_queue, AllQueues}
 use Rattle.path_check.specs.View.{PathLocated}
 use Rattle.path_check.proofs.EntryLaws.{no-queue}
-use Rattle.path_check.proofs.SearchLaws.{found_at, ended_at, path-long, path-hop}
+use Rattle.path_check.proofs.SearchLaws.{found_at, path-long, path-hop}
 
 -- What holds before hop i.
 pub record Locating (table hops : List ℕ) (count : ℕ) (entries : List ℕ) (i : ℕ) : Type 0 where
@@ -61,8 +62,7 @@ module _ (table hops : List ℕ) (count : ℕ) (long : length hops ≡ hop_numbe
         }
 
     -- A hop without a queue.
-    pub located-missing : i < count → model.queue_at (table_of table) (hop_in hops i) ≡ none
-        → PathLocated table hops count (record { missing = i; entries = entries })
+    pub located-missing : i < count → model.queue_at (table_of table) (hop_in hops i) ≡ none → PathLocated table hops count (Err i)
     unfolding no_queue is_none
     located-missing h none-there =
         record {
@@ -70,18 +70,16 @@ module _ (table hops : List ℕ) (count : ℕ) (long : length hops ≡ hop_numbe
               at.left
               ∙ found_at 14 (no_queue (table_of table)) (line_path hops count) i (hop_in hops i) (omega (arith, path-long hops count long few))
               (ap (λ (x : Hop). is_none (model.queue_at (table_of table) x)) (path-hop hops count long few i (hop_in hops i) h) ∙ ap is_none (none-there));
-          within = omega arith;
-          named = λ e. absurd (omega arith);
-          queues = λ e. absurd (omega arith);
+          within = h;
+          named = tt;
+          queues = tt;
         }
 
-    pub located-all : i ≡ count → PathLocated table hops count (record { missing = count; entries = entries })
+    pub located-all : i ≡ count → PathLocated table hops count (Ok entries)
     located-all e =
         record {
-          first =
-              at.left
-              ∙ rw e (ended_at 14 (no_queue (table_of table)) (line_path hops count) count (omega (arith, path-long hops count long few)));
-          within = omega arith;
-          named = λ _. rw e at at.named;
-          queues = λ _. rw e at at.queues;
+          first = at.left ∙ search-ended 14 (no_queue (table_of table)) (line_path hops count) i (omega (arith, path-long hops count long few));
+          within = tt;
+          named = rw e at at.named;
+          queues = rw e at at.queues;
         }

@@ -3,6 +3,7 @@
 use Prim.Native.Nat.{ℕ, ◌+◌, ◌*◌, ◌%◌, ◌^◌, ◌≤◌, ◌<◌}
 use mathlib.Core.Path.{◌≡◌, refl, sym, ap, ◌∙◌}
 use mathlib.Core.List.{List, [], map}
+use mathlib.Core.Option.{none}
 use native.Mathlib.Nat.{zero-div}
 use native.Mathlib.Decide.{ℕ_discrete}
 use native.Mathlib.Omega.{arith}
@@ -46,7 +47,7 @@ module _ {entries : List ℕ} {i word : ℕ} (s : Searched entries i word) where
   pub searched-found : i < length entries → bit word link ≡ 1 → at_hop 16 met_earlier [] (map hop_at entries) ≡ hop_cause 16 (map hop_at entries) i
   searched-found h e = s.left ∙ entry_found entries 16 met_earlier i h (met ∙ eq-eqb (bit word link) 1 e)
 
-  pub searched-end : length entries ≤ i → at_hop 16 met_earlier [] (map hop_at entries) ≡ hop_cause 16 (map hop_at entries) i
+  pub searched-end : length entries ≤ i → at_hop 16 met_earlier [] (map hop_at entries) ≡ none
   searched-end h = s.left ∙ none_found entries 16 met_earlier i h
 
   -- Its bit is set from then on.

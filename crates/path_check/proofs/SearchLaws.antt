@@ -2,7 +2,7 @@
 -- By the model's laws of a search. Assumes nothing.
 use Prim.Native.Nat.{ℕ, zero, suc, ◌+◌, ◌-◌, ◌≤◌, ◌<◌}
 use mathlib.Core.Path.{◌≡◌, refl, sym, ap, ◌∙◌}
-use mathlib.Core.Bool.{Bool, true, false, not, ◌||◌}
+use mathlib.Core.Bool.{Bool, true, false, ◌||◌}
 use mathlib.Core.List.{List, [], ◌∷◌, map, reverse}
 use mathlib.Core.Option.{none, some}
 use native.Mathlib.Omega.{arith}
@@ -10,18 +10,17 @@ use lib.ListN.{length, get_or, take, length-map, get_or-map}
 use lib.Seq.{get_or-take, length-take-le}
 use lib.Dec.{eqb}
 use Rattle.model.specs.Sizes.{hops_most}
-use Rattle.model.proofs.Laws.All.{all_get_d}
 use Rattle.model.specs.Orders.{Hop}
-use Rattle.model.specs.Reference.{crosses, starts_elsewhere}
+use Rattle.model.specs.Reference.{at_hop, crosses, starts_elsewhere}
 use Rattle.model.proofs.Laws.Path.{reverse-take, search_from, search-on, search-found, search-ended}
 use Rattle.orders.specs.View.{hop_numbers, hops_in, hop_in, line_path}
 use Rattle.orders.proofs.PathLaws.{hops-long, hops-at}
-use Rattle.queue_table.specs.View.{table_of, from_at, to_at, link_in, level_in, hop_at, is_queue, AllQueues}
+use Rattle.queue_table.specs.View.{table_of, link_in, level_in, hop_at}
 use Rattle.path_check.specs.View.{hop_cause, earlier_than}
-use Rattle.path_check.proofs.EntryLaws.{crosses-entry, starts-elsewhere}
+use Rattle.path_check.proofs.EntryLaws.{crosses-entry}
 
 module _ (code : ℕ) where
-  -- The cause at a hop of the path, and none past its end.
+  -- The cause at a hop of the path.
   pub cause-at : (path : List Hop) (i : ℕ) (d : Hop) → i < length path
       → hop_cause code path i ≡ some (record { code = code; link = (get_or path i d).link; level = (get_or path i d).level })
   unfolding hop_cause
@@ -29,19 +28,10 @@ module _ (code : ℕ) where
   cause-at (x ∷ path) zero d h = refl
   cause-at (x ∷ path) (suc i) d h = cause-at path i d (omega arith)
 
-  pub cause-past : (path : List Hop) (i : ℕ) → length path ≤ i → hop_cause code path i ≡ none
-  unfolding hop_cause
-  cause-past [] i h = refl
-  cause-past (x ∷ path) zero h = absurd (omega arith)
-  cause-past (x ∷ path) (suc i) h = cause-past path i (omega arith)
-
 module _ (code : ℕ) (test : List Hop → Hop → Bool) (path : List Hop) where
   pub found_at : (i : ℕ) (d : Hop) → i < length path → test (reverse (take i path)) (get_or path i d) ≡ true
       → search_from code test path i ≡ hop_cause code path i
   found_at i d h e = search-found code test path i d h e ∙ sym (cause-at code path i d h)
-
-  pub ended_at : (i : ℕ) → length path ≤ i → search_from code test path i ≡ hop_cause code path i
-  ended_at i h = search-ended code test path i h ∙ sym (cause-past code path i h)
 
 -- A path of entries.
 module _ (entries : List ℕ) where
@@ -58,9 +48,6 @@ module _ (entries : List ℕ) where
       cause-at code (map hop_at entries) i (hop_at 0) (omega (arith, map-long))
       ∙ ap (λ (x : Hop). some (record { code = code; link = x.link; level = x.level })) (hop-of i)
 
-  pub entry-none : (code i : ℕ) → length entries ≤ i → hop_cause code (map hop_at entries) i ≡ none
-  entry-none code i h = cause-past code (map hop_at entries) i (omega (arith, map-long))
-
   module _ (code : ℕ) (test : List Hop → Hop → Bool) (i : ℕ) where
     pub entry-passed : i < length entries → test (earlier_than entries i) (hop_at (get_or entries i 0)) ≡ false
         → search_from code test (map hop_at entries) i ≡ search_from code test (map hop_at entries) (i + 1)
@@ -72,8 +59,8 @@ module _ (entries : List ℕ) where
     entry_found h e =
         found_at code test (map hop_at entries) i (hop_at 0) (omega (arith, map-long)) (ap (test (earlier_than entries i)) (hop-of i) ∙ e)
 
-    pub none_found : length entries ≤ i → search_from code test (map hop_at entries) i ≡ hop_cause code (map hop_at entries) i
-    none_found h = ended_at code test (map hop_at entries) i (omega (arith, map-long))
+    pub none_found : length entries ≤ i → search_from code test (map hop_at entries) i ≡ none
+    none_found h = search-ended code test (map hop_at entries) i (omega (arith, map-long))
 
   -- The hops before hop i + 1, the nearest first.
   earlier-next : (i : ℕ) → i < length entries → earlier_than entries (i + 1) ≡ hop_at (get_or entries i 0) ∷ earlier_than entries i
@@ -85,13 +72,21 @@ module _ (entries : List ℕ) where
   crosses-next link i h =
       ap (crosses (link + 1)) (earlier-next i h) ∙ crosses-entry link (get_or entries i 0) (earlier_than entries i)
 
-  pub starts-nearest : (table : List ℕ) (i : ℕ) → AllQueues table entries → 0 < i → i < length entries
+  -- The hop before is all that 15 reads of the earlier ones.
+  pub starts-nearest : (table : List ℕ) (i : ℕ) → 0 < i → i < length entries
       → starts_elsewhere (table_of table) (earlier_than entries i) (hop_at (get_or entries i 0))
-      ≡ not (eqb (from_at table (link_in (get_or entries i 0))) (to_at table (link_in (get_or entries (i - 1) 0))))
-  starts-nearest table i a pos h =
+      ≡ starts_elsewhere (table_of table) (hop_at (get_or entries (i - 1) 0) ∷ []) (hop_at (get_or entries i 0))
+  unfolding starts_elsewhere
+  starts-nearest table i pos h =
       let e : i - 1 + 1 ≡ i = omega arith in
       ap (λ (before : List Hop). starts_elsewhere (table_of table) before (hop_at (get_or entries i 0))) (rw e at (earlier-next (i - 1) (omega arith)))
-      ∙ starts-elsewhere table _ (get_or entries (i - 1) 0) (get_or entries i 0) (all_get_d (λ e. is_queue table e ≡ true) entries (i - 1) 0 a (omega arith)) (all_get_d (λ e. is_queue table e ≡ true) entries i 0 a h)
+
+-- The first hop starts where it may.
+pub starts-first : (table entries : List ℕ)
+    → at_hop 15 (starts_elsewhere (table_of table)) [] (map hop_at entries) ≡ search_from 15 (starts_elsewhere (table_of table)) (map hop_at entries) 1
+unfolding at_hop starts_elsewhere
+starts-first table [] = refl
+starts-first table (e ∷ entries) = refl
 
 -- The path of an order line.
 module _ (hops : List ℕ) (count : ℕ) (long : length hops ≡ hop_numbers) (few : count ≤ hops_most) where
@@ -106,6 +101,3 @@ module _ (hops : List ℕ) (count : ℕ) (long : length hops ≡ hop_numbers) (f
   line-cause code i h =
       cause-at code (line_path hops count) i (hop_in hops i) (omega (arith, path-long))
       ∙ ap (λ (x : Hop). some (record { code = code; link = x.link; level = x.level })) (path-hop i (hop_in hops i) h)
-
-  pub line-none : (code i : ℕ) → count ≤ i → hop_cause code (line_path hops count) i ≡ none
-  line-none code i h = cause-past code (line_path hops count) i (omega (arith, path-long))

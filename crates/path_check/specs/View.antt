@@ -1,14 +1,13 @@
 -- What the answers of this crate say in the terms of the model.
-use Rattle.std.specs.Prelude.{ℕ, zero, suc, ◌+◌, ◌≤◌, ◌≡◌, true, List, [], ◌∷◌, map, reverse, take}
+use Rattle.std.specs.Prelude as code
+use Rattle.std.specs.Prelude.{ℕ, zero, suc, ◌+◌, ◌<◌, ◌≡◌, true, List, [], ◌∷◌, map, reverse, take, Some, None, Result, Ok, Err, IfOk, IfErr}
+use Rattle.std.specs.Result.{result_err}
 use Rattle.std.proofs.Math.Option.{Option, none, some}
 use Rattle.model.specs.Orders.{Hop}
 use Rattle.model.specs.Aggregates.{queue_at}
 use Rattle.model.specs.Reference.{Cause, at_hop, no_queue}
 use Rattle.orders.specs.View.{line_path}
 use Rattle.queue_table.specs.View.{threshold_at, fixed_delay_at, link_in, table_of, hop_at, is_queue, AllQueues}
-use Rattle.path_check.specs.declared.Located.{Located}
-use Rattle.path_check.specs.declared.Entry.{Entry}
-use Rattle.path_check.specs.declared.Entry.TheVariants.{At, Missing}
 
 -- An entry's part of the sum held against the deadline: the threshold of its queue and the fixed delay of its link.
 abbrev pub delay_at : (table : List ℕ) (entry : ℕ) → ℕ
@@ -20,19 +19,23 @@ hop_cause code [] i = none
 hop_cause code (h ∷ path) zero = some (record { code = code; link = h.link; level = h.level })
 hop_cause code (h ∷ path) (suc i) = hop_cause code path i
 
+-- The cause with this code at the hop that a search found, and none where it found none.
+abbrev pub found_cause : ℕ → List Hop → code.Option ℕ → Option Cause
+found_cause number path (Some i) = hop_cause number path i
+found_cause number path None = none
+
 -- The entry names the hop's queue, and there is none only where the table has no such queue.
-abbrev pub EntryOf : (table : List ℕ) → Hop → Entry → Type 0
-EntryOf table h (At e) = (hop_at e ≡ h) × (is_queue table e ≡ true)
-EntryOf table h Missing = queue_at (table_of table) h ≡ none
+abbrev pub EntryOf : (table : List ℕ) → Hop → code.Option ℕ → Type 0
+EntryOf table h (Some e) = (hop_at e ≡ h) × (is_queue table e ≡ true)
+EntryOf table h None = queue_at (table_of table) h ≡ none
 
 -- The hops before hop i, the nearest first.
 abbrev pub earlier_than : (entries : List ℕ) (i : ℕ) → List Hop
 earlier_than entries i = reverse (take i (map hop_at entries))
 
--- `missing` is the first hop without a queue, and the hop count where each has one; then the entries name the path. Free: the entries behind it, and
--- all of them where a queue is missing.
-pub record PathLocated (table hops : List ℕ) (count : ℕ) (r : Located) : Type 0 where
-  pub first : at_hop 14 (no_queue (table_of table)) [] (line_path hops count) ≡ hop_cause 14 (line_path hops count) r.missing
-  pub within : r.missing ≤ count
-  pub named : r.missing ≡ count → map hop_at (take count r.entries) ≡ line_path hops count
-  pub queues : r.missing ≡ count → AllQueues table (take count r.entries)
+-- `Ok` where each hop has a queue, with the entries that name the path, and those behind it free; else the index of the first hop without one.
+pub record PathLocated (table hops : List ℕ) (count : ℕ) (r : Result (List ℕ) ℕ) : Type 0 where
+  pub first : at_hop 14 (no_queue (table_of table)) [] (line_path hops count) ≡ found_cause 14 (line_path hops count) (result_err r)
+  pub within : IfErr r (λ i. i < count)
+  pub named : IfOk r (λ entries. map hop_at (take count entries) ≡ line_path hops count)
+  pub queues : IfOk r (λ entries. AllQueues table (take count entries))

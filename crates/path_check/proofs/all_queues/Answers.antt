@@ -1,47 +1,27 @@
--- `path_check::all_queues` meets its contract. The invariant: the search from entry i on answers what the whole search does.
-use mathlib.Core.Path.{refl, sym, ap, ◌∙◌}
-use mathlib.Core.Bool.{not}
-use mathlib.Core.List.{map}
-use native.Mathlib.Omega.{arith}
-use Rattle.model.specs.Words.{is_none}
-use Rattle.model.specs.Reference.{no_queue}
-use Rattle.model.proofs.Laws.Path.{search-ended}
-use Rattle.queue_table.specs.View.{table_of, hop_at}
-use Rattle.path_check.proofs.EntryLaws.{no-queue}
-use Rattle.path_check.proofs.SearchLaws.{map-long, entry_found, entry-passed, entry-cause}
+-- `path_check::all_queues` meets its contract: nothing is against 14 where each entry is a queue.
+use mathlib.Core.Path.{◌≡◌, refl, sym, ap, ◌∙◌}
+use mathlib.Core.Bool.{Bool, ◌&&◌}
+use mathlib.Core.List.{List, [], ◌∷◌}
+use Prim.Native.Nat.{ℕ}
+use borrow.Author.Tests.{tests}
+use Rattle.std.proofs.Common.{rules}
+use Rattle.std.specs.List.{list_all}
+use Rattle.std.proofs.lemmas.Iterator.{YieldsList-from_slice}
+use Rattle.std.proofs.lemmas.Iterator.Search.{all_from_yields_List}
+use Rattle.model.specs.Words.{every}
+use Rattle.queue_table.specs.View.{is_queue}
+use Rattle.path_check.proofs.EntryLaws.{every-queue}
 use Rattle.path_check.proofs.all_queues.Goals as goal
 
-pub loop-i-init : goal.loop-i-init
-loop-i-init c = (omega arith, refl)
-
-pub overflow_cast-entries : goal.overflow_cast-entries
-overflow_cast-entries c = omega (arith, c.shared_slice_known-in-loop-i-1.given c.loop-i.i)
-
-pub returns-then-not-is_queue : goal.returns-then-not-is_queue
-unfolding is_none
-returns-then-not-is_queue c =
-    let args = c.args in
-    let l = c.loop-i in
-    sym
-    (ap is_none
-    (l.invariant.1
-    ∙ entry_found args.entries.now 14 (no_queue (table_of args.table.now)) l.i (omega arith)
-    (no-queue args.table.now _ _ ∙ ap not (sym c.is_queue.ensures) ∙ c.if-not-is_queue.true-raw)
-    ∙ entry-cause args.entries.now 14 l.i (omega arith)))
-
-pub loop-i-preserved : goal.loop-i-preserved
-loop-i-preserved c =
-    let args = c.args in
-    let l = c.loop-i in (
-      omega arith,
-      l.invariant.1
-          ∙ entry-passed args.entries.now 14 (no_queue (table_of args.table.now)) l.i (omega arith)
-          (no-queue args.table.now _ _ ∙ ap not (sym c.is_queue.ensures) ∙ c.if-not-is_queue.false-raw),
-    )
+every-listed : (test : ℕ → Bool) (entries : List ℕ) → list_all test entries ≡ every test entries
+unfolding every
+every-listed test [] = refl
+every-listed test (e ∷ entries) = ap (λ (b : Bool). test e && b) (every-listed test entries)
 
 pub returns : goal.returns
-unfolding is_none
 returns c =
-    let args = c.args in
-    let l = c.loop-i in
-    sym (ap is_none (l.invariant.1 ∙ search-ended 14 (no_queue (table_of args.table.now)) (map hop_at args.entries.now) l.i (omega (arith, map-long args.entries.now))))
+    let table = c.args.table.now in
+    let entries = c.args.entries.now in
+    all_from_yields_List (is_queue table) _ _ c.all.result c.all.ensures.ran (YieldsList-from_slice entries cc) (λ x b q k. search (rules, tests))
+    ∙ every-listed (is_queue table) entries
+    ∙ sym (every-queue table [] entries)

@@ -1,37 +1,32 @@
 -- `path_check::broken` meets its contract. The invariant: the search from hop i on answers what the whole search does.
-use mathlib.Core.Path.{refl, sym, ◌∙◌}
+use mathlib.Core.Path.{sym, ◌∙◌}
 use native.Mathlib.Omega.{arith}
 use Rattle.model.specs.Reference.{starts_elsewhere}
 use Rattle.queue_table.specs.View.{table_of}
-use Rattle.path_check.proofs.SearchLaws.{entry_found, entry-passed, none_found}
+use Rattle.path_check.proofs.SearchLaws.{starts-first, starts-nearest, entry_found, entry-passed, none_found}
 use Rattle.path_check.proofs.broken.Goals as goal
 
 pub loop-i-init : goal.loop-i-init
-loop-i-init c = (omega arith, refl)
+loop-i-init c = starts-first c.args.table.now c.args.entries.now
 
-pub starts_elsewhere-requires : goal.starts_elsewhere-requires
-starts_elsewhere-requires c =
-    (c.requires.0, c.requires.1, omega arith)
-
-pub returns-then-starts_elsewhere : goal.returns-then-starts_elsewhere
-returns-then-starts_elsewhere c =
-    let args = c.args in
-    let l = c.loop-i in record {
-      entries_value = l.invariant.1 ∙ entry_found args.entries.now 15 (starts_elsewhere (table_of args.table.now)) l.i (omega arith)
-          (sym c.starts_elsewhere.ensures ∙ c.if-starts_elsewhere.true);
-      within = omega arith;
-    }
+pub returns-then-starts_elsewhere-clause-entries_value : goal.returns-then-starts_elsewhere-clause-entries_value
+returns-then-starts_elsewhere-clause-entries_value c =
+    let table = c.args.table.now in
+    let entries = c.args.entries.now in
+    let i = c.loop-i.i in
+    c.loop-i.invariant
+    ∙ entry_found entries 15 (starts_elsewhere (table_of table)) i (omega arith)
+    (starts-nearest entries table i (omega arith) (omega arith) ∙ sym c.starts_elsewhere.ensures ∙ c.if-starts_elsewhere.true)
 
 pub loop-i-preserved : goal.loop-i-preserved
 loop-i-preserved c =
-    let args = c.args in
-    let l = c.loop-i in (
-      omega arith,
-      l.invariant.1 ∙ entry-passed args.entries.now 15 (starts_elsewhere (table_of args.table.now)) l.i (omega arith)
-          (sym c.starts_elsewhere.ensures ∙ c.if-starts_elsewhere.false),
-    )
+    let table = c.args.table.now in
+    let entries = c.args.entries.now in
+    let i = c.loop-i.i in
+    c.loop-i.invariant
+    ∙ entry-passed entries 15 (starts_elsewhere (table_of table)) i (omega arith)
+    (starts-nearest entries table i (omega arith) (omega arith) ∙ sym c.starts_elsewhere.ensures ∙ c.if-starts_elsewhere.false)
 
-pub returns : goal.returns
-returns c =
-    let args = c.args in
-    let l = c.loop-i in record { entries_value = l.invariant.1 ∙ none_found args.entries.now 15 (starts_elsewhere (table_of args.table.now)) l.i (omega arith); within = omega arith }
+pub returns-clause-entries_value : goal.returns-clause-entries_value
+returns-clause-entries_value c =
+    c.loop-i.invariant ∙ none_found c.args.entries.now 15 (starts_elsewhere (table_of c.args.table.now)) c.loop-i.i (omega arith)

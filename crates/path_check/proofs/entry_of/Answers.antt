@@ -25,12 +25,6 @@ returns-then-found-level c =
     let args = c.args in
     no-level args.table.now args.link args.level (omega arith) (omega (arith, c.link_count.ensures.0)) (omega arith) (omega (arith, c.link_at-found.ensures.speed_value.1))
 
-pub entry_at-requires : goal.entry_at-requires
-entry_at-requires c = (
-  omega (arith, c.requires.few, c.link_count.ensures.0),
-  omega (arith, c.link_at-found.ensures.speed_value.1, c.requires.shallow (c.args.link - 1) (omega (arith, c.link_count.ensures.0))),
-)
-
 pub returns : goal.returns
 returns c =
     let args = c.args in

@@ -1,11 +1,7 @@
 -- `path_check::locate` meets its contract. The invariant: the entries so far name the hops so far,
 -- and the search from hop i on answers what the whole search does. Assumes nothing.
-use Prim.Native.Nat.{◌-◌}
 use Rattle.path_check.proofs.LocateLaws.{Locating}
 use Rattle.path_check.proofs.locate.Given as goal
 
 abbrev pub invariant-loop-i : goal.invariant-loop-i
 invariant-loop-i l = Locating l.table l.hops l.count l.entries l.i
-
-abbrev pub decreases-loop-i : goal.decreases-loop-i
-decreases-loop-i l = l.count - l.i
