@@ -2,34 +2,34 @@
 // level by level. Why nothing overflows is said in `units`.
 #![tactic(auto)]
 
-ghost use Rattle.std.specs.Prelude.{◌≡◌, [], ◌+◌, ◌*◌, ◌^◌, ◌≤◌, ◌<◌};
+ghost use Rattle.std.specs.Prelude.{◌≡◌, [], ◌+◌, ◌*◌, ◌^◌, ◌≤◌, ◌<◌, Err};
+ghost use Rattle.std.proofs.Math.Option.{some};
 ghost use Rattle.model.specs.Words.{All};
 ghost use Rattle.model.specs.Total.{total, largest};
 ghost use Rattle.model.specs.LinkCheck.{levels_finding, link_finding};
 ghost use Rattle.model.specs.Reference.{link_cause};
 ghost use Rattle.model.specs.Laws.LinkSteps.{level_finding, blockings};
 ghost use Rattle.units.specs.View.{aggregate_of};
-ghost use Rattle.causes.specs.View.{finding_of};
+ghost use Rattle.causes.specs.View.{cause_of, finding_of};
 ghost use Rattle.link_check.specs.View.{aggregates_of, queue_of, queues_of, Narrow, bytes_of, level_finding_of};
 
-use causes::{Cause, Finding};
+use causes::Cause;
 use queue_table::{LEVELS, Queue};
 use units::{
     Aggregate, Bytes, Rate, larger, residual_rate, within_backlog, within_delay, within_rate,
 };
 
-// What the check of levels finds first, with the level, counted from 1.
-#[derive(Clone, Copy)]
-enum LevelFinding {
-    Fits,
-    OverDelay(u32),
-    OverBacklog(u32),
+// The bound that a level exceeds, with the level, counted from 1.
+#[derive(Clone, Copy, Debug, PartialEq, Eq)]
+enum OverBound {
+    Delay(u32),
+    Backlog(u32),
 }
 
 // What the check found, and the link's levels as they were: they are taken and given back by value (document 01).
 #[derive(Clone, Copy)]
 pub struct Checked {
-    pub finding: Finding,
+    pub finding: Result<(), Cause>,
     pub levels: [Aggregate; LEVELS],
 }
 
@@ -38,13 +38,9 @@ fn rate_sum(levels: [Aggregate; LEVELS]) -> Rate
     requires { total (λ a. a.rate) (aggregates_of levels) < 2 ^ 40 }
     ensures { result.0 ≡ total (λ a. a.rate) (aggregates_of levels) }
 {
-    let mut sum: u64 = 0;
-    let mut i = 0;
-    while i < LEVELS {
-        let own = levels[i];
-        let rate = own.rate;
-        sum += rate.0;
-        i += 1;
+    let mut sum = 0;
+    for own in &levels {
+        sum += own.rate.0;
     }
     Rate(sum)
 }
@@ -55,13 +51,9 @@ fn blockings(besteffort: Bytes, levels: [Aggregate; LEVELS]) -> [Bytes; LEVELS]
 {
     let mut blocked = [Bytes(0); LEVELS];
     let mut largest = besteffort;
-    let mut i = LEVELS;
-    while 0 < i {
-        i -= 1;
+    for i in (0..LEVELS).rev() {
         blocked[i] = largest;
-        let own = levels[i];
-        let frame = own.frame;
-        largest = larger(frame, largest);
+        largest = larger(levels[i].frame, largest);
     }
     blocked
 }
@@ -74,27 +66,25 @@ fn check_level(
     above: Aggregate,
     own: Aggregate,
     blocked: Bytes,
-) -> LevelFinding
+) -> Result<(), OverBound>
     requires speed_bound { speed ≤ 10000 }
     requires rate_bound { above.rate.0 + own.rate.0 < 1000 * speed }
     requires burst_bound { above.burst.0 + blocked.0 + own.frame.0 + own.burst.0 ≤ 2 ^ 40 }
     requires narrow { Narrow queue }
     ensures { level_finding_of result ≡ level_finding speed level (queue_of queue) (aggregate_of above) (aggregate_of own) blocked.0 }
 {
-    let frame = own.frame;
-    if frame.0 == 0 {
-        return LevelFinding::Fits;
+    if own.frame.0 == 0 {
+        return Ok(());
     }
     let res = residual_rate(speed, above.rate);
-    let burst = above.burst;
-    let y = Bytes(burst.0 + blocked.0 + frame.0);
+    let y = Bytes(above.burst.0 + blocked.0 + own.frame.0);
     if !within_delay(y, own.burst, res, queue.threshold) {
-        return LevelFinding::OverDelay(level);
+        return Err(OverBound::Delay(level));
     }
     if !within_backlog(own.rate, own.burst, y, res, queue.buffer) {
-        return LevelFinding::OverBacklog(level);
+        return Err(OverBound::Backlog(level));
     }
-    LevelFinding::Fits
+    Ok(())
 }
 
 // All levels, from 1 on.
@@ -103,7 +93,7 @@ fn check_levels(
     besteffort: Bytes,
     queues: [Queue; LEVELS],
     levels: [Aggregate; LEVELS],
-) -> LevelFinding
+) -> Result<(), OverBound>
     requires speed_bound { speed ≤ 10000 }
     requires levels_bound { total (λ a. a.rate) (aggregates_of levels) < 1000 * speed }
     requires besteffort_bound { total (λ a. a.burst) (aggregates_of levels) + 2 * largest (λ a. a.frame) (aggregates_of levels) + besteffort.0 ≤ 2 ^ 40 }
@@ -116,27 +106,22 @@ fn check_levels(
         burst: Bytes(0),
         frame: Bytes(0),
     };
-    let mut i: usize = 0;
-    while i < LEVELS {
+    for i in 0..LEVELS {
         let own = levels[i];
-        let found = check_level(speed, i as u32 + 1, queues[i], above, own, blocked[i]);
-        let LevelFinding::Fits = found else {
-            return found;
-        };
+        check_level(speed, i as u32 + 1, queues[i], above, own, blocked[i])?;
         above = above.with_flow(own);
-        i += 1;
     }
-    LevelFinding::Fits
+    Ok(())
 }
 
-// What is found at the levels of a link, as a cause that names it.
-fn on_link(link: u32, found: LevelFinding) -> Finding
-    ensures { finding_of result ≡ link_cause link (level_finding_of found) }
+// A bound that a level of a link exceeds, as a cause that names the link.
+#[tactic(auto, unfolding(model::specs::Reference::link_cause))]
+fn on_link(link: u32, over: OverBound) -> Cause
+    ensures { some (cause_of result) ≡ link_cause link (level_finding_of (Err over)) }
 {
-    match found {
-        LevelFinding::Fits => Finding::Nothing,
-        LevelFinding::OverDelay(level) => Finding::Against(Cause::OverDelay(link, level)),
-        LevelFinding::OverBacklog(level) => Finding::Against(Cause::OverBacklog(link, level)),
+    match over {
+        OverBound::Delay(level) => Cause::OverDelay(link, level),
+        OverBound::Backlog(level) => Cause::OverBacklog(link, level),
     }
 }
 
@@ -155,14 +140,10 @@ pub fn check_link(
     ensures levels_value { result.levels ≡ levels }
     ensures finding_value { finding_of result.finding ≡ link_cause link (link_finding speed besteffort.0 (queues_of queues) (aggregates_of levels)) }
 {
-    if within_rate(speed, rate_sum(levels)) {
-        return Checked {
-            finding: on_link(link, check_levels(speed, besteffort, queues, levels)),
-            levels,
-        };
-    }
-    Checked {
-        finding: Finding::Against(Cause::OverRate(link)),
-        levels,
-    }
+    let finding = if within_rate(speed, rate_sum(levels)) {
+        check_levels(speed, besteffort, queues, levels).map_err(|over| on_link(link, over))
+    } else {
+        Err(Cause::OverRate(link))
+    };
+    Checked { finding, levels }
 }

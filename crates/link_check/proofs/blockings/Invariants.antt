@@ -1,5 +1,4 @@
 -- `link_check::blockings` meets its contract. The invariant: the entries from `i` on are right, and `largest` is what blocks above level `i`.
-use Prim.Native.Nat.{◌≤◌}
 use mathlib.Core.Path.{◌≡◌}
 use lib.ListN.{length, drop}
 use Rattle.model.specs.Sizes.{levels_most}
@@ -10,10 +9,6 @@ use Rattle.link_check.proofs.blockings.Given as goal
 
 abbrev pub invariant-loop-i : goal.invariant-loop-i
 invariant-loop-i l =
-    (l.i ≤ levels_most)
-    × (length l.blocked ≡ levels_most)
-    × (l.largest.0 ≡ blocking l.initial.largest.0 (drop l.i (aggregates_of l.levels)))
-    × (bytes_of (drop l.i l.blocked) ≡ blockings l.initial.largest.0 (drop l.i (aggregates_of l.levels)))
-
-abbrev pub decreases-loop-i : goal.decreases-loop-i
-decreases-loop-i l = l.i
+    (length l.blocked ≡ levels_most)
+    × (l.largest.0 ≡ blocking l.initial.largest.0 (drop l.i (aggregates_of l.fn.levels)))
+    × (bytes_of (drop l.i l.blocked) ≡ blockings l.initial.largest.0 (drop l.i (aggregates_of l.fn.levels)))
