@@ -42,13 +42,13 @@ module _ {A : Type 0} (test : A → Bool) (f : ℕ → A) where
           simp (rw same at e, and-false)
 
 module _ (table : List ℕ) where
-  pub link-at : (i : ℕ)
+  pub link_at_numbers : (i : ℕ)
       → link_consistent (link_at table i)
       ≡ (every (λ q. row_in_range (row_of (link_at table i) q)) (up_to (levels_at table i) (queue_at table i))
       && between 1 levels_most (levels_at table i)
       && not (eqb (from_at table i) (to_at table i)))
   unfolding link_consistent link_at
-  link-at i = rw (length_up (levels_at table i) (queue_at table i))
+  link_at_numbers i = rw (length_up (levels_at table i) (queue_at table i))
 
   pub table_at : table_consistent (table_of table) ≡ (every link_consistent (up_to (link_count table) (link_at table)) && leb (link_count table) links_most)
   unfolding table_consistent table_of

@@ -5,6 +5,10 @@ use mathlib.Core.Path.{◌≡◌, refl, sym, ap, ap₂, ◌∙◌}
 use mathlib.Core.Bool.{Bool, true, false, not, ◌&&◌, ◌||◌, true≢false}
 use mathlib.Core.List.{List, [], ◌∷◌, ◌++◌}
 use mathlib.Core.Option.{none, some}
+use Rattle.std.specs.Prelude.{Result, Some, None, Ok, Err}
+use Rattle.std.specs.Prelude as code
+use Rattle.std.specs.Option.{ok_or}
+use Rattle.columns.specs.View.{FirstLine}
 use native.Mathlib.Omega.{arith}
 use native.Mathlib.Decide.{dec_lt}
 use borrow.Author.Tests.{eqb-true}
@@ -16,10 +20,9 @@ use Rattle.model.proofs.Laws.Test.{and_both, or_left, or_right}
 use Rattle.model.proofs.Laws.Table.{RowRules, row-rules, row-turn}
 use Rattle.queue_table.specs.declared.Fault.{Fault}
 use Rattle.queue_table.specs.declared.Fault.TheVariants.{Malformed, OutOfRange, OutOfTurn, Disagrees, TooLong}
-use Rattle.queue_table.specs.declared.Judgement.{Judgement}
-use Rattle.queue_table.specs.declared.Judgement.TheVariants.{Fine, Faulty}
-use Rattle.queue_table.specs.View.{up_to, queue_at, from_at, to_at, speed_at, levels_at, fixed_delay_at, best_effort_at, link_at, links_of, fault_code, code_of, step_when, left_when, row_stored, Linked, Placed}
-use Rattle.queue_table.proofs.ViewLaws.{begins-at, continues-none, continues-at, same_at, links-newest}
+use Rattle.queue_table.specs.declared.row.Row.{Row}
+use Rattle.queue_table.specs.View.{numbers_of, up_to, queue_at, from_at, to_at, speed_at, levels_at, fixed_delay_at, best_effort_at, link_at, links_of, fault_code, code_of, step_of, row_stored, Linked, Placed, LineAdded, LineTaken}
+use Rattle.queue_table.proofs.ViewLaws.{begins_at, continues_none, continues_at, same_at, links-newest}
 use Rattle.queue_table.proofs.StoreLaws.{link_with, older-links, older-levels, stored, stored-levels, link-stored, stored-long}
 
 -- How a row may stand in turn after n links.
@@ -46,7 +49,7 @@ module _ (n : ℕ) (table : List ℕ) (r : model.Row) (free : model.row_cause (l
 
   begun : model.begins (links_of n table) r ≡ true → Begun n r
   begun e =
-      let two = and_both (eqb r.link (n + 1)) (eqb r.level 1) (sym (begins-at table n r) ∙ e) in
+      let two = and_both (eqb r.link (n + 1)) (eqb r.level 1) (sym (begins_at table n r) ∙ e) in
       record { link = eqb-true r.link (n + 1) two.0; level = eqb-true r.level 1 two.1 }
 
   continues : model.begins (links_of n table) r ≡ false → model.continues (links_of n table) r ≡ true
@@ -60,10 +63,10 @@ module _ (n : ℕ) (table : List ℕ) (r : model.Row) (free : model.row_cause (l
   continued e = go n refl
     where
       go : (m : ℕ) → n ≡ m → Continued n table r
-      go zero at = absurd (true≢false (sym (continues e) ∙ continues-none table n r at))
+      go zero at = absurd (true≢false (sym (continues e) ∙ continues_none table n r at))
       go (suc m) at =
           let more : 0 < n = omega arith in
-          let turn = and_both (eqb r.link n) (eqb r.level (levels_at table (n - 1) + 1)) (sym (continues-at table n r more) ∙ continues e) in
+          let turn = and_both (eqb r.link n) (eqb r.level (levels_at table (n - 1) + 1)) (sym (continues_at table n r more) ∙ continues e) in
           let four = and_both (eqb r.from (from_at table (n - 1)) && eqb r.to (to_at table (n - 1)) && eqb r.speed (speed_at table (n - 1)) && eqb r.fixed_delay (fixed_delay_at table (n - 1))) _ (sym (same_at table n r more) ∙ same e) in
           let three = and_both (eqb r.from (from_at table (n - 1)) && eqb r.to (to_at table (n - 1)) && eqb r.speed (speed_at table (n - 1))) _ four.0 in
           let ends = and_both (eqb r.from (from_at table (n - 1)) && eqb r.to (to_at table (n - 1))) (eqb r.speed (speed_at table (n - 1))) three.0 in
@@ -169,8 +172,8 @@ module _ (n : ℕ) (table : List ℕ) (r : model.Row) (linked : Linked n table) 
       let e : i ≡ r.link - 1 = omega arith in
       rw e (omega (arith, own-levels, placed.level-high))
 
-  pub stored-linked : Linked r.link (row_stored r table)
-  stored-linked =
+  pub stored_linked : Linked r.link (row_stored r table)
+  stored_linked =
       record { long = stored-long r table placed; few = placed.link-high; shallow = λ i h. shallow i h (dec_lt i (r.link - 1)) }
 
 -- A fault has a code.
@@ -181,29 +184,63 @@ fault-coded OutOfTurn = refl
 fault-coded Disagrees = refl
 fault-coded TooLong = refl
 
--- The ways of a line: malformed, or judged.
+-- The ways of a line: malformed, refused, or added.
 module _ (ls : List model.Link) (line : List ℕ) where
-  pub step-malformed : model.row line ≡ none → model.line_step ls (ended line) ≡ step_when (Faulty Malformed) ls
+  pub step_malformed : model.row line ≡ none → model.line_step ls (ended line) ≡ model.fault 1
   unfolding model.line_step model.row_step
-  step-malformed e = simp e
+  step_malformed e = simp e
 
-  pub step-judged : (r : model.Row) (j : Judgement) → model.row line ≡ some r → code_of j ≡ model.row_cause ls r
-      → model.line_step ls (ended line) ≡ step_when j (model.add_row ls r)
+  pub step_refused : (r : model.Row) (fault : Fault) → model.row line ≡ some r → fault_code fault ≡ model.row_cause ls r
+      → model.line_step ls (ended line) ≡ model.fault (fault_code fault)
   unfolding model.line_step model.row_step
-  step-judged r Fine e cause = simp (e, sym cause)
-  step-judged r (Faulty fault) e cause = simp (e, sym cause, fault-coded fault)
+  step_refused r fault e cause = simp (e, sym cause, fault-coded fault)
+
+  pub step_added : (r : model.Row) → model.row line ≡ some r → model.row_cause ls r ≡ 0
+      → model.line_step ls (ended line) ≡ model.links (model.add_row ls r)
+  unfolding model.line_step model.row_step
+  step_added r e free = simp (e, free)
+
+-- A line is refused, and the array stays as it was, or its row is stored.
+module _ (n : ℕ) (table line : List ℕ) (linked : Linked n table) where
+  pub line_refused : (r : model.Row) (fault : Fault) → model.row line ≡ some r → fault_code fault ≡ model.row_cause (links_of n table) r
+      → LineAdded n table table line (Err fault)
+  line_refused r fault e cause = record { same = sym (step_refused (links_of n table) line r fault e cause); kept = linked }
+
+  pub line_added : (r : Row) (table' : List ℕ) (links : ℕ) → table' ≡ row_stored (numbers_of r) table → links ≡ r.link
+      → model.row line ≡ some (numbers_of r) → 0 ≡ model.row_cause (links_of n table) (numbers_of r) → LineAdded n table table' line (Ok links)
+  line_added r table' links after last e free =
+      record {
+        same = rw (after, last) (ap model.links (stored_row n table (numbers_of r) linked (sym free)) ∙ sym (step_added (links_of n table) line (numbers_of r) e (sym free)));
+        kept = rw (after, last) (stored_linked n table (numbers_of r) linked (sym free));
+      }
 
 -- A line's step, and then the lines after it.
-pub read_next : (m : ℕ) (ls : List model.Link) (l : Line) (rest : List Line) (j : Judgement) (next : List model.Link)
-    → model.line_step ls l ≡ step_when j next → model.read_lines m ls (l ∷ rest) ≡ left_when m j next rest
-unfolding model.read_lines
-read_next m ls l rest j next e =
-    ap (λ (s : model.Step). model.after_step s (λ ls'. model.read_lines (suc m) ls' rest) (λ c. model.refused c m)) e ∙ after j
-  where
-    after : (j : Judgement) → model.after_step (step_when j next) (λ ls'. model.read_lines (suc m) ls' rest) (λ c. model.refused c m) ≡ left_when m j next rest
-    after Fine = refl
-    after (Faulty fault) = refl
+module _ (m : ℕ) (ls : List model.Link) (l : Line) (rest : List Line) where
+  pub read_fault : (code : ℕ) → model.line_step ls l ≡ model.fault code → model.read_lines m ls (l ∷ rest) ≡ model.refused code m
+  unfolding model.read_lines
+  read_fault code e = simp e
 
-pub step-unended : (ls : List model.Link) → model.line_step ls unended ≡ step_when (Faulty Malformed) ls
+  pub read_links : (next : List model.Link) → model.line_step ls l ≡ model.links next → model.read_lines m ls (l ∷ rest) ≡ model.read_lines (suc m) next rest
+  unfolding model.read_lines
+  read_links next e = simp e
+
+step_unended : (ls : List model.Link) → model.line_step ls unended ≡ model.fault 1
 unfolding model.line_step
-step-unended ls = refl
+step_unended ls = refl
+
+-- The line at a position ends nowhere, is refused, or is added.
+module _ (n : ℕ) (table text : List ℕ) (at : ℕ) (linked : Linked n table) where
+  pub line_missing : (found : code.Option ℕ) (fault : Fault) → FirstLine text at found → ◌≡◌ {A = Result ℕ Fault} (Err fault) (ok_or found Malformed)
+      → LineTaken text at n table table (Err fault)
+  line_missing None fault found e =
+      rw (fault_is e)
+      (record {
+        same = λ m. ap (model.read_lines m (links_of n table)) found.same ∙ read_fault m (links_of n table) unended [] 1 (step_unended (links_of n table));
+        kept = linked;
+        on = tt;
+        within = tt;
+      })
+    where
+      fault_is : {f g : Fault} → ◌≡◌ {A = Result ℕ Fault} (Err f) (Err g) → f ≡ g
+      fault_is e = cc
+  line_missing (Some end) fault found e = absurd (cc)

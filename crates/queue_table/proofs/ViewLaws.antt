@@ -71,17 +71,17 @@ module _ (table : List ℕ) where
   levels-length i = length_up (levels_at table i) (queue_at table i)
 
 module _ (table : List ℕ) (n : ℕ) (r : model.Row) where
-  pub begins-at : model.begins (links_of n table) r ≡ (eqb r.link (n + 1) && eqb r.level 1)
+  pub begins_at : model.begins (links_of n table) r ≡ (eqb r.link (n + 1) && eqb r.level 1)
   unfolding model.begins
-  begins-at = rw (links-length table n, add-one n)
+  begins_at = rw (links-length table n, add-one n)
 
-  pub continues-none : n ≡ 0 → model.continues (links_of n table) r ≡ false
+  pub continues_none : n ≡ 0 → model.continues (links_of n table) r ≡ false
   unfolding model.continues
-  continues-none e = rw (links-none table n e)
+  continues_none e = rw (links-none table n e)
 
-  pub continues-at : 0 < n → model.continues (links_of n table) r ≡ (eqb r.link n && eqb r.level (levels_at table (n - 1) + 1))
+  pub continues_at : 0 < n → model.continues (links_of n table) r ≡ (eqb r.link n && eqb r.level (levels_at table (n - 1) + 1))
   unfolding model.continues
-  continues-at pos =
+  continues_at pos =
       let e : suc (n - 1) ≡ n = omega arith in
       rw (links-newest table n pos, links-length table (n - 1), levels-length table (n - 1), e, add-one (levels_at table (n - 1)))
 

@@ -1,5 +1,8 @@
 -- What the array and the answers of this crate say in the terms of the model.
 use Rattle.std.specs.Prelude.{ℕ, zero, suc, ◌+◌, ◌-◌, ◌*◌, ◌/◌, ◌%◌, ◌≤◌, ◌<◌, ◌≡◌, Bool, true, ◌&&◌, List, [], ◌∷◌, ◌++◌, length, get_or, drop, ltb}
+use Rattle.std.specs.Prelude.{Result, Some, None, Ok, Err, MatchResult, IfOk}
+use Rattle.std.specs.Result.{result_unwrap_or}
+use Rattle.std.specs.Prelude as code
 use Rattle.std.proofs.Math.Option.{Option, none, some}
 use Rattle.std.proofs.lemmas.List.Edits.{sets}
 use Rattle.model.specs.Words.{All}
@@ -9,17 +12,10 @@ use Rattle.model.specs.QueueTable as model
 use Rattle.model.specs.Orders.{Hop}
 use Rattle.model.specs.Reference as opened
 use Rattle.queue_table.specs.declared.row.Row.{Row}
-use Rattle.queue_table.specs.declared.row.RowRead.{RowRead}
-use Rattle.queue_table.specs.declared.row.RowRead.TheVariants as row_read
 use Rattle.queue_table.specs.declared.Fault.{Fault}
 use Rattle.queue_table.specs.declared.Fault.TheVariants.{Malformed, OutOfRange, OutOfTurn, Disagrees, TooLong}
-use Rattle.queue_table.specs.declared.Judgement.{Judgement}
-use Rattle.queue_table.specs.declared.Judgement.TheVariants.{Fine, Faulty}
-use Rattle.queue_table.specs.declared.Step.{Step}
+use Rattle.queue_table.specs.declared.Refusal.{Refusal}
 use Rattle.queue_table.specs.declared.Advance.{Advance}
-use Rattle.queue_table.specs.declared.Lines.{Lines}
-use Rattle.queue_table.specs.declared.Verdict.{Verdict}
-use Rattle.queue_table.specs.declared.Verdict.TheVariants.{Accepted, Refused}
 
 abbrev pub numbers_of : Row → model.Row
 numbers_of r =
@@ -35,9 +31,9 @@ numbers_of r =
       best_effort = r.besteffort;
     }
 
-abbrev pub row_of : RowRead → Option model.Row
-row_of (row_read.Numbers r) = some (numbers_of r)
-row_of row_read.Malformed = none
+abbrev pub row_of : code.Option Row → Option model.Row
+row_of (Some r) = some (numbers_of r)
+row_of None = none
 
 -- Document 01's code of a fault.
 abbrev pub fault_code : Fault → ℕ
@@ -48,9 +44,9 @@ fault_code Disagrees = 4
 fault_code TooLong = 5
 
 -- The code of a line as the model has it: 0 where nothing is against it.
-abbrev pub code_of : Judgement → ℕ
-code_of Fine = 0
-code_of (Faulty fault) = fault_code fault
+abbrev pub code_of : Result Unit Fault → ℕ
+code_of (Ok _) = 0
+code_of (Err fault) = fault_code fault
 
 module _ {A : Type 0} where
   -- The values at 0 to n - 1, in this order.
@@ -180,46 +176,48 @@ pub record Placed (r : model.Row) (table : List ℕ) : Type 0 where
   pub level-high : r.level ≤ levels_most
 
 -- What a line does to the links: a fault, or the links from then on.
-abbrev pub step_when : Judgement → List model.Link → model.Step
-step_when Fine ls = model.links ls
-step_when (Faulty fault) ls = model.fault (fault_code fault)
-
-abbrev pub step_of : Step → (table : List ℕ) → model.Step
-step_of s table = step_when s.judgement (links_of s.links table)
+abbrev pub step_of : Result ℕ Fault → (table : List ℕ) → model.Step
+step_of (Ok n) table = model.links (links_of n table)
+step_of (Err fault) table = model.fault (fault_code fault)
 
 -- The line was judged and added: `n` links before, and the array before and after.
-pub record LineAdded (n : ℕ) (table table' : List ℕ) (line : List ℕ) (s : Step) : Type 0 where
+pub record LineAdded (n : ℕ) (table table' : List ℕ) (line : List ℕ) (s : Result ℕ Fault) : Type 0 where
   pub same : step_of s table' ≡ model.line_step (links_of n table) (ended line)
-  pub kept : Linked s.links table'
+  pub kept : MatchResult s (λ m. Linked m table') (λ fault. Linked n table')
 
 -- What the lines from `at` on say, numbered from m, once the first of them was taken.
-abbrev pub left_when : (m : ℕ) → Judgement → List model.Link → List Line → model.TableText
-left_when m Fine ls rest = model.read_lines (suc m) ls rest
-left_when m (Faulty fault) ls rest = model.refused (fault_code fault) m
-
-abbrev pub left_of : (m : ℕ) (text table : List ℕ) → Advance → model.TableText
-left_of m text table a = left_when m a.judgement (links_of a.links table) (lines (drop a.next text))
+abbrev pub left_of : (m : ℕ) (text table : List ℕ) → Result Advance Fault → model.TableText
+left_of m text table (Ok a) = model.read_lines (suc m) (links_of a.links table) (lines (drop a.next text))
+left_of m text table (Err fault) = model.refused (fault_code fault) m
 
 -- The line at `at` was taken: `n` links before, and the array before and after.
-pub record LineTaken (text : List ℕ) (at n : ℕ) (table table' : List ℕ) (a : Advance) : Type 0 where
+pub record LineTaken (text : List ℕ) (at n : ℕ) (table table' : List ℕ) (a : Result Advance Fault) : Type 0 where
   pub same : (m : ℕ) → model.read_lines m (links_of n table) (lines (drop at text)) ≡ left_of m text table' a
-  pub kept : Linked a.links table'
-  pub on : code_of a.judgement ≡ 0 → at < a.next
-  pub within : a.next ≤ length text
+  pub kept : MatchResult a (λ done. Linked done.links table') (λ fault. Linked n table')
+  pub on : IfOk a (λ done. at < done.next)
+  pub within : IfOk a (λ done. done.next ≤ length text)
 
 -- The verdict as the model says it, where the text gives this table.
-abbrev pub text_of : Verdict → model.Table → model.TableText
-text_of Accepted t = model.accepted t
-text_of (Refused fault line) t = model.refused (fault_code fault) line
+abbrev pub text_of : Result Unit Refusal → model.Table → model.TableText
+text_of (Ok _) t = model.accepted t
+text_of (Err refusal) t = model.refused (fault_code refusal.fault) refusal.line
+
+-- Whether the lines are refused; how many links count, none where they are.
+abbrev pub verdict_of : Result ℕ Refusal → Result Unit Refusal
+verdict_of (Ok n) = Ok tt
+verdict_of (Err refusal) = Err refusal
+
+abbrev pub links_read : Result ℕ Refusal → ℕ
+links_read r = result_unwrap_or r 0
 
 -- The lines say what the text does; no link counts where it is refused.
-pub record LinesRead (text table : List ℕ) (r : Lines) : Type 0 where
-  pub same : text_of r.verdict (up_to r.links (link_at table)) ≡ model.read_table text
-  pub held : up_to r.links (link_at table) ≡ opened.table_of (model.read_table text)
-  pub kept : Linked r.links table
+pub record LinesRead (text table : List ℕ) (r : Result ℕ Refusal) : Type 0 where
+  pub same : text_of (verdict_of r) (up_to (links_read r) (link_at table)) ≡ model.read_table text
+  pub held : up_to (links_read r) (link_at table) ≡ opened.table_of (model.read_table text)
+  pub kept : Linked (links_read r) table
 
 -- The array holds what the text says; no link where it is refused.
-pub record TableFilled (text : List ℕ) (v : Verdict) (table : List ℕ) : Type 0 where
+pub record TableFilled (text : List ℕ) (v : Result Unit Refusal) (table : List ℕ) : Type 0 where
   pub same : text_of v (table_of table) ≡ model.read_table text
   pub held : table_of table ≡ opened.table_of (model.read_table text)
   pub kept : WellFormed table

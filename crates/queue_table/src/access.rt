@@ -89,6 +89,7 @@ pub fn link_count(table: &[u32]) -> usize
 }
 
 // Link i.
+#[tactic(auto, unfolding(crate::specs::View::from_at, crate::specs::View::to_at, crate::specs::View::speed_at, crate::specs::View::levels_at, crate::specs::View::fixed_delay_at, crate::specs::View::best_effort_at))]
 pub fn link_at(i: usize, table: &[u32]) -> Link
     requires { (i < links_most) × (length table.now ≡ table_numbers) }
     ensures from_value { (result.from ≡ from_at table.now i) × (result.to ≡ to_at table.now i) }
@@ -100,12 +101,13 @@ pub fn link_at(i: usize, table: &[u32]) -> Link
         to: table[at + 1],
         speed: table[at + 2],
         levels: table[at + 3],
-        fixed: Micros(table[at + 4] as u64),
-        besteffort: Bytes(table[at + 5] as u64),
+        fixed: Micros(u64::from(table[at + 4])),
+        besteffort: Bytes(u64::from(table[at + 5])),
     }
 }
 
 // Queue e.
+#[tactic(auto, unfolding(crate::specs::View::threshold_at, crate::specs::View::buffer_at))]
 pub fn queue_at(e: usize, table: &[u32]) -> Queue
     requires { (e < queues_most) × (length table.now ≡ table_numbers) }
     ensures threshold_value { (result.threshold.0 ≡ threshold_at table.now e) × (result.buffer.0 ≡ buffer_at table.now e) }
@@ -113,20 +115,17 @@ pub fn queue_at(e: usize, table: &[u32]) -> Queue
 {
     let at = queue_position(e);
     Queue {
-        threshold: Micros(table[at] as u64),
-        buffer: Bytes(table[at + 1] as u64),
+        threshold: Micros(u64::from(table[at])),
+        buffer: Bytes(u64::from(table[at + 1])),
     }
 }
 
 // Whether an entry of any value names a queue of the table.
+#[tactic(auto, unfolding(crate::specs::View::is_queue))]
 pub fn is_queue(e: usize, table: &[u32]) -> bool
     requires { (length table.now ≡ table_numbers) × (link_count table.now ≤ links_most) }
     ensures { result ≡ is_queue table.now e }
 {
     let i = link_of(e);
-    if link_count(table) <= i {
-        return false;
-    }
-    let link = link_at(i, table);
-    level_of(e) < link.levels as usize
+    i < link_count(table) && level_of(e) < link_at(i, table).levels as usize
 }

@@ -35,33 +35,23 @@ fn levels_in_range(i: usize, levels: usize, table: &[u32]) -> bool
     requires { (i < links_most) × (levels ≤ levels_most) × (length table.now ≡ table_numbers) }
     ensures { result ≡ every (λ q. row_in_range (model.row_of (link_at table.now i) q)) (up_to levels (queue_at table.now i)) }
 {
-    let mut p = 0;
-    while p < levels {
+    for p in 0..levels {
         if !level_in_range(i, p, table) {
             return false;
         }
-        p += 1;
     }
     true
 }
 
 // Whether link i passes 2 to 4. Its number of levels is of any value, so it is judged before they are read.
+#[tactic(auto, using(crate::proofs::ConsistentLaws::link_at_numbers), unfolding(model::specs::Columns::between))]
 fn link_consistent(i: usize, table: &[u32]) -> bool
     requires { (i < links_most) × (length table.now ≡ table_numbers) }
     ensures { result ≡ model.link_consistent (link_at table.now i) }
 {
     let link = link_at(i, table);
     let levels = link.levels as usize;
-    if levels == 0 {
-        return false;
-    }
-    if LEVELS < levels {
-        return false;
-    }
-    if link.from == link.to {
-        return false;
-    }
-    levels_in_range(i, levels, table)
+    levels != 0 && levels <= LEVELS && link.from != link.to && levels_in_range(i, levels, table)
 }
 
 // Whether an array of any content holds a table that passes 2 to 4.
@@ -73,12 +63,10 @@ pub fn consistent(table: &[u32]) -> bool
     if LINKS < n {
         return false;
     }
-    let mut i = 0;
-    while i < n {
+    for i in 0..n {
         if !link_consistent(i, table) {
             return false;
         }
-        i += 1;
     }
     true
 }

@@ -16,9 +16,8 @@ pub use access::{
     Hop, Link, Queue, entry_at, hop_at, is_queue, level_of, link_at, link_count, link_of, queue_at,
 };
 use access::{link_position, queue_position};
-use columns::NextLine;
 pub use consistency::consistent;
-use row::{Row, RowRead, read_row, row_cause};
+use row::{Row, judge_row, read_row};
 
 // How many links a table has at the most, how many levels a link, and so queues.
 pub const LINKS: usize = 64;
@@ -50,7 +49,7 @@ const ROW_COLUMNS: usize = BEST_EFFORT_COLUMNS;
 pub const TABLE_BYTES: usize = QUEUES * (ROW_COLUMNS + 1);
 
 // What a table text can be refused for.
-#[derive(Clone, Copy)]
+#[derive(Clone, Copy, Debug, PartialEq, Eq)]
 pub enum Fault {
     // 1: columns wrong.
     Malformed,
@@ -64,61 +63,40 @@ pub enum Fault {
     TooLong,
 }
 
-// What a line is found to be.
-#[derive(Clone, Copy)]
-enum Judgement {
-    Fine,
-    Faulty(Fault),
+// Document 01's code of a fault.
+impl From<Fault> for u32 {
+    ghost from_gives = { λ fault code. code ≡ fault_code fault };
+
+    fn from(fault: Fault) -> u32 {
+        match fault {
+            Fault::Malformed => 1,
+            Fault::OutOfRange => 2,
+            Fault::OutOfTurn => 3,
+            Fault::Disagrees => 4,
+            Fault::TooLong => 5,
+        }
+    }
 }
 
-// What a line does: what it was found to be, and the number of links from then on.
-#[derive(Clone, Copy)]
-struct Step {
-    judgement: Judgement,
-    links: usize,
+// Why a table text is refused: the first fault, and its line.
+#[derive(Clone, Copy, Debug, PartialEq, Eq)]
+pub struct Refusal {
+    pub fault: Fault,
+    pub line: u32,
 }
 
-// The same of the line at a position of the text, and the position after it.
+// After a line: the number of links, and the position of the next line.
 #[derive(Clone, Copy)]
 struct Advance {
-    judgement: Judgement,
     links: usize,
     next: usize,
-}
-
-// What a table text says.
-#[derive(Clone, Copy)]
-pub enum Verdict {
-    Accepted,
-    // The first fault, and its line.
-    Refused(Fault, u32),
-}
-
-// What the lines of a text say, and how many links they give: none where the text is refused.
-#[derive(Drop)]
-struct Lines {
-    verdict: Verdict,
-    links: usize,
 }
 
 // A table by value. A refused text has no links.
 #[derive(Clone, Copy)]
 pub struct QueueTable {
-    pub verdict: Verdict,
+    pub verdict: Result<(), Refusal>,
     pub numbers: [u32; TABLE_NUMBERS],
-}
-
-// Document 01's code of a fault.
-pub fn fault_code(fault: Fault) -> u32
-    ensures { result ≡ fault_code fault }
-{
-    match fault {
-        Fault::Malformed => 1,
-        Fault::OutOfRange => 2,
-        Fault::OutOfTurn => 3,
-        Fault::Disagrees => 4,
-        Fault::TooLong => 5,
-    }
 }
 
 // Stores a line's numbers. Within a link those of the link are stored again as they were.
@@ -129,116 +107,76 @@ fn store_row(r: Row, table: &mut [u32]) -> usize
 {
     let link = r.link as usize;
     let level = r.level as usize;
-    let from = r.from;
-    let to = r.to;
-    let speed = r.speed;
-    let levels = r.level;
-    let fixed = r.fixed;
-    let besteffort = r.besteffort;
-    let threshold = r.threshold;
-    let buffer = r.buffer;
     let at = link_position(link - 1);
-    table[at] = from;
-    table[at + 1] = to;
-    table[at + 2] = speed;
-    table[at + 3] = levels;
-    table[at + 4] = fixed;
-    table[at + 5] = besteffort;
+    table[at] = r.from;
+    table[at + 1] = r.to;
+    table[at + 2] = r.speed;
+    table[at + 3] = r.level;
+    table[at + 4] = r.fixed;
+    table[at + 5] = r.besteffort;
     let q = queue_position(entry_at(link - 1, level - 1));
-    table[q] = threshold;
-    table[q + 1] = buffer;
+    table[q] = r.threshold;
+    table[q + 1] = r.buffer;
     link
 }
 
-// Judges a line after n links and adds it where nothing is against it.
-fn add_line(line: &[u8], n: usize, table: &mut [u32]) -> Step
+// Judges a line after n links and adds it where nothing is against it. Gives the number of links from then on.
+#[tactic(auto, using(crate::proofs::TurnLaws::placed, crate::proofs::TurnLaws::step_malformed, crate::proofs::TurnLaws::line_refused))]
+fn add_line(line: &[u8], n: usize, table: &mut [u32]) -> Result<usize, Fault>
     requires { Linked n table.old }
     ensures { LineAdded n table.old table.new line.now result }
 {
-    let RowRead::Numbers(r) = read_row(line) else {
-        return Step {
-            judgement: Judgement::Faulty(Fault::Malformed),
-            links: n,
-        };
-    };
-    let judgement = row_cause(r, n, &table[..]);
-    let Judgement::Fine = judgement else {
-        return Step {
-            judgement,
-            links: n,
-        };
-    };
-    let m = store_row(r, table);
-    Step {
-        judgement: Judgement::Fine,
-        links: m,
-    }
+    let row = read_row(line).ok_or(Fault::Malformed)?;
+    judge_row(row, n, &table[..])?;
+    Ok(store_row(row, table))
 }
 
 // Judges and adds the line that starts at `at`, after n links.
-fn take_line(text: &[u8], at: usize, n: usize, table: &mut [u32]) -> Advance
+#[tactic(auto, using(crate::proofs::TurnLaws::read_fault, crate::proofs::TurnLaws::read_links))]
+fn take_line(text: &[u8], at: usize, n: usize, table: &mut [u32]) -> Result<Advance, Fault>
     requires { (at < length text.now) × Linked n table.old }
     ensures { LineTaken text.now at n table.old table.new result }
 {
-    let NextLine::Ended(end) = columns::next_line(text, at) else {
-        return Advance {
-            judgement: Judgement::Faulty(Fault::Malformed),
-            links: n,
-            next: at,
-        };
-    };
-    let step = add_line(&text[at..end], n, table);
-    let judgement = step.judgement;
-    let m = step.links;
-    Advance {
-        judgement,
-        links: m,
+    let end = columns::next_line(text, at).ok_or(Fault::Malformed)?;
+    let links = add_line(&text[at..end], n, table)?;
+    Ok(Advance {
+        links,
         next: end + 1,
-    }
+    })
 }
 
-// Reads the lines of a text into the array.
-fn read_lines(text: &[u8], table: &mut [u32]) -> Lines
+// Reads the lines of a text into the array. Gives the number of links.
+#[tactic(auto, using(crate::proofs::ReadLaws::reading_begun, crate::proofs::ReadLaws::line_faulty, crate::proofs::ReadLaws::reading_ended))]
+fn read_lines(text: &[u8], table: &mut [u32]) -> Result<usize, Refusal>
     requires { length table.old ≡ table_numbers }
     ensures { LinesRead text.now table.new result }
 {
     if TABLE_BYTES < text.len() {
-        return Lines {
-            verdict: Verdict::Refused(Fault::TooLong, 0),
-            links: 0,
-        };
+        return Err(Refusal {
+            fault: Fault::TooLong,
+            line: 0,
+        });
     }
     let mut at = 0;
     let mut line: u32 = 1;
     let mut n = 0;
     while at < text.len() {
-        let advance = take_line(text, at, n, table);
-        let judgement = advance.judgement;
-        if let Judgement::Faulty(fault) = judgement {
-            return Lines {
-                verdict: Verdict::Refused(fault, line),
-                links: 0,
-            };
-        }
+        let advance = take_line(text, at, n, table).map_err(|fault| Refusal { fault, line })?;
         n = advance.links;
         at = advance.next;
         line += 1;
     }
-    Lines {
-        verdict: Verdict::Accepted,
-        links: n,
-    }
+    Ok(n)
 }
 
 // Fills the array from a table text, whatever stood there. No link counts where it is refused.
-pub fn read_into(text: &[u8], table: &mut [u32]) -> Verdict
+pub fn read_into(text: &[u8], table: &mut [u32]) -> Result<(), Refusal>
     requires { length table.old ≡ table_numbers }
     ensures { TableFilled text.now result table.new }
 {
     let read = read_lines(text, table);
-    let links = read.links;
-    table[COUNT] = links as u32;
-    read.verdict
+    table[COUNT] = read.unwrap_or(0) as u32;
+    read.and(Ok(()))
 }
 
 // The table of a text, by value.

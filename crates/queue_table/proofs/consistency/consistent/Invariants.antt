@@ -9,6 +9,3 @@ use Rattle.queue_table.proofs.consistency.consistent.Given as goal
 
 abbrev pub invariant-loop-i : goal.invariant-loop-i
 invariant-loop-i l = (l.i ≤ l.n) × (every link_consistent (up_to l.i (link_at l.table)) ≡ true)
-
-abbrev pub decreases-loop-i : goal.decreases-loop-i
-decreases-loop-i l = l.n - l.i

@@ -14,6 +14,3 @@ passes table i q = row_in_range (row_of (link_at table i) q)
 
 abbrev pub invariant-loop-p : goal.invariant-loop-p
 invariant-loop-p l = (l.p ≤ l.levels) × (every (passes l.table l.i) (up_to l.p (queue_at l.table l.i)) ≡ true)
-
-abbrev pub decreases-loop-p : goal.decreases-loop-p
-decreases-loop-p l = l.levels - l.p
