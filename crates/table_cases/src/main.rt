@@ -4,48 +4,37 @@
 
 ghost use Rattle.queue_table.specs.View.{WellFormed};
 
-use queue_table::{QUEUES, TABLE_BYTES, Verdict};
+use queue_table::{QUEUES, TABLE_BYTES};
 use std::rt::Files;
 
 // One byte above the longest table text, so that 5 is seen.
 const TEXT: usize = TABLE_BYTES + 1;
 
 // What standard output doesn't take is lost.
-fn show(rt: &impl Print, code: u32, line: u32, links: u64, queues: u32) {
-    let mut out = *b"                  \n";
-    columns::write_at(&mut out, 1, 3, columns::wide(code));
-    columns::write_at(&mut out, 4, 9, columns::wide(line));
-    columns::write_at(&mut out, 10, 13, links);
-    columns::write_at(&mut out, 14, 18, columns::wide(queues));
-    let _ = rt.write_all(&out);
+fn show(rt: &impl Print, code: u32, line: u32, links: usize, queues: usize) {
+    let _ = println!(rt; "{code:3}{line:6}{links:4}{queues:5}");
 }
 
-fn count_queues(table: &[u32]) -> u32
+fn count_queues(table: &[u32]) -> usize
     requires { WellFormed table.now }
 {
-    let mut count: u32 = 0;
-    for e in 0..QUEUES {
-        if queue_table::is_queue(e, table) {
-            count += 1;
-        }
-    }
-    count
+    (0..QUEUES)
+        .filter(|e| queue_table::is_queue(*e, table))
+        .count()
 }
 
 fn show_table(rt: &impl Print, table: &[u32])
     requires { WellFormed table.now }
 {
     let links = queue_table::link_count(table);
-    show(rt, 0, 0, links as u64, count_queues(table));
+    show(rt, 0, 0, links, count_queues(table));
 }
 
 fn judge(rt: &impl Print, text: &[u8]) {
     let table = queue_table::read_table(text);
-    let verdict = table.verdict;
-    let numbers = table.numbers;
-    match verdict {
-        Verdict::Accepted => show_table(rt, &numbers),
-        Verdict::Refused(fault, line) => show(rt, queue_table::fault_code(fault), line, 0, 0),
+    match table.verdict {
+        Ok(()) => show_table(rt, &table.numbers),
+        Err(refusal) => show(rt, u32::from(refusal.fault), refusal.line, 0, 0),
     }
 }
 
@@ -61,7 +50,7 @@ fn judge_file(rt: &(impl Files + Print), name: &[u8]) -> bool {
 
 fn main(rt: HostRuntime) {
     for k in 0..100u8 {
-        let name = [b't', 48 + k / 10, 48 + k % 10];
+        let name = [b't', b'0' + k / 10, b'0' + k % 10];
         if !judge_file(&rt, &name) {
             return;
         }
