@@ -1,4 +1,5 @@
 -- The calls of a list made so far, and those left: one call more, and the end. Assumes nothing.
+use Rattle.std.specs.Prelude.{Some, None}
 use Prim.Native.Nat.{ℕ, suc, ◌+◌, ◌-◌, ◌*◌, ◌/◌, ◌≤◌, ◌<◌}
 use mathlib.Core.Path.{◌≡◌, refl, sym, ap, subst, ◌∙◌}
 use mathlib.Core.List.{List, [], ◌∷◌, ◌++◌, map, append-nil, append_assoc}
@@ -14,7 +15,6 @@ use Rattle.model.proofs.Laws.Total.{total-append}
 use Rattle.model.specs.Total.{total}
 use Rattle.model.specs.Reference as model
 use Rattle.model.specs.Reference.{Call}
-use Rattle.orders.specs.declared.Kind.{Kind}
 use Rattle.orders.specs.View.{kind_of}
 use Rattle.admission.specs.declared.Answer.{Answer}
 use Rattle.admission.specs.View.{answer_of}
@@ -27,7 +27,7 @@ use Rattle.registry.specs.ClaimLaws.{chain_next}
 use Rattle.recording.specs.Calls.{header_bytes, first_call, bytes_of, listed, calls_in}
 use Rattle.recording.specs.View.{FirstCall}
 use Rattle.recording.specs.Replay.{call_answer_bytes, answer_lines, made_calls, answered, Runs}
-use Rattle.recording.specs.declared.Recorded.TheVariants as recorded
+use Rattle.recording.specs.declared.Header.{Header}
 
 -- One line more of answers.
 lines_next : (given : List model.Answer) (a : model.Answer) → answer_lines (given ++ (a ∷ [])) ≡ answer_lines given ++ (answer_columns a ++ (10 ∷ []))
@@ -118,56 +118,56 @@ abbrev pub rest_at : (calls : List ℕ) (at : ℕ) → List ℕ
 rest_at calls at = take (length calls - at) (drop at calls)
 
 -- The call at `at`, by its header.
-module _ (calls : List ℕ) (at : ℕ) (kind : Kind) (size : ℕ) where
+module _ (calls : List ℕ) (at : ℕ) (head : Header) where
   abbrev pub bytes_at : List ℕ
-  bytes_at = take size (drop header_bytes (drop at calls))
+  bytes_at = take head.size (drop header_bytes (drop at calls))
 
-  module _ (low : at ≤ length calls) (found : FirstCall (rest_at calls at) (recorded.Call kind size)) where
+  module _ (low : at ≤ length calls) (found : FirstCall (rest_at calls at) (Some head)) where
     whole : take (length calls - at) (drop at calls) ≡ drop at calls
     whole = take_all (length calls - at) (drop at calls) (omega (arith, length-drop at calls))
 
-    pub here : FirstCall (drop at calls) (recorded.Call kind size)
-    here = subst (λ (l : List ℕ). FirstCall l (recorded.Call kind size)) whole found
+    pub here : FirstCall (drop at calls) (Some head)
+    here = subst (λ (l : List ℕ). FirstCall l (Some head)) whole found
 
-    pub fits_in : at + header_bytes + size ≤ length calls
+    pub fits_in : at + header_bytes + head.size ≤ length calls
     fits_in = omega (arith, here.within, length-drop at calls, low)
 
-    bytes-long : length bytes_at ≡ size
-    bytes-long = length-take-le size (drop header_bytes (drop at calls)) (omega (arith, here.within, length-drop header_bytes (drop at calls)))
+    bytes-long : length bytes_at ≡ head.size
+    bytes-long = length-take-le head.size (drop header_bytes (drop at calls)) (omega (arith, here.within, length-drop header_bytes (drop at calls)))
 
     next-left : (most count : ℕ) → count < most
-        → calls_in (most - count) (drop at calls) ≡ call_of (kind_of kind) bytes_at ∷ calls_in (most - (count + 1)) (drop (at + header_bytes + size) calls)
+        → calls_in (most - count) (drop at calls) ≡ call_of (kind_of head.kind) bytes_at ∷ calls_in (most - (count + 1)) (drop (at + header_bytes + head.size) calls)
     unfolding calls_in
     next-left most count h =
         let one_more : most - count ≡ suc (most - (count + 1)) = omega arith in
-        let to : at + (header_bytes + length bytes_at) ≡ at + header_bytes + size = omega (arith, bytes-long) in
-        let rest : drop (header_bytes + length bytes_at) (drop at calls) ≡ drop (at + header_bytes + size) calls = drop-drop (header_bytes + length bytes_at) at calls ∙ ap (λ (n : ℕ). drop n calls) to in
+        let to : at + (header_bytes + length bytes_at) ≡ at + header_bytes + head.size = omega (arith, bytes-long) in
+        let rest : drop (header_bytes + length bytes_at) (drop at calls) ≡ drop (at + header_bytes + head.size) calls = drop-drop (header_bytes + length bytes_at) at calls ∙ ap (λ (n : ℕ). drop n calls) to in
         rw one_more
         (ap (λ (o : Option Call). listed o (λ c. calls_in (most - (count + 1)) (drop (header_bytes + length c.bytes) (drop at calls)))) (sym here.same)
-        ∙ ap (λ (l : List ℕ). call_of (kind_of kind) bytes_at ∷ calls_in (most - (count + 1)) l) rest)
+        ∙ ap (λ (l : List ℕ). call_of (kind_of head.kind) bytes_at ∷ calls_in (most - (count + 1)) l) rest)
 
-    bytes-given : take (at + header_bytes + size - (at + header_bytes)) (drop (at + header_bytes) calls) ≡ bytes_at
+    bytes-given : take (at + header_bytes + head.size - (at + header_bytes)) (drop (at + header_bytes) calls) ≡ bytes_at
     bytes-given =
-        let n : at + header_bytes + size - (at + header_bytes) ≡ size = omega arith in
-        rw n (ap (take size) (sym (drop-drop header_bytes at calls)))
+        let n : at + header_bytes + head.size - (at + header_bytes) ≡ head.size = omega arith in
+        rw n (ap (take head.size) (sym (drop-drop header_bytes at calls)))
 
     -- One call more.
     pub going_next : {first registry : Registry} {area area' : List ℕ} {most count : ℕ} → Going first calls area most registry at count area' → count < most
-        → (called : Called) → Performs registry (call_of (kind_of kind) (take (at + header_bytes + size - (at + header_bytes)) (drop (at + header_bytes) calls))) called
+        → (called : Called) → Performs registry (call_of (kind_of head.kind) (take (at + header_bytes + head.size - (at + header_bytes)) (drop (at + header_bytes) calls))) called
         → (part : List ℕ) → part ≡ answer_columns (answer_of called.answer) ++ (10 ∷ drop call_answer_bytes (take (length area' - call_answer_bytes * count) (drop (call_answer_bytes * count) area')))
-        → Going first calls area most called.registry (at + header_bytes + size) (count + 1) (put_mid (call_answer_bytes * count) (length area' - call_answer_bytes * count) area' part)
+        → Going first calls area most called.registry (at + header_bytes + head.size) (count + 1) (put_mid (call_answer_bytes * count) (length area' - call_answer_bytes * count) area' part)
     going_next {registry = registry} {area = area} {area' = area'} {most = most} {count = count} g more called p part e =
-        let c = call_of (kind_of kind) bytes_at in
+        let c = call_of (kind_of head.kind) bytes_at in
         record {
           done = g.done ++ (c ∷ []);
           given = g.given ++ (called.answer ∷ []);
-          chain = chain_next g.chain (subst (λ (l : List ℕ). Performs registry (call_of (kind_of kind) l) called) bytes-given p);
+          chain = chain_next g.chain (subst (λ (l : List ℕ). Performs registry (call_of (kind_of head.kind) l) called) bytes-given p);
           counted = omega (arith, g.counted, length-append g.done (c ∷ []));
           few = omega arith;
           ends = omega (arith, g.ends, bytes_next g.done c, bytes-long);
           within = fits_in;
           left =
-              append_snoc g.done c (calls_in (most - (count + 1)) (drop (at + header_bytes + size) calls))
+              append_snoc g.done c (calls_in (most - (count + 1)) (drop (at + header_bytes + head.size) calls))
               ∙ ap (λ (l : List Call). g.done ++ l) (sym (next-left most count more))
               ∙ g.left;
           long = lines_long area count g.given called.answer g.long;
@@ -200,7 +200,7 @@ module _ {first registry : Registry} {calls area area' : List ℕ} {most at coun
       let none_left : most - count ≡ 0 = omega arith in
       sym (append-nil g.done) ∙ ap (λ (n : ℕ). g.done ++ calls_in n (drop at calls)) (sym none_left) ∙ g.left
 
-  pub broken : count < most → FirstCall (rest_at calls at) recorded.Broken → g.done ≡ calls_in most calls
+  pub broken : count < most → FirstCall (rest_at calls at) None → g.done ≡ calls_in most calls
   unfolding calls_in
   broken h found =
       let one_more : most - count ≡ suc (most - (count + 1)) = omega arith in

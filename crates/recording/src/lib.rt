@@ -11,7 +11,7 @@ ghost use Rattle.queue_table.specs.View.{fault_code};
 ghost use Rattle.admission.specs.View.{answer_of};
 ghost use Rattle.registry.specs.View.{call_of, Performs};
 ghost use Rattle.recording.specs.Calls.{header};
-ghost use Rattle.recording.specs.View.{header_of, FirstCall};
+ghost use Rattle.recording.specs.View.{header_of, FirstCall, MakesCalls};
 ghost use Rattle.recording.specs.Replay.{call_answer_bytes, refusal_line, Runs, Replays};
 
 use columns::{END, Field, LF};
@@ -58,9 +58,9 @@ pub struct Replayed {
 
 // A header line: which call it is, and the number of bytes that it is given.
 #[derive(Clone, Copy)]
-enum Recorded {
-    Call(Kind, usize),
-    Broken,
+struct Header {
+    kind: Kind,
+    size: u32,
 }
 
 // Which call a header line names; malformed is as another call.
@@ -74,57 +74,47 @@ fn read_kind(bytes: &[u8]) -> KindRead
 }
 
 // The header line that the bytes start with.
-fn read_header(bytes: &[u8]) -> Recorded
+fn read_header(bytes: &[u8]) -> Option<Header>
     ensures { header_of result ≡ header bytes.now }
 {
     let KindRead::Is(kind) = read_kind(bytes) else {
-        return Recorded::Broken;
+        return None;
     };
     let Field::Number(size) = columns::read_at(bytes, 3, 8) else {
-        return Recorded::Broken;
+        return None;
     };
-    if bytes.len() < HEADER {
-        return Recorded::Broken;
+    if bytes.len() < HEADER || bytes[8] != LF {
+        return None;
     }
-    if bytes[8] != LF {
-        return Recorded::Broken;
-    }
-    Recorded::Call(kind, size as usize)
+    Some(Header { kind, size })
 }
 
 // The call that the bytes start with, whose bytes are all there.
-fn first_call(bytes: &[u8]) -> Recorded
+fn first_call(bytes: &[u8]) -> Option<Header>
     ensures { FirstCall bytes.now result }
 {
-    let Recorded::Call(kind, size) = read_header(bytes) else {
-        return Recorded::Broken;
-    };
-    if bytes.len() < size {
-        return Recorded::Broken;
+    let header = read_header(bytes)?;
+    if bytes.len() < HEADER + header.size as usize {
+        return None;
     }
-    if bytes.len() - size < HEADER {
-        return Recorded::Broken;
-    }
-    Recorded::Call(kind, size)
-}
-
-// One call in either form.
-fn make_call(registry: Registry, form: Form, kind: Kind, bytes: &[u8]) -> Called
-    ensures { Performs registry (call_of (kind_of kind) bytes.now) result }
-{
-    match form {
-        Form::ByValue => registry::step(registry, kind, bytes),
-        Form::InPlace => registry_in_place::step(registry, kind, bytes),
-    }
+    Some(header)
 }
 
 // One call, and its answer line at the start of `part`.
-fn answer_call(registry: Registry, form: Form, kind: Kind, bytes: &[u8], part: &mut [u8]) -> Called
-    requires { call_answer_bytes ≤ length part.old }
+fn answer_call<F: Fn(Registry, Kind, &[u8]) -> Called>(
+    step: &F,
+    registry: Registry,
+    kind: Kind,
+    bytes: &[u8],
+    part: &mut [u8],
+) -> Called
+    requires callable { F.IsAlwaysCallable step.now }
+    requires makes { MakesCalls (F.post step.now) }
+    requires room { call_answer_bytes ≤ length part.old }
     ensures performs { Performs registry (call_of (kind_of kind) bytes.now) result }
     ensures part_after { part.new ≡ answer_columns (answer_of result.answer) ++ (10 ∷ drop call_answer_bytes part.old) }
 {
-    let called = make_call(registry, form, kind, bytes);
+    let called = step(registry, kind, bytes);
     let answer = called.answer;
     answer_line::write_answer(answer, part);
     part[13] = LF;
@@ -132,15 +122,21 @@ fn answer_call(registry: Registry, form: Form, kind: Kind, bytes: &[u8], part: &
 }
 
 // Call after call, up to the first that isn't whole, as many as the area has room to answer.
-fn run(first: Registry, form: Form, calls: &[u8], answers: &mut [u8]) -> Ran
+fn run<F: Fn(Registry, Kind, &[u8]) -> Called>(
+    step: F,
+    first: Registry,
+    calls: &[u8],
+    answers: &mut [u8],
+) -> Ran
+    requires callable { F.IsAlwaysCallable step }
+    requires makes { MakesCalls (F.post step) }
     ensures { Runs first calls.now answers.old answers.new result }
 {
     let most = answers.len() / ANSWER;
     let mut registry = first;
     let mut at = 0;
-    let mut count = 0;
-    while count < most {
-        let Recorded::Call(kind, size) = first_call(&calls[at..]) else {
+    for count in 0..most {
+        let Some(header) = first_call(&calls[at..]) else {
             return Ran {
                 registry,
                 count,
@@ -148,23 +144,44 @@ fn run(first: Registry, form: Form, calls: &[u8], answers: &mut [u8]) -> Ran
             };
         };
         let start = at + HEADER;
-        let end = start + size;
+        let end = start + header.size as usize;
         let line = ANSWER * count;
         let called = answer_call(
+            &step,
             registry,
-            form,
-            kind,
+            header.kind,
             &calls[start..end],
             &mut answers[line..],
         );
         registry = called.registry;
         at = end;
-        count += 1;
     }
     Ran {
         registry,
-        count,
+        count: most,
         end: at,
+    }
+}
+
+// Opens a registry on the table text and makes the recorded calls on it by `step`.
+fn replay_by<F: Fn(Registry, Kind, &[u8]) -> Called>(
+    step: F,
+    table: &[u8],
+    calls: &[u8],
+    answers: &mut [u8],
+) -> Replayed
+    requires callable { F.IsAlwaysCallable step }
+    requires makes { MakesCalls (F.post step) }
+    ensures { Replays table.now calls.now answers.old answers.new result }
+{
+    let opened = registry::open(table);
+    let ran = run(step, opened.registry, calls, answers);
+    let registry = ran.registry;
+    Replayed {
+        verdict: opened.verdict,
+        registry,
+        count: ran.count,
+        end: ran.end,
     }
 }
 
@@ -172,16 +189,9 @@ fn run(first: Registry, form: Form, calls: &[u8], answers: &mut [u8]) -> Ran
 pub fn replay(form: Form, table: &[u8], calls: &[u8], answers: &mut [u8]) -> Replayed
     ensures { Replays table.now calls.now answers.old answers.new result }
 {
-    let opened = registry::open(table);
-    let verdict = opened.verdict;
-    let empty = opened.registry;
-    let ran = run(empty, form, calls, answers);
-    let registry = ran.registry;
-    Replayed {
-        verdict,
-        registry,
-        count: ran.count,
-        end: ran.end,
+    match form {
+        Form::ByValue => replay_by(registry::step, table, calls, answers),
+        Form::InPlace => replay_by(registry_in_place::step, table, calls, answers),
     }
 }
 

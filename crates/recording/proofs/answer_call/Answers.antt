@@ -9,5 +9,7 @@ use Rattle.model.proofs.Laws.Answers.{columns-length}
 use Rattle.columns.proofs.PartLaws.{byte_next}
 use Rattle.recording.proofs.answer_call.Goals as goal
 
-pub returns : goal.returns
-returns c = record { performs = c.make_call-called.ensures; part_after = ap (λ (l : List ℕ). set l 13 10) c.write_answer.ensures ∙ byte_next (answer_columns (answer_of c.make_call-called.result.answer)) c.args.part.now 13 10 (columns-length (answer_of c.make_call-called.result.answer)) c.requires }
+pub returns-clause-part_after : goal.returns-clause-part_after
+returns-clause-part_after g c =
+    let answer = answer_of c.step-called.result.answer in
+    ap (λ (l : List ℕ). set l 13 10) c.write_answer.ensures ∙ byte_next (answer_columns answer) c.args.part.now 13 10 (columns-length answer) c.requires.room
