@@ -7,9 +7,7 @@ use units::{Bytes, Micros, Rate};
 
 // What standard output doesn't take is lost.
 fn show(rt: &impl Print, n: u64) {
-    let mut line = *b"        \n";
-    columns::write_at(&mut line, 1, 8, n);
-    let _ = rt.write_all(&line);
+    let _ = println!(rt; "{n:8}");
 }
 
 // With a best-effort frame of 1,542: level 1 alone, level 1 with level 2 below it, level 2.
@@ -78,6 +76,6 @@ fn main(rt: HostRuntime) {
     with_best_effort(&rt);
     show_bursts(&rt);
     // Held rates 99,000, and 999 or 1,000 more: 1 where the rate rule is met.
-    show(&rt, units::within_rate(100, Rate(99_999)) as u64);
-    show(&rt, units::within_rate(100, Rate(100_000)) as u64);
+    show(&rt, u64::from(units::within_rate(100, Rate(99_999))));
+    show(&rt, u64::from(units::within_rate(100, Rate(100_000))));
 }
