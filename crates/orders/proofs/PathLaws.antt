@@ -1,6 +1,6 @@
 -- The hops of the array that a path is read into, and those read so far before what the rest of the line says: one hop more, a malformed one, and the end.
 -- Assumes nothing.
-use Prim.Native.Nat.{ℕ, zero, suc, ◌+◌, ◌-◌, ◌*◌, ◌<◌}
+use Prim.Native.Nat.{ℕ, zero, suc, ◌+◌, ◌-◌, ◌*◌, ◌<◌, ◌≤◌}
 use mathlib.Core.Path.{◌≡◌, refl, sym, ap, ◌∙◌}
 use mathlib.Core.List.{List, [], ◌∷◌, ◌++◌, append-nil}
 use mathlib.Core.Option.{Option, none, some}
@@ -86,34 +86,41 @@ next-hop i line = let e : start i + hop_columns ≡ start (suc i) = omega arith 
 
 -- The loop's steps: `i` hops of `n` are read into the array.
 module _ (line hops : List ℕ) (n i : ℕ) where
-  abbrev pub read-so-far : Option (List Hop)
+  unfoldable pub read-so-far : Option (List Hop)
   read-so-far = joined (take i (hops_in hops)) (hop_fields (n - i) (drop (start i) line))
 
 pub path-start : (line hops : List ℕ) (n : ℕ) → read-so-far line hops n 0 ≡ hop_fields n (drop head_columns line)
+unfolding read-so-far
 path-start line hops n = simp sub-zero (joined-none (hop_fields n (drop head_columns line)))
 
-pub path-step : (line hops : List ℕ) (n i link level : ℕ) → length hops ≡ hop_numbers → i < hops_most → i < n
+pub path-step : (line hops : List ℕ) (n i link level : ℕ) → length hops ≡ hop_numbers → n ≤ hops_most → i < n
     → hop_field (drop (start i) line) ≡ some (record { link = link; level = level })
-    → read-so-far line hops n i ≡ read-so-far line (stored hops i link level) n (i + 1)
+    → read-so-far line (stored hops i link level) n (i + 1) ≡ read-so-far line hops n i
+unfolding read-so-far
 path-step line hops n i link level long room more_left e =
     let left : n - i ≡ suc (n - suc i) = omega arith in
     let before = take i (hops_in hops) in
     let hop : Hop = record { link = link; level = level } in
     rw (add-one i, left)
+    (sym
     (joined-more before hop (n - suc i) (drop (start i) line) e
     ∙ ap (λ (l : List ℕ). joined (before ++ (hop ∷ [])) (hop_fields (n - suc i) l)) (next-hop i line)
-    ∙ ap (λ (p : List Hop). joined p (hop_fields (n - suc i) (drop (start (suc i)) line))) (sym (hops-next hops i link level long room)))
+    ∙ ap (λ (p : List Hop). joined p (hop_fields (n - suc i) (drop (start (suc i)) line))) (sym (hops-next hops i link level long (omega arith)))))
 
 pub path-malformed : (line hops : List ℕ) (n i : ℕ) → i < n → hop_field (drop (start i) line) ≡ none → read-so-far line hops n i ≡ none
+unfolding read-so-far
 path-malformed line hops n i more_left e =
     let left : n - i ≡ suc (n - suc i) = omega arith in
     rw left (joined-malformed (take i (hops_in hops)) (n - suc i) (drop (start i) line) e)
 
 pub path-end : (line hops : List ℕ) (n i : ℕ) → i ≡ n → read-so-far line hops n i ≡ some (take n (hops_in hops))
+unfolding read-so-far
 path-end line hops n i e =
     let none_left : n - n ≡ 0 = omega arith in
     rw (e, none_left) (joined-all (take n (hops_in hops)) (drop (start n) line))
 
 -- A part up to the end is what is left.
-pub field-of-rest : (line : List ℕ) (at : ℕ) {o : Option Hop} → o ≡ hop_field (take (length line - at) (drop at line)) → hop_field (drop at line) ≡ o
-field-of-rest line at e = ap hop_field (sym (take_all (length line - at) (drop at line) (simp length-drop (omega arith)))) ∙ sym e
+pub rest : (line : List ℕ) (at : ℕ) → take (length line - at) (drop at line) ≡ drop at line
+rest line at = take_all (length line - at) (drop at line) (simp length-drop (omega arith))
+
+pub ruleset path_laws = (rest, path-start, path-step, path-malformed, path-end)

@@ -197,7 +197,7 @@ fn read_hop(columns: &[u8]) -> Option<(u32, u32)>
 }
 
 // So many hops after the head's columns.
-#[tactic(auto, unfolding(model::specs::Orders::path_fields))]
+#[tactic(auto, using(crate::proofs::PathLaws::path_laws), unfolding(model::specs::Orders::path_fields))]
 fn read_path(line: &[u8], count: u32) -> Option<[u32; HOP_NUMBERS]>
     requires { count ≤ hops_most }
     ensures { path_of result count ≡ path_fields count line.now }

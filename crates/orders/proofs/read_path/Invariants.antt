@@ -1,5 +1,4 @@
--- `orders::read_path` meets its contract. The invariant: the hops read so far, before what the rest of the line says, are the whole path.
-use Prim.Native.Nat.{◌-◌, ◌≤◌}
+-- The hops read so far, before what the rest of the line says, are the whole path.
 use mathlib.Core.Path.{◌≡◌}
 use lib.ListN.{length, drop}
 use Rattle.model.specs.Sizes.{head_columns}
@@ -9,5 +8,7 @@ use Rattle.orders.proofs.PathLaws.{read-so-far}
 use Rattle.orders.proofs.read_path.Given as goal
 
 abbrev pub invariant-loop-i : goal.invariant-loop-i
-invariant-loop-i l =
-    (length l.hops ≡ hop_numbers) × (read-so-far l.line l.hops l.n l.i ≡ hop_fields l.n (drop head_columns l.line))
+invariant-loop-i l = record {
+  whole : length l.hops ≡ hop_numbers;
+  read : read-so-far l.line l.hops l.n l.i ≡ hop_fields l.n (drop head_columns l.line);
+}
