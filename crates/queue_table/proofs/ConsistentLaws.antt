@@ -22,18 +22,18 @@ module _ {A : Type 0} (test : A → Bool) (f : ℕ → A) where
   unfolding up_to every
   every_more n = every_append test (up_to n f) (f n ∷ []) ∙ ap (λ (b : Bool). every test (up_to n f) && b) (and-true (test (f n)))
 
-  pub every-none : every test (up_to 0 f) ≡ true
+  pub every_none : every test (up_to 0 f) ≡ true
   unfolding up_to every
-  every-none = refl
+  every_none = refl
 
   -- One value more that passes.
-  pub every-passed : (n : ℕ) → every test (up_to n f) ≡ true → test (f n) ≡ true → every test (up_to (n + 1) f) ≡ true
-  every-passed n e p = rw (add-one n) (every_more n ∙ simp (e, p))
+  pub every_passed : (n : ℕ) → every test (up_to n f) ≡ true → test (f n) ≡ true → every test (up_to (n + 1) f) ≡ true
+  every_passed n e p = rw (add-one n) (every_more n ∙ simp (e, p))
 
   -- A value that fails.
-  pub every-failed : (n i : ℕ) → i < n → test (f i) ≡ false → every test (up_to n f) ≡ false
-  every-failed zero i h e = absurd (omega arith)
-  every-failed (suc n) i h e = every_more n ∙ go (λ lt. every-failed n i lt e) (dec_lt i n)
+  pub every_failed : (n i : ℕ) → i < n → test (f i) ≡ false → every test (up_to n f) ≡ false
+  every_failed zero i h e = absurd (omega arith)
+  every_failed (suc n) i h e = every_more n ∙ go (λ lt. every_failed n i lt e) (dec_lt i n)
     where
       go : (i < n → every test (up_to n f) ≡ false) → Dec (i < n) → (every test (up_to n f) && test (f n)) ≡ false
       go before (yes lt) = simp (before lt)

@@ -7,7 +7,6 @@ use native.Mathlib.Omega.{arith}
 use borrow.Author.Tests.{le-leb, lt-leb}
 use lib.ListN.{length, drop, set}
 use Rattle.std.specs.Prelude.{Result, Ok, Err}
-use Rattle.std.specs.Result.{result_and}
 use Rattle.model.specs.Sizes.{table_bytes}
 use Rattle.model.specs.Columns.{Line, lines}
 use Rattle.model.proofs.Laws.Columns.{lines-nothing}
@@ -17,7 +16,7 @@ use Rattle.queue_table.specs.declared.Advance.{Advance}
 use Rattle.queue_table.specs.declared.Fault.{Fault}
 use Rattle.queue_table.specs.declared.Fault.TheVariants.{TooLong}
 use Rattle.queue_table.specs.declared.Refusal.{Refusal}
-use Rattle.queue_table.specs.View.{count_position, table_numbers, up_to, links_of, fault_code, links_read, Linked, LineTaken, LinesRead, TableFilled}
+use Rattle.queue_table.specs.View.{count_position, table_numbers, up_to, links_of, fault_code, verdict_of, links_read, Linked, LineTaken, LinesRead, TableFilled}
 use Rattle.queue_table.proofs.ViewLaws.{links-none, links-reversed}
 use Rattle.queue_table.proofs.StoreLaws.{table_counted, counted-formed}
 
@@ -76,7 +75,7 @@ module _ (text table : List ℕ) where
       record { same = said; held = ap table_of said; kept = no-links table' taken.kept.long }
 
   -- The number of links stored behind them makes the array hold them.
-  pub links_counted : (r : Result ℕ Refusal) (verdict : Result Unit Refusal) (links : ℕ) → LinesRead text table r → verdict ≡ result_and r (Ok tt)
+  pub links_counted : (r : Result ℕ Refusal) (verdict : Result Unit Refusal) (links : ℕ) → LinesRead text table r → verdict ≡ verdict_of r
       → links ≡ links_read r → TableFilled text verdict (set table count_position links)
   links_counted (Ok n) verdict links read e k =
       let counted = table_counted n table read.kept in

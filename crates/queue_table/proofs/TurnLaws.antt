@@ -206,12 +206,12 @@ module _ (n : ℕ) (table line : List ℕ) (linked : Linked n table) where
       → LineAdded n table table line (Err fault)
   line_refused r fault e cause = record { same = sym (step_refused (links_of n table) line r fault e cause); kept = linked }
 
-  pub line_added : (r : Row) (table' : List ℕ) (links : ℕ) → table' ≡ row_stored (numbers_of r) table → links ≡ r.link
-      → model.row line ≡ some (numbers_of r) → 0 ≡ model.row_cause (links_of n table) (numbers_of r) → LineAdded n table table' line (Ok links)
-  line_added r table' links after last e free =
+  pub line_added : (r : Row) (table' : List ℕ) → table' ≡ row_stored (numbers_of r) table
+      → model.row line ≡ some (numbers_of r) → 0 ≡ model.row_cause (links_of n table) (numbers_of r) → LineAdded n table table' line (Ok r.link)
+  line_added r table' after e free =
       record {
-        same = rw (after, last) (ap model.links (stored_row n table (numbers_of r) linked (sym free)) ∙ sym (step_added (links_of n table) line (numbers_of r) e (sym free)));
-        kept = rw (after, last) (stored_linked n table (numbers_of r) linked (sym free));
+        same = rw after (ap model.links (stored_row n table (numbers_of r) linked (sym free)) ∙ sym (step_added (links_of n table) line (numbers_of r) e (sym free)));
+        kept = rw after (stored_linked n table (numbers_of r) linked (sym free));
       }
 
 -- A line's step, and then the lines after it.

@@ -58,11 +58,10 @@ pub fn level_of(e: usize) -> usize
 pub fn hop_at(entry: u32) -> Hop
     ensures { (result.link ≡ link_in entry + 1) × (result.level ≡ level_in entry + 1) }
 {
-    let link = link_of(entry as usize) as u32;
-    let level = level_of(entry as usize) as u32;
+    let e = entry as usize;
     Hop {
-        link: link + 1,
-        level: level + 1,
+        link: link_of(e) as u32 + 1,
+        level: level_of(e) as u32 + 1,
     }
 }
 
@@ -81,6 +80,7 @@ pub(crate) fn queue_position(e: usize) -> usize
 }
 
 // How many links there are.
+#[tactic(auto, unfolding(crate::specs::View::link_count))]
 pub fn link_count(table: &[u32]) -> usize
     requires { length table.now ≡ table_numbers }
     ensures { (result ≡ link_count table.now) × (result < 2 ^ 32) }

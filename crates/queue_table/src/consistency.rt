@@ -11,6 +11,7 @@ use crate::row::{Row, in_range};
 use crate::{LEVELS, LINKS};
 
 // 2 of level p of link i, both counted from 0.
+#[tactic(auto, unfolding(model::specs::Consistent::row_of, crate::specs::View::queue_at, crate::specs::View::link_at))]
 fn level_in_range(i: usize, p: usize, table: &[u32]) -> bool
     requires { (i < links_most) × (p < levels_most) × (length table.now ≡ table_numbers) }
     ensures { result ≡ row_in_range (model.row_of (link_at table.now i) (queue_at table.now i p)) }
@@ -31,6 +32,7 @@ fn level_in_range(i: usize, p: usize, table: &[u32]) -> bool
 }
 
 // 2 of the first `levels` levels of link i.
+#[tactic(auto, using(crate::proofs::ConsistentLaws::every_none, crate::proofs::ConsistentLaws::every_passed))]
 fn levels_in_range(i: usize, levels: usize, table: &[u32]) -> bool
     requires { (i < links_most) × (levels ≤ levels_most) × (length table.now ≡ table_numbers) }
     ensures { result ≡ every (λ q. row_in_range (model.row_of (link_at table.now i) q)) (up_to levels (queue_at table.now i)) }
@@ -55,6 +57,7 @@ fn link_consistent(i: usize, table: &[u32]) -> bool
 }
 
 // Whether an array of any content holds a table that passes 2 to 4.
+#[tactic(auto, using(crate::proofs::ConsistentLaws::every_none, crate::proofs::ConsistentLaws::every_passed, crate::proofs::ConsistentLaws::table_at))]
 pub fn consistent(table: &[u32]) -> bool
     requires { length table.now ≡ table_numbers }
     ensures { result ≡ model.table_consistent (table_of table.now) }

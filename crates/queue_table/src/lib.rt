@@ -100,10 +100,10 @@ pub struct QueueTable {
 }
 
 // Stores a line's numbers. Within a link those of the link are stored again as they were.
-fn store_row(r: Row, table: &mut [u32]) -> usize
+#[tactic(auto, unfolding(crate::specs::View::link_stored, crate::specs::View::queue_stored))]
+fn store_row(r: Row, table: &mut [u32])
     requires { Placed (numbers_of r) table.old }
-    ensures value { result ≡ r.link }
-    ensures table_after { table.new ≡ row_stored (numbers_of r) table.old }
+    ensures { table.new ≡ row_stored (numbers_of r) table.old }
 {
     let link = r.link as usize;
     let level = r.level as usize;
@@ -117,7 +117,6 @@ fn store_row(r: Row, table: &mut [u32]) -> usize
     let q = queue_position(entry_at(link - 1, level - 1));
     table[q] = r.threshold;
     table[q + 1] = r.buffer;
-    link
 }
 
 // Judges a line after n links and adds it where nothing is against it. Gives the number of links from then on.
@@ -128,7 +127,8 @@ fn add_line(line: &[u8], n: usize, table: &mut [u32]) -> Result<usize, Fault>
 {
     let row = read_row(line).ok_or(Fault::Malformed)?;
     judge_row(row, n, &table[..])?;
-    Ok(store_row(row, table))
+    store_row(row, table);
+    Ok(row.link as usize)
 }
 
 // Judges and adds the line that starts at `at`, after n links.
@@ -176,7 +176,7 @@ pub fn read_into(text: &[u8], table: &mut [u32]) -> Result<(), Refusal>
 {
     let read = read_lines(text, table);
     table[COUNT] = read.unwrap_or(0) as u32;
-    read.and(Ok(()))
+    read.map(|_| ())
 }
 
 // The table of a text, by value.

@@ -31,6 +31,7 @@ fn is_row_length(columns: usize) -> bool
 }
 
 // A field that shorter lines haven't: there it is 0.
+#[tactic(auto, unfolding(model::specs::QueueTable::later_field))]
 fn later_field(line: &[u8], first: usize, last: usize) -> Option<u32>
     requires { (1 ≤ first) × ((first ≤ last) × (last < first + 9)) }
     ensures { value_of result ≡ later_field first last line.now }
@@ -106,9 +107,9 @@ fn in_turn(r: Row, n: usize, table: &[u32]) -> bool
     requires { (n ≤ links_most) × (length table.now ≡ table_numbers) }
     ensures { result ≡ row_in_turn (links_of n table.now) (numbers_of r) }
 {
-    let few_links = r.link as usize <= LINKS;
-    let few_levels = r.level as usize <= LEVELS;
-    few_links && few_levels && (begins(r, n) || continues(r, n, table))
+    r.link as usize <= LINKS
+        && r.level as usize <= LEVELS
+        && (begins(r, n) || continues(r, n, table))
 }
 
 // The line has all that is the link's as the newest of n links has it.
