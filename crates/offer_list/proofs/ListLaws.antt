@@ -13,13 +13,15 @@ use Rattle.model.proofs.Laws.Batch.{line_bytes, lines-within}
 use Rattle.model.specs.Gate.{Gate, GateAnswer, turn, offer, open_gate}
 use Rattle.model.specs.OfferList.{Opening, Step, opening_fields, read_opening, step_fields, read_step, gate_line, step_text, steps_text, opened_text, opening_text, list_text, offers_text}
 use Rattle.columns.proofs.PartLaws.{field_next, byte_next, text-put, Filling, filling-first, filling-room, filling-put, filling-last}
-use Rattle.columns.specs.View.{FirstLine}
-use Rattle.columns.specs.declared.NextLine.TheVariants.{Ended, Unended}
+use Rattle.std.specs.Prelude.{Some, None}
+use Rattle.std.specs.Prelude as code
+use Rattle.std.specs.Fn.{FnReturnsAt}
+use denote.Param.Members.{Shared}
+use denote.Ref.{Bor}
 use Rattle.offer_list.specs.declared.Opening as code-opening
 use Rattle.offer_list.specs.declared.Step as code_step
-use Rattle.offer_list.specs.declared.FoundOpening.TheVariants as found-opening
-use Rattle.offer_list.specs.declared.FoundStep.TheVariants as found-step
-use Rattle.offer_list.specs.View.{gate_line_bytes, pair_at, opening_of, step_of, FirstStep, FirstOpening}
+use Rattle.offer_list.specs.View as line-read
+use Rattle.offer_list.specs.View.{gate_line_bytes, pair_at, opening_of, opening_in, step_of, step_in, LineRead, FirstStep, FirstOpening}
 
 -- An answer line, field by field, and its bytes.
 pub gate-line-written : (l : List ℕ) (a : GateAnswer) → gate_line_bytes ≤ length l
@@ -86,46 +88,41 @@ opening-as line h p q e d =
     go (some x) (some y) (some z) none = refl
     go (some x) (some y) (some z) (some w) = refl
 
--- A line that ends in LF, by what is read of it: a step from `at` on, or the opening at 0.
-module _ (text : List ℕ) (at end : ℕ) (first : FirstLine text at (Ended end)) where
-  abbrev line : List ℕ
-  line = take (end - at) (drop at text)
+-- What a line says by a reader that reads what the model does: a step from `at` on, or the opening at 0.
+abbrev step_then : (ls : List Line) (n clock : ℕ) → Gate → Option Step → List ℕ
+step_then ls n clock g s = step_text n clock g s λ now g'. steps_text (suc n) now g' ls
 
-  abbrev rest : List Line
-  rest = lines (drop (end + 1) text)
-
-  step_same : {s : Option Step} → read_step line ≡ s → (n clock : ℕ) (g : Gate)
-      → steps_text n clock g (lines (drop at text)) ≡ step_text n clock g s λ now g'. steps_text (suc n) now g' rest
-  unfolding steps_text
-  step_same e n clock g = ap (steps_text n clock g) first.same ∙ ap (λ (s : Option Step). step_text n clock g s λ now g'. steps_text (suc n) now g' rest) e
-
-  pub step-malformed : read_step line ≡ none → FirstStep text at found-step.Malformed
-  unfolding step_text
-  step-malformed e = record { same = step_same e; within = tt }
-
-  pub step-read : (s : code_step.Step) → read_step line ≡ some (step_of s) → FirstStep text at (found-step.Read s (end + 1))
-  step-read s e = record { same = step_same e; within = (omega (arith, first.within.0), omega (arith, first.within.1)) }
-
-module _ (text : List ℕ) (end : ℕ) (first : FirstLine text 0 (Ended end)) where
-  opening-same : {o : Option Opening} → read_opening (line text 0 end first) ≡ o → offers_text text ≡ opening_text o (rest text 0 end first)
-  unfolding offers_text list_text
-  opening-same e = ap list_text first.same ∙ ap (λ (o : Option Opening). opening_text o (rest text 0 end first)) e
-
-  pub opening-malformed : read_opening (line text 0 end first) ≡ none → FirstOpening text found-opening.Malformed
-  unfolding opening_text
-  opening-malformed e = record { same = opening-same e; within = tt }
-
-  pub opening-read : (o : code-opening.Opening) → read_opening (line text 0 end first) ≡ some (opening_of o) → FirstOpening text (found-opening.Read o (end + 1))
-  opening-read o e = record { same = opening-same e; within = omega (arith, first.within.1) }
-
--- One that doesn't.
-pub step-unended : (text : List ℕ) (at : ℕ) → FirstLine text at Unended → FirstStep text at found-step.Malformed
+pub step-found : {F : Type 0} {g : Shared F (Bor (List ℕ) × Unit {0}) (code.Option code_step.Step)} {f : F} {text : List ℕ} {at : ℕ} {found : code.Option (code_step.Step × ℕ)}
+    → LineRead (FnReturnsAt g f) text at found
+    → ((line : Bor (List ℕ)) (s : code.Option code_step.Step) → g.post f (line, tt) s → step_in s ≡ read_step line.now)
+    → FirstStep text at found
 unfolding steps_text step_text
-step-unended text at first = record { same = λ n clock g. ap (steps_text n clock g) first.same; within = tt }
+step-found (line-read.unended first) reads = record { same = λ n clock g. ap (steps_text n clock g) first.same; within = tt }
+step-found {text} (line-read.malformed {end} first r) reads =
+    let is = reads r.shown _ r.says.met ∙ ap read_step r.shows in
+    record { same = λ n clock g. ap (steps_text n clock g) first.same ∙ ap (step_then (lines (drop (end + 1) text)) n clock g) (sym is); within = tt }
+step-found {text} (line-read.read {end} first r) reads =
+    let is = reads r.shown _ r.says.met ∙ ap read_step r.shows in
+    record {
+      same = λ n clock g. ap (steps_text n clock g) first.same ∙ ap (step_then (lines (drop (end + 1) text)) n clock g) (sym is);
+      within = (omega (arith, first.within.0), omega (arith, first.within.1));
+    }
 
-pub opening-unended : (text : List ℕ) → FirstLine text 0 Unended → FirstOpening text found-opening.Malformed
+pub opening-found : {F : Type 0} {g : Shared F (Bor (List ℕ) × Unit {0}) (code.Option code-opening.Opening)} {f : F} {text : List ℕ} {found : code.Option (code-opening.Opening × ℕ)}
+    → LineRead (FnReturnsAt g f) text 0 found
+    → ((line : Bor (List ℕ)) (o : code.Option code-opening.Opening) → g.post f (line, tt) o → opening_in o ≡ read_opening line.now)
+    → FirstOpening text found
 unfolding offers_text list_text opening_text
-opening-unended text first = record { same = ap list_text first.same; within = tt }
+opening-found (line-read.unended first) reads = record { same = ap list_text first.same; within = tt }
+opening-found {text} (line-read.malformed {end} first r) reads =
+    let is = reads r.shown _ r.says.met ∙ ap read_opening r.shows in
+    record { same = ap list_text first.same ∙ ap (λ (o : Option Opening). opening_text o (lines (drop (end + 1) text))) (sym is); within = tt }
+opening-found {text} (line-read.read {end} first r) reads =
+    let is = reads r.shown _ r.says.met ∙ ap read_opening r.shows in
+    record {
+      same = ap list_text first.same ∙ ap (λ (o : Option Opening). opening_text o (lines (drop (end + 1) text))) (sym is);
+      within = omega (arith, first.within.1);
+    }
 
 -- 18 bytes are printed for the 15 of a line that is read, so 6 for 5; and 14 where the list breaks off.
 steps-most : (n clock : ℕ) (g : Gate) (ls : List Line) → 5 * length (steps_text n clock g ls) ≤ 6 * total line_bytes ls + 70
@@ -185,7 +182,7 @@ answering-first text before g clock from within room =
 
 module _ {text all before part : List ℕ} {g : Gate} {clock at line filled : ℕ} (now : Answering text all before part g clock at line filled) where
   -- A line that is read has room for its answer, and is followed by the next.
-  module _ {s : code_step.Step} {next : ℕ} (found : FirstStep text at (found-step.Read s next)) (reading : ℕ) (is : reading ≡ (clock + s.micros) % turn) (a : GateAnswer)
+  module _ {s : code_step.Step} {next : ℕ} (found : FirstStep text at (Some (s, next))) (reading : ℕ) (is : reading ≡ (clock + s.micros) % turn) (a : GateAnswer)
       (answered : a ≡ offer g s.length.0 reading) where
     splits : steps_text line clock g (lines (drop at text)) ≡ gate_line a ++ steps_text (line + 1) reading a.gate (lines (drop next text))
     unfolding step_text
@@ -206,14 +203,14 @@ module _ {text all before part : List ℕ} {g : Gate} {clock at line filled : �
           fills = filling-put now.fills (gate_line a) more splits gate_line_bytes (sym (gate-line-long a)) part' put;
         }
 
-  pub answer-room : {s : code_step.Step} {next : ℕ} → FirstStep text at (found-step.Read s next) → filled + gate_line_bytes ≤ length part
+  pub answer-room : {s : code_step.Step} {next : ℕ} → FirstStep text at (Some (s, next)) → filled + gate_line_bytes ≤ length part
   answer-room {s} {next} found =
       let reading = (clock + s.micros) % turn in
       let a = offer g s.length.0 reading in
       filling-room now.fills (gate_line a) (steps_text (line + 1) reading a.gate (lines (drop next text))) (splits found reading refl a refl) gate_line_bytes (sym (gate-line-long a))
 
   -- One that is malformed has room for what is said of it, and is the last.
-  module _ (found : FirstStep text at found-step.Malformed) where
+  module _ (found : FirstStep text at None) where
     breaks : steps_text line clock g (lines (drop at text)) ≡ end_line line ++ []
     breaks = found.same line clock g ∙ sym (append-nil (end_line line))
 

@@ -2,13 +2,14 @@
 #![tactic(auto)]
 
 ghost use Rattle.std.specs.Prelude.{◌≡◌, ◌+◌, ◌<◌, ◌≤◌, ◌++◌, length, drop};
+ghost use Rattle.std.specs.Fn.{FnReturnsAt};
 ghost use Rattle.std.proofs.Math.Option.{some};
 ghost use Rattle.model.specs.Columns.{lines};
 ghost use Rattle.model.specs.OfferList.{read_opening, read_step, gate_line, steps_text, opening_text, offers_text};
 ghost use Rattle.sender_gate.specs.View.{gate_of, answer_of};
-ghost use Rattle.offer_list.specs.View.{gate_line_bytes, pair_at, pair_in, opening_of, opening_in, step_in, FirstStep, FirstOpening};
+ghost use Rattle.offer_list.specs.View.{gate_line_bytes, pair_at, pair_in, opening_of, opening_in, step_in, LineRead};
 
-use columns::{END, Field, LF, NextLine};
+use columns::{END, LF};
 use sender_gate::{Gate, GateAnswer};
 use units::{Bytes, Rate};
 
@@ -33,12 +34,6 @@ struct Opening {
     reading: u32,
 }
 
-#[derive(Clone, Copy)]
-enum OpeningRead {
-    Fields(Opening),
-    Malformed,
-}
-
 // A frame's bytes, and the µs since the line before.
 #[derive(Clone, Copy)]
 struct Step {
@@ -46,107 +41,54 @@ struct Step {
     micros: u32,
 }
 
-#[derive(Clone, Copy)]
-enum StepRead {
-    Fields(Step),
-    Malformed,
-}
-
-// Two fields of a line, one right after the other.
-#[derive(Clone, Copy)]
-enum Pair {
-    Numbers(u32, u32),
-    Malformed,
-}
-
-// What the first line of a part of the list says, and where the next one starts.
-#[derive(Clone, Copy)]
-enum FoundOpening {
-    Read(Opening, usize),
-    Malformed,
-}
-
-#[derive(Clone, Copy)]
-enum FoundStep {
-    Read(Step, usize),
-    Malformed,
-}
-
-// The fields in columns `first` to `middle` and after them to `last`, counted from 1, up to 9 each.
-fn read_pair(line: &[u8], first: usize, middle: usize, last: usize) -> Pair
+// The fields in columns `first` to `middle` and after them to `last`, counted from 1, up to 9 each; none where one is malformed.
+fn read_pair(line: &[u8], first: usize, middle: usize, last: usize) -> Option<(u32, u32)>
     requires { (1 ≤ first) × ((first ≤ middle) × ((middle < first + 9) × ((middle < last) × (last ≤ middle + 9)))) }
     ensures { pair_in result ≡ pair_at first middle last line.now }
 {
-    let Field::Number(a) = columns::read_at(line, first, middle) else {
-        return Pair::Malformed;
-    };
-    let Field::Number(b) = columns::read_at(line, middle + 1, last) else {
-        return Pair::Malformed;
-    };
-    Pair::Numbers(a, b)
+    let a = columns::read_at(line, first, middle)?;
+    let b = columns::read_at(line, middle + 1, last)?;
+    Some((a, b))
 }
 
-fn read_opening(line: &[u8]) -> OpeningRead
+fn read_opening(line: &[u8]) -> Option<Opening>
     ensures { opening_in result ≡ read_opening line.now }
 {
     if line.len() != OPENING_COLUMNS {
-        return OpeningRead::Malformed;
+        return None;
     }
-    let Pair::Numbers(rate, burst) = read_pair(line, 1, 9, 17) else {
-        return OpeningRead::Malformed;
-    };
-    let Pair::Numbers(frame, reading) = read_pair(line, 18, 22, 31) else {
-        return OpeningRead::Malformed;
-    };
-    OpeningRead::Fields(Opening {
-        rate: Rate(columns::wide(rate)),
-        burst: Bytes(columns::wide(burst)),
-        frame: Bytes(columns::wide(frame)),
+    let (rate, burst) = read_pair(line, 1, 9, 17)?;
+    let (frame, reading) = read_pair(line, 18, 22, 31)?;
+    Some(Opening {
+        rate: Rate(u64::from(rate)),
+        burst: Bytes(u64::from(burst)),
+        frame: Bytes(u64::from(frame)),
         reading,
     })
 }
 
-fn read_step(line: &[u8]) -> StepRead
+fn read_step(line: &[u8]) -> Option<Step>
     ensures { step_in result ≡ read_step line.now }
 {
     if line.len() != STEP_COLUMNS {
-        return StepRead::Malformed;
+        return None;
     }
-    let Pair::Numbers(length, micros) = read_pair(line, 1, 5, 14) else {
-        return StepRead::Malformed;
-    };
-    StepRead::Fields(Step {
-        length: Bytes(columns::wide(length)),
+    let (length, micros) = read_pair(line, 1, 5, 14)?;
+    Some(Step {
+        length: Bytes(u64::from(length)),
         micros,
     })
 }
 
-// The first line of the list.
-fn first_opening(text: &[u8]) -> FoundOpening
-    requires { 0 < length text.now }
-    ensures { FirstOpening text.now result }
+// What the line that starts at `at` says, and where the next one starts; none where it is unended or malformed.
+fn read_line<T, F: Fn(&[u8]) -> Option<T>>(text: &[u8], at: usize, read: F) -> Option<(T, usize)>
+    requires within { at < length text.now }
+    requires callable { F.IsAlwaysCallable read }
+    ensures { LineRead (FnReturnsAt F.Fn read) text.now at result }
 {
-    let NextLine::Ended(end) = columns::next_line(text, 0) else {
-        return FoundOpening::Malformed;
-    };
-    let OpeningRead::Fields(opening) = read_opening(&text[0..end]) else {
-        return FoundOpening::Malformed;
-    };
-    FoundOpening::Read(opening, end + 1)
-}
-
-// The line that starts at `at`.
-fn next_step(text: &[u8], at: usize) -> FoundStep
-    requires { at < length text.now }
-    ensures { FirstStep text.now at result }
-{
-    let NextLine::Ended(end) = columns::next_line(text, at) else {
-        return FoundStep::Malformed;
-    };
-    let StepRead::Fields(step) = read_step(&text[at..end]) else {
-        return FoundStep::Malformed;
-    };
-    FoundStep::Read(step, end + 1)
+    let end = columns::next_line(text, at)?;
+    let fields = read(&text[at..end])?;
+    Some((fields, end + 1))
 }
 
 // An answer line at the front of `part`.
@@ -154,9 +96,8 @@ fn write_answer(answer: GateAnswer, part: &mut [u8])
     requires { gate_line_bytes ≤ length part.old }
     ensures { part.new ≡ gate_line (answer_of answer) ++ drop gate_line_bytes part.old }
 {
-    let gate = answer.gate;
-    columns::write_at(part, 1, 3, columns::wide(answer.code));
-    columns::write_at(part, 4, 17, gate.tokens.0);
+    columns::write_at(part, 1, 3, u64::from(answer.code));
+    columns::write_at(part, 4, 17, answer.gate.tokens.0);
     part[17] = LF;
 }
 
@@ -172,13 +113,12 @@ fn answer_steps(text: &[u8], from: usize, first: Gate, reading: u32, part: &mut 
     let mut line: u64 = 2;
     let mut filled = 0;
     while at < text.len() {
-        let FoundStep::Read(step, next) = next_step(text, at) else {
+        let Some((step, next)) = read_line(text, at, read_step) else {
             columns::write_end(&mut part[filled..], line);
             return filled + END;
         };
-        let length = step.length;
-        clock = std::num::wrapping_add_u32(clock, step.micros);
-        let answer = sender_gate::offer(gate, length, clock);
+        clock = clock.wrapping_add(step.micros);
+        let answer = sender_gate::offer(gate, step.length, clock);
         write_answer(answer, &mut part[filled..]);
         gate = answer.gate;
         at = next;
@@ -194,17 +134,19 @@ fn answer_opening(text: &[u8], next: usize, opening: Opening, area: &mut [u8]) -
     ensures area_after { area.new ≡ opening_text (some (opening_of opening)) (lines (drop next text.now)) ++ drop result area.old }
     ensures value { result ≡ length (opening_text (some (opening_of opening)) (lines (drop next text.now))) }
 {
-    let rate = opening.rate;
-    let burst = opening.burst;
-    let frame = opening.frame;
-    let reading = opening.reading;
-    let opened = sender_gate::open(rate, burst, frame, reading);
+    let opened = sender_gate::open(opening.rate, opening.burst, opening.frame, opening.reading);
     write_answer(opened, area);
     if opened.code != 0 {
         return ANSWER;
     }
-    let gate = opened.gate;
-    ANSWER + answer_steps(text, next, gate, reading, &mut area[ANSWER..])
+    ANSWER
+        + answer_steps(
+            text,
+            next,
+            opened.gate,
+            opening.reading,
+            &mut area[ANSWER..],
+        )
 }
 
 // What is printed of a list, written to the front of the area: how many bytes that takes.
@@ -213,10 +155,10 @@ pub fn answer(text: &[u8], area: &mut [u8]) -> usize
     ensures area_after { area.new ≡ offers_text text.now ++ drop result area.old }
     ensures value { result ≡ length (offers_text text.now) }
 {
-    if text.len() == 0 {
+    if text.is_empty() {
         return 0;
     }
-    let FoundOpening::Read(opening, next) = first_opening(text) else {
+    let Some((opening, next)) = read_line(text, 0, read_opening) else {
         columns::write_end(area, 1);
         return END;
     };

@@ -1,5 +1,5 @@
 -- `offer_list::answer_opening` meets its contract: the opening's line, and behind it those of the offers, if it is done.
-use Rattle.std.proofs.Common.{◌≡◌, ℕ, ◌+◌, ◌-◌, ◌≤◌, List, ◌++◌, length, drop, sym, ap, ◌∙◌, arith, length-append, length-drop}
+use Rattle.std.proofs.Common.{◌≡◌, ℕ, ◌+◌, ◌-◌, ◌≤◌, List, ◌++◌, length, drop, sym, ap, ◌∙◌, arith, length-append}
 use mathlib.Core.Option.{some}
 use borrow.Rule.Slice.PartMut.{put_mid}
 use Rattle.model.specs.Columns.{lines}
@@ -41,21 +41,15 @@ followed c =
     let more = steps_text 2 c.args.opening.reading a.gate (lines (drop c.args.next c.args.text.now)) in
     omega (arith, c.requires.1, ap length (whole c), length-append (gate_line a) more, gate-line-long a)
 
-same_area : (c : lts.After-write_answer tie.the-claims reads.Pre reads.Post tie.handed_clauses) → length c.write_answer.new.part ≡ length c.args.area.now
-same_area c = c.write_answer.auto.part
-
 pub slice_bounds-answer_steps-count : goal.slice_bounds-answer_steps-count
-slice_bounds-answer_steps-count c = omega (arith, followed c.before.before, same_area c.before.before.before.before.before.before)
+slice_bounds-answer_steps-count c = omega (arith, followed c.before.before)
 
 pub slice_bounds-answer_steps-start : goal.slice_bounds-answer_steps-start
-slice_bounds-answer_steps-start c = omega (arith, followed c.before.before, same_area c.before.before.before.before.before.before)
+slice_bounds-answer_steps-start c = omega (arith, followed c.before.before)
 
 pub answer_steps-requires : goal.answer_steps-requires
 answer_steps-requires c =
-    (c.requires.0, part-long c.write_answer.new.part gate_line_bytes _ (omega (arith, followed c.before.before.before, same_area c.before.before.before.before.before.before.before)))
-
-pub overflow_add-result : goal.overflow_add-result
-overflow_add-result c = omega (arith, followed c.before.before.before.before.before.before, c.answer_steps.ensures.value, c.well_formed)
+    (c.requires.0, part-long c.write_answer.new.part gate_line_bytes _ (omega (arith, followed c.before.before.before)))
 
 -- The area in the end.
 written : (c : lts.After-answer_steps tie.the-claims reads.Pre reads.Post tie.handed_clauses) → let args = c.args in
@@ -78,14 +72,6 @@ size c =
     let args = c.args in
     let a = answer_of c.open-opened.result in
     omega (arith, c.answer_steps.ensures.value, ap length (whole c.before.before.before), length-append (gate_line a) (steps_text 2 args.opening.reading a.gate (lines (drop args.next args.text.now))), gate-line-long a)
-
-pub shape_of-area : goal.shape_of-area
-shape_of-area c =
-    let area = c.args.area.now in
-    let text = opening_text (some (opening_of c.args.opening)) (lines (drop c.args.next c.args.text.now)) in
-    ap length (written c.before.before.before)
-    ∙ length-append text (drop (gate_line_bytes + c.answer_steps.result) area)
-    ∙ omega (arith, length-drop (gate_line_bytes + c.answer_steps.result) area, size c.before.before.before, c.requires.1)
 
 pub returns : goal.returns
 returns c = record { area_after = written c.before.before.before; value = size c.before.before.before }
