@@ -1,52 +1,10 @@
--- Numbers moved within the pool: a turn of the loop, and where each stands afterwards; the pool in the whole array.
+-- Numbers moved within the pool: where each stands afterwards; the pool in the whole array.
 -- Assumes nothing.
-use Rattle.std.proofs.Common.{◌≡◌, ℕ, suc, ◌+◌, ◌-◌, ◌<◌, ◌≤◌, List, [], ◌∷◌, ◌++◌, length, get_or, take, drop, set, sym, ap, ◌∙◌, ap₂, append_assoc, append-nil, add-one, arith, length-append, length-drop, length-set, drop_of_length-le, length-take-le, get_or-drop, take_all, drop-cons, get_or-take, take-suc, get_or-set_same, take-take, take-suc-set, take_at, drop-set-lt, drop_at}
+use Rattle.std.proofs.Common.{◌≡◌, ℕ, ◌+◌, ◌-◌, ◌<◌, ◌≤◌, List, ◌++◌, length, get_or, take, drop, sym, ap, ◌∙◌, append_assoc, append-nil, arith, length-append, length-drop, drop_of_length-le, length-take-le, take_all, get_or-take, take-take, take_at, drop_at}
 use lib.ListN.{get_or-append}
-use lib.Seq.{append_snoc, take-set-le, drop-set-add, take-length, paste, drop-paste, length-paste}
+use lib.Seq.{take-length, paste, drop-paste, length-paste}
 use borrow.Rule.Slice.PartMut.{put_mid}
 use Rattle.flow_store.specs.View.{slot_numbers, store_numbers, pool_of, path_inserted, path_removed}
-
--- With j, the last of the numbers to move, stored at k, one less is left to move.
-pub up_turn : (d : List ℕ) (start by n j k m : ℕ) → j ≡ start + n → k ≡ start + by + n → m ≡ suc n → k < length d
-    → paste (set d k (get_or d j 0)) (start + by) (drop start (set d k (get_or d j 0))) n ≡ paste d (start + by) (drop start d) m
-up_turn d start by n j k m ej ek em h =
-    let v = get_or d j 0 in
-    let at = start + by in
-    let front : take at (set d k v) ≡ take at d = take-set-le at d k v (omega arith) in
-    let far : k ≡ start + (by + n) = omega arith in
-    let inner : take n (drop start (set d k v)) ≡ take n (drop start d) =
-    ap (λ (i : ℕ). take n (drop start (set d i v))) far
-    ∙ ap (take n) (drop-set-add start d (by + n) v)
-    ∙ take-set-le n (drop start d) (by + n) v (omega arith) in
-    let rest : drop (at + n) (set d k v) ≡ v ∷ drop (suc k) d =
-    ap (λ (i : ℕ). drop i (set d k v)) (sym ek)
-    ∙ drop-cons (set d k v) k 0 (omega (arith, length-set d k v))
-    ∙ ap₂ (λ (x : ℕ) (l : List ℕ). x ∷ l) (get_or-set_same d k v 0 h) (drop-set-lt (suc k) d k v (omega arith)) in
-    let last : take m (drop start d) ≡ take n (drop start d) ++ (v ∷ []) =
-    ap (λ (i : ℕ). take i (drop start d)) em
-    ∙ take-suc (drop start d) n 0 (omega (arith, length-drop start d))
-    ∙ ap (λ (x : ℕ). take n (drop start d) ++ (x ∷ [])) (get_or-drop start d n 0 ∙ ap (λ (i : ℕ). get_or d i 0) (sym ej)) in
-    let end : suc k ≡ at + m = omega arith in
-    rw (front, inner, rest, last, end)
-    (sym (append_snoc (take at d ++ take n (drop start d)) v (drop (at + m) d))
-    ∙ ap (λ (l : List ℕ). l ++ drop (at + m) d) (append_assoc (take at d) (take n (drop start d)) (v ∷ [])))
-
--- The same downwards, the first of the numbers stored at i.
-pub down_turn : (d : List ℕ) (by n i m : ℕ) → m ≡ suc n → i + by < length d
-    → paste (set d i (get_or d (i + by) 0)) (i + 1) (drop (i + 1 + by) (set d i (get_or d (i + by) 0))) n ≡ paste d i (drop (i + by) d) m
-down_turn d by n i m em h =
-    let v = get_or d (i + by) 0 in
-    let front : take (i + 1) (set d i v) ≡ take i d ++ (v ∷ []) =
-    ap (λ (j : ℕ). take j (set d i v)) (add-one i) ∙ take-suc-set d i v (omega arith) in
-    let far : i + 1 + by ≡ suc (i + by) = omega arith in
-    let inner : drop (i + 1 + by) (set d i v) ≡ drop (suc (i + by)) d =
-    drop-set-lt (i + 1 + by) d i v (omega arith) ∙ ap (λ (j : ℕ). drop j d) far in
-    let end : i + 1 + n ≡ i + m = omega arith in
-    let rest : drop (i + 1 + n) (set d i v) ≡ drop (i + m) d =
-    drop-set-lt (i + 1 + n) d i v (omega arith) ∙ ap (λ (j : ℕ). drop j d) end in
-    let first : take m (drop (i + by) d) ≡ v ∷ take n (drop (suc (i + by)) d) =
-    ap (λ (j : ℕ). take j (drop (i + by) d)) em ∙ ap (take (suc n)) (drop-cons d (i + by) 0 h) in
-    rw (front, inner, rest, first) (ap (λ (l : List ℕ). l ++ drop (i + m) d) (append_snoc (take i d) v (take n (drop (suc (i + by)) d))))
 
 module _ (d : List ℕ) (at : ℕ) (s : List ℕ) (n : ℕ) (inside : at ≤ length d) where
   -- Before the copied numbers, and these.

@@ -1,5 +1,6 @@
 -- What the two arrays of flows say in the terms of the model.
-use Rattle.std.specs.Prelude.{◌≡◌, ℕ, zero, suc, ◌+◌, ◌-◌, ◌*◌, ◌/◌, ◌%◌, ◌^◌, ◌<◌, ◌≤◌, Bool, true, false, cond, List, [], ◌∷◌, map, length, take, drop, set, ◌≢◌, slice_index, slice_set}
+use Rattle.std.specs.Prelude.{◌≡◌, ℕ, zero, suc, ◌+◌, ◌-◌, ◌*◌, ◌/◌, ◌%◌, ◌^◌, ◌<◌, ◌≤◌, Bool, true, false, cond, List, [], ◌∷◌, map, length, take, drop, set, ◌≢◌, slice_index, slice_set, MatchOption}
+use Rattle.std.specs.Prelude as code
 use Rattle.std.proofs.Math.Option.{none, some}
 use Rattle.std.proofs.Math.Seq.{paste}
 use Rattle.model.specs.Sizes.{slot_count, hop_entries}
@@ -212,3 +213,7 @@ block_slots = 16
 -- None of the slots from `i` up to `end`, held or free, has this flow number.
 abbrev pub OthersFrom : (number : ℕ) (store : List ℕ) (i end : ℕ) → Type 0
 OthersFrom number store i end = (j : ℕ) → i ≤ j → j < end → slice_index store j ≢ number
+
+-- The slot that a search gives, where `first` is the first slot that is looked for, and the number of slots where there is none.
+abbrev pub FoundSlot : (first : ℕ) → code.Option ℕ → Type 0
+FoundSlot first r = MatchOption r (first ≡ slot_count) (λ slot. (slot < slot_count) × (slot ≡ first))

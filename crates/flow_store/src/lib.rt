@@ -17,7 +17,7 @@ ghost use Rattle.model.specs.Reference.{holds, changed_slot};
 ghost use Rattle.units.specs.View.{aggregate_of};
 ghost use Rattle.orders.specs.View.{change_of, fields_of};
 ghost use Rattle.bit_words.specs.View.{is_set, LeastClear};
-ghost use Rattle.flow_store.specs.View.{store_numbers, slot_words, block_slots, hops_at, start_at, head_at, share_at, entries_in, slots_of, counts_from, Packed, PackedStore, PathInside, end_before, flow_stored, StartsMoved, path_inserted, path_removed, Narrow, ChangeNarrow, Placeable, Placed, FreeFrom, OthersFrom};
+ghost use Rattle.flow_store.specs.View.{store_numbers, slot_words, block_slots, hops_at, start_at, head_at, share_at, entries_in, slots_of, counts_from, Packed, PackedStore, PathInside, end_before, flow_stored, StartsMoved, path_inserted, path_removed, Narrow, ChangeNarrow, Placeable, Placed, FreeFrom, OthersFrom, FoundSlot};
 
 use orders::{Change, Flow};
 use units::{Aggregate, Bytes, Micros, Rate};
@@ -59,11 +59,11 @@ pub fn flow_at(slot: usize, store: &[u32]) -> Flow
     Flow {
         number: store[slot],
         share: Aggregate {
-            rate: Rate(store[RATES + slot] as u64),
-            burst: Bytes(store[BURSTS + slot] as u64),
-            frame: Bytes(store[FRAMES + slot] as u64),
+            rate: Rate(u64::from(store[RATES + slot])),
+            burst: Bytes(u64::from(store[BURSTS + slot])),
+            frame: Bytes(u64::from(store[FRAMES + slot])),
         },
-        deadline: Micros(store[DEADLINES + slot] as u64),
+        deadline: Micros(u64::from(store[DEADLINES + slot])),
         hops: store[HOPS + slot],
     }
 }
@@ -108,13 +108,8 @@ fn block_names(number: u32, from: usize, store: &[u32]) -> bool
     ensures { result ≡ false → OthersFrom number store.now from (from + block_slots) }
 {
     let mut any = false;
-    let mut i = from;
-    while i < from + BLOCK {
-        let own = store[i];
-        i += 1;
-        if own == number {
-            any = true;
-        }
+    for own in &store[from..from + BLOCK] {
+        any |= *own == number;
     }
     any
 }
@@ -124,29 +119,25 @@ fn skip_others(number: u32, store: &[u32]) -> usize
     requires { length store.now ≡ store_numbers }
     ensures { (result ≤ slot_count) × OthersFrom number store.now 0 result }
 {
-    let mut i = 0;
-    while i < SLOTS {
-        if block_names(number, i, store) {
-            return i;
+    for from in (0..SLOTS).step_by(BLOCK) {
+        if block_names(number, from, store) {
+            return from;
         }
-        i += BLOCK;
     }
-    i
+    SLOTS
 }
 
-// The slot that holds the flow with this number, SLOTS where none does.
-pub fn find(number: u32, bits: &[u64], store: &[u32]) -> usize
+// The slot that holds the flow with this number.
+pub fn find(number: u32, bits: &[u64], store: &[u32]) -> Option<usize>
     requires { (length bits.now ≡ slot_words) × (length store.now ≡ store_numbers) }
-    ensures { result ≡ first_index (holds number) (slots_of bits.now store.now) }
+    ensures { FoundSlot (first_index (holds number) (slots_of bits.now store.now)) result }
 {
-    let mut i = skip_others(number, store);
-    while i < SLOTS {
-        if store[i] == number && is_held(i, bits) {
-            return i;
+    for slot in skip_others(number, store)..SLOTS {
+        if store[slot] == number && is_held(slot, bits) {
+            return Some(slot);
         }
-        i += 1;
     }
-    i
+    None
 }
 
 // The lowest free slot, SLOTS where none is free.
@@ -176,17 +167,12 @@ pub fn is_packed(bits: &[u64], store: &[u32]) -> bool
     ensures fact { result ≡ false → Packed bits.now store.now → ⊥ }
 {
     let mut end = 0;
-    let mut slot = 0;
-    while slot < SLOTS {
-        let start = start_at(slot, store);
-        let hops = hops_at(slot, store);
-        let held = is_held(slot, bits);
-        slot += 1;
-        if held {
-            if start != end {
+    for slot in 0..SLOTS {
+        if is_held(slot, bits) {
+            if start_at(slot, store) != end {
                 return false;
             }
-            end += hops;
+            end += hops_at(slot, store);
             let past = POOL < end;
             if past {
                 return false;
@@ -215,37 +201,13 @@ pub fn held_entries(bits: &[u64], store: &[u32]) -> usize
     end_before(bit_words::past_set(bits), store)
 }
 
-// Copies all of one array to position `at` of another.
-fn copy(source: &[u32], target: &mut [u32], at: usize)
-    requires { at + length source.now ≤ length target.old }
-    ensures { target.new ≡ paste target.old at source.now (length source.now) }
-{
-    let mut i = 0;
-    while i < source.len() {
-        target[at + i] = source[i];
-        i += 1;
-    }
-}
-
-// Moves the numbers from position `start` up to `end` up by `by` positions, the last first.
-fn move_up(start: usize, end: usize, by: usize, pool: &mut [u32])
-    requires { (start ≤ end) × (end + by ≤ length pool.old) }
-    ensures { pool.new ≡ paste pool.old (start + by) (drop start pool.old) (end - start) }
-{
-    let mut i = end;
-    while start < i {
-        i -= 1;
-        pool[i + by] = pool[i];
-    }
-}
-
 // Puts a path at position `start` of a pool that is held up to `end`.
 fn insert_path(start: usize, end: usize, entries: &[u32], pool: &mut [u32])
     requires { (start ≤ end) × (end + length entries.now ≤ length pool.old) }
     ensures { pool.new ≡ path_inserted start end entries.now pool.old }
 {
-    move_up(start, end, entries.len(), pool);
-    copy(entries, pool, start);
+    pool.copy_within(start..end, start + entries.len());
+    pool[start..start + entries.len()].copy_from_slice(entries);
 }
 
 // Stores a flow's numbers and where its path starts. They fit the array: an order line's ranges are below 2^32.
@@ -253,19 +215,12 @@ fn store_flow(slot: usize, start: u32, flow: Flow, store: &mut [u32])
     requires { (slot < slot_count) × (length store.old ≡ store_numbers) × Narrow flow }
     ensures { store.new ≡ flow_stored slot start flow store.old }
 {
-    let number = flow.number;
-    let share = flow.share;
-    let rate = share.rate.0 as u32;
-    let burst = share.burst.0 as u32;
-    let frame = share.frame.0 as u32;
-    let deadline = flow.deadline.0 as u32;
-    let hops = flow.hops;
-    store[slot] = number;
-    store[RATES + slot] = rate;
-    store[BURSTS + slot] = burst;
-    store[FRAMES + slot] = frame;
-    store[DEADLINES + slot] = deadline;
-    store[HOPS + slot] = hops;
+    store[slot] = flow.number;
+    store[RATES + slot] = flow.share.rate.0 as u32;
+    store[BURSTS + slot] = flow.share.burst.0 as u32;
+    store[FRAMES + slot] = flow.share.frame.0 as u32;
+    store[DEADLINES + slot] = flow.deadline.0 as u32;
+    store[HOPS + slot] = flow.hops;
     store[STARTS + slot] = start;
 }
 
@@ -275,10 +230,8 @@ fn move_starts(from: usize, by: u32, store: &mut [u32])
     requires { (from ≤ slot_count) × (length store.old ≡ store_numbers) }
     ensures { StartsMoved from by store.old store.new }
 {
-    let mut i = STARTS + from;
-    while i < SLOT_NUMBERS {
-        store[i] = std::num::wrapping_add_u32(store[i], by);
-        i += 1;
+    for start in &mut store[STARTS + from..SLOT_NUMBERS] {
+        *start = start.wrapping_add(by);
     }
 }
 
@@ -328,10 +281,8 @@ pub fn change(slot: usize, given: Change, store: &mut [u32])
     ensures by_index { (bits : List ℕ) → slots_of bits store.new ≡ slice_set (slots_of bits store.old) slot (changed_slot (change_of given) (slice_index_or (slots_of bits store.old) slot none)) }
     ensures by_index_2 { (bits : List ℕ) → PackedStore bits store.old → PackedStore bits store.new }
 {
-    let rate = given.rate.0 as u32;
-    let burst = given.burst.0 as u32;
-    store[RATES + slot] = rate;
-    store[BURSTS + slot] = burst;
+    store[RATES + slot] = given.rate.0 as u32;
+    store[BURSTS + slot] = given.burst.0 as u32;
 }
 
 // Copies the path of a held slot to the front of `entries` and answers its hop count. What stands behind it then is free.
@@ -341,20 +292,16 @@ pub fn path_into(slot: usize, store: &[u32], entries: &mut [u32]) -> usize
     ensures entries_after { take result entries.new ≡ entries_in store.now slot }
 {
     let path = path_of(slot, store);
-    copy(path, entries, 0);
+    entries[..path.len()].copy_from_slice(path);
     path.len()
 }
 
-// Moves the numbers from position `start + by` up to `end` down by `by` positions, the first first.
-fn move_down(start: usize, end: usize, by: usize, pool: &mut [u32])
-    requires { (start + by ≤ end) × (end ≤ length pool.old) }
-    ensures { pool.new ≡ path_removed start end by pool.old }
+// Takes the `hops` entries at position `start` out of a pool that is held up to `end`.
+fn remove_path(start: usize, end: usize, hops: usize, pool: &mut [u32])
+    requires { (start + hops ≤ end) × (end ≤ length pool.old) }
+    ensures { pool.new ≡ path_removed start end hops pool.old }
 {
-    let mut i = start;
-    while i < end - by {
-        pool[i] = pool[i + by];
-        i += 1;
-    }
+    pool.copy_within(start + hops..end, start);
 }
 
 // Empties a held slot.
@@ -366,7 +313,7 @@ pub fn remove(slot: usize, bits: &mut [u64], store: &mut [u32])
     let start = start_at(slot, &store[..]);
     let hops = hops_at(slot, &store[..]);
     let end = held_entries(&bits[..], &store[..]);
-    move_down(start, end, hops, &mut store[SLOT_NUMBERS..]);
-    move_starts(slot + 1, std::num::wrapping_sub_u32(0, hops as u32), store);
+    remove_path(start, end, hops, &mut store[SLOT_NUMBERS..]);
+    move_starts(slot + 1, (hops as u32).wrapping_neg(), store);
     bit_words::clear_bit(slot, bits);
 }

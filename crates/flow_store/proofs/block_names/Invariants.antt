@@ -1,10 +1,6 @@
--- `flow_store::block_names` meets its contract. The invariant: where none was found the store so far have other numbers.
-use Rattle.std.proofs.Common.{◌≡◌, ◌+◌, ◌-◌, ◌≤◌, false}
-use Rattle.flow_store.specs.View.{block_slots, OthersFrom}
+-- `flow_store::block_names` meets its contract. The invariant: where none was found the slots so far have other numbers.
+use Rattle.std.proofs.Common.{◌≡◌, ℕ, ◌<◌, get_or, false}
 use Rattle.flow_store.proofs.block_names.Given as goal
 
-abbrev pub invariant-loop-i : goal.invariant-loop-i
-invariant-loop-i l = (l.from ≤ l.i) × (l.i ≤ l.from + block_slots) × (l.any ≡ false → OthersFrom l.number l.store l.from l.i)
-
-abbrev pub decreases-loop-i : goal.decreases-loop-i
-decreases-loop-i l = l.from + block_slots - l.i
+abbrev pub invariant-loop-own : goal.invariant-loop-own
+invariant-loop-own l = l.any ≡ false → (k : ℕ) → k < l.own-index → get_or l.own-items k 0 ≡ l.number → ⊥

@@ -4,14 +4,6 @@ use Rattle.model.specs.Sizes.{slot_count}
 use Rattle.flow_store.proofs.StartLaws.{end_before_lem, counts_whole}
 use Rattle.flow_store.proofs.held_entries.Goals as goal
 
-pub past_set-requires : goal.past_set-requires
-past_set-requires c = omega (arith, c.requires.0)
-
-pub end_before-requires : goal.end_before-requires
-end_before-requires c =
-    let pre = c.requires in
-    (pre.1, omega (arith, c.past_set.ensures.inside, pre.0))
-
 pub returns : goal.returns
 returns c =
     let bits = c.args.bits.now in

@@ -1,52 +1,31 @@
--- `flow_store::is_packed` meets its contract. The invariant: the store before slot i are packed, and their entries end at `end`.
-use Rattle.std.proofs.Common.{◌≡◌, ◌+◌, sym, ◌∙◌, subst, true≢false, arith}
-use Rattle.model.specs.Sizes.{slot_count}
+-- `flow_store::is_packed` meets its contract. The invariant: the slots before this one are packed, and their entries end at `end`.
+use Rattle.std.proofs.Common.{◌+◌, sym, ap, ◌∙◌, subst, arith}
 use Rattle.flow_store.proofs.StartLaws.{PackedTo, packed-first, packed-free, packed-held, packed_all, start-wrong, path-past}
 use Rattle.flow_store.proofs.is_packed.Goals as goal
+use Rattle.flow_store.proofs.is_packed.Goals.{then-is_held+else-start_at-end+else-past, else-is_held}
 
 pub loop-slot-init : goal.loop-slot-init
-loop-slot-init c =
-    let args = c.args in
-    (omega arith, packed-first args.bits.now args.store.now)
+loop-slot-init c = packed-first c.args.bits.now c.args.store.now
 
-pub overflow_add-end : goal.overflow_add-end
-overflow_add-end c = omega (arith, c.loop-slot.invariant.1.fits, c.hops_at-hops.ensures.1)
+pub returns-then-start_at-end-clause-fact : goal.returns-then-start_at-end-clause-fact
+returns-then-start_at-end-clause-fact c =
+    λ e. start-wrong _ _ c.loop-slot.invariant c.loop-slot-test.true (sym c.is_held.ensures ∙ c.if-is_held.true)
+    (λ same. c.if-start_at-end.true (c.start_at.ensures.0 ∙ same))
 
-pub returns-then-start-end : goal.returns-then-start-end
-returns-then-start-end c =
-    let args = c.args in
-    let held = sym c.is_held-held.ensures ∙ c.if-held.true in record {
-      packed = λ e. absurd (true≢false (sym e));
-      fact = λ e. start-wrong args.bits.now args.store.now c.loop-slot.invariant.1 c.loop-slot-test.true held
-          (λ same. c.if-start-end.true (c.start_at-start.ensures.0 ∙ same));
-    }
-
-pub returns-then-past : goal.returns-then-past
-returns-then-past c =
-    let args = c.args in
-    let held = sym c.is_held-held.ensures ∙ c.if-held.true in record {
-      packed = λ e. absurd (true≢false (sym e));
-      fact = λ e. path-past args.bits.now args.store.now c.loop-slot.invariant.1 c.loop-slot-test.true held
-          (omega (arith, c.if-past.true, c.hops_at-hops.ensures.0));
-    }
-
-pub loop-slot-preserved-else-past : goal.loop-slot-preserved-else-past
-loop-slot-preserved-else-past c =
-    let args = c.args in
-    let hops = c.hops_at-hops in
-    let held = sym c.is_held-held.ensures ∙ c.if-held.true in
-    let own = sym c.start_at-start.ensures.0 ∙ c.if-start-end.false in (
-      omega (arith, c.loop-slot-test.true),
-      subst (λ n. PackedTo args.bits.now args.store.now (c.loop-slot.slot + 1) (c.loop-slot.end + n)) (sym hops.ensures.0)
-          (packed-held args.bits.now args.store.now c.loop-slot.invariant.1 held own (omega (arith, c.if-past.false, hops.ensures.0))),
-    )
+pub returns-then-past-clause-fact : goal.returns-then-past-clause-fact
+returns-then-past-clause-fact c =
+    λ e. path-past _ _ c.loop-slot.invariant c.loop-slot-test.true (sym c.is_held.ensures ∙ c.if-is_held.true) (omega arith)
 
 pub loop-slot-preserved : goal.loop-slot-preserved
 loop-slot-preserved c =
-    let args = c.args in
-    (omega (arith, c.loop-slot-test.true), packed-free args.bits.now args.store.now c.loop-slot.invariant.1 (sym c.is_held-held.ensures ∙ c.if-held.false))
+    let bits = c.args.bits.now in
+    let store = c.args.store.now in
+    elim c.if-is_held.branch [
+      | then-is_held+else-start_at-end+else-past w ↦
+          subst (PackedTo bits store (c.loop-slot.slot + 1)) (sym (w.end-is ∙ ap (λ n. c.loop-slot.end + n) w.hops_at-end.ensures.0))
+          (packed-held bits store c.loop-slot.invariant (sym c.is_held.ensures ∙ w.if-is_held.true) (sym w.start_at.ensures.0 ∙ w.if-start_at-end.false) (omega arith))
+      | else-is_held w ↦ subst (PackedTo bits store (c.loop-slot.slot + 1)) (sym w.end-is) (packed-free bits store c.loop-slot.invariant (sym c.is_held.ensures ∙ w.if-is_held.false))
+    ]
 
-pub returns : goal.returns
-returns c =
-    let args = c.args in
-    let all : c.loop-slot.slot ≡ slot_count = omega (arith, c.loop-slot.invariant.0) in record { packed = λ e. packed_all args.bits.now args.store.now (subst (λ i. PackedTo args.bits.now args.store.now i c.loop-slot.end) all c.loop-slot.invariant.1); fact = λ e. absurd (true≢false e) }
+pub returns-clause-packed : goal.returns-clause-packed
+returns-clause-packed c = λ e. packed_all _ _ (omega arith) c.loop-slot.invariant

@@ -10,8 +10,8 @@ use Rattle.flow_store.proofs.remove.Tie as tie
 use Rattle.flow_store.proofs.remove.Lts as lts
 use Rattle.flow_store.proofs.remove.Reads as reads
 
-pub move_down-requires : goal.move_down-requires
-move_down-requires c =
+pub remove_path-requires : goal.remove_path-requires
+remove_path-requires c =
     let args = c.args in
     let pre = c.requires in
     let start = c.start_at-start.ensures.0 ∙ pre.0.packed.starts args.slot pre.1 pre.2 in
@@ -35,13 +35,13 @@ module _ (c : lts.After-slice_known5 tie.the-claims reads.Pre reads.Post tie.han
   count : c.hops_at-hops.result ≡ count_at first.args.bits.now first.args.store.now first.args.slot
   count = c.hops_at-hops.ensures.0 ∙ sym (count_held first.args.bits.now first.args.store.now first.args.slot first.requires.2)
 
-  complement : (c.wrapping_sub_u32.result + count_at first.args.bits.now first.args.store.now first.args.slot) % 2 ^ 32 ≡ 0
-  complement = rw (sym count) c.wrapping_sub_u32.ensures.value
+  complement : (c.wrapping_neg.result + count_at first.args.bits.now first.args.store.now first.args.slot) % 2 ^ 32 ≡ 0
+  complement = rw (sym count) c.wrapping_neg.ensures
 
-  shift : StartsMoved (first.args.slot + 1) c.wrapping_sub_u32.result (pooled first.args.store.now (pool' first.requires.1 first.requires.0)) c.move_starts.new.store
+  shift : StartsMoved (first.args.slot + 1) c.wrapping_neg.result (pooled first.args.store.now (pool' first.requires.1 first.requires.0)) c.move_starts.new.store
   shift =
       let end = c.held_entries-end.ensures in
-      let left = c.move_down.ensures ∙ (λ t. path_removed (start t) (end t) (count t) (lent-pool first.args.store.now t)) in
+      let left = c.remove_path.ensures ∙ (λ t. path_removed (start t) (end t) (count t) (lent-pool first.args.store.now t)) in
       moved-pooled first.args.store.now left c.move_starts.ensures
 
 pub shape_of-bits : goal.shape_of-bits
