@@ -5,6 +5,7 @@ use mathlib.Core.Path.{◌≡◌, refl, sym, ap, ◌∙◌}
 use mathlib.Core.Bool.{true}
 use mathlib.Core.List.{List, [], ◌∷◌, ◌++◌, map, map-append}
 use mathlib.Core.Option.{Option, none, some}
+use Rattle.std.specs.Prelude.{Result, Ok, Err}
 use native.Mathlib.Omega.{arith}
 use native.Mathlib.Numerals.{add-one}
 use lib.ListN.{length, get_or, take, drop}
@@ -26,9 +27,8 @@ use Rattle.model.proofs.Laws.Figures.{Crossed, crossed}
 use Rattle.queue_table.specs.View.{link_in, level_in, queue_at, table_of, hop_at, is_queue, WellFormed}
 use Rattle.queue_table.proofs.EntryLaws.{queue-named}
 use Rattle.link_check.proofs.Laws.{mapped_next, mapped_end}
-use Rattle.causes.specs.declared.Finding.{Finding}
-use Rattle.causes.specs.declared.Finding.TheVariants.{Nothing}
-use Rattle.causes.specs.View.{finding_of}
+use Rattle.causes.specs.declared.Cause as code
+use Rattle.causes.specs.View.{cause_of, finding_of}
 use Rattle.figures.specs.View.{growth_at, levels_with, counted_at, changed_at, RoomAt, Figures, FlowOf, OnTable, cause_with, PathChecked, ChangeChecked}
 use Rattle.figures.proofs.EntryLaws.{growth-named}
 use Rattle.figures.proofs.LinkLaws.{eight_of, hop-cause, own-level, levels-counted, levels-changed}
@@ -42,7 +42,7 @@ pub record Met (own : (e sum : ℕ) → Aggregate) (table figures entries : List
       eight_of table gs (link_in e) ≡ levels_with figures e (own e (growth_sum (table_of table) (map hop_at (take i entries))))
 
 -- The first of 21 to 23 along the path with those flows.
-abbrev Answered : (own : (e sum : ℕ) → Aggregate) (table figures entries : List ℕ) (r : Finding) → Type 0
+abbrev Answered : (own : (e sum : ℕ) → Aggregate) (table figures entries : List ℕ) (r : Result (Unit {0}) code.Cause) → Type 0
 Answered own table figures entries r =
     (gs : List Flow) → Met own table figures entries gs → finding_of r ≡ first_cause (link_findings (table_of table) gs (map hop_at entries))
 
@@ -56,11 +56,6 @@ pub record Checking (own : (e sum : ℕ) → Aggregate) (table figures entries :
 hop-named : {table entries : List ℕ} {i : ℕ} → OnTable table entries → i < length entries → is_queue table (get_or entries i 0) ≡ true
 hop-named {table} {entries} {i} path more = all_get_d (λ e. is_queue table e ≡ true) entries i 0 path.named more
 
-first-fault : (o : Option Cause) (l : List (Option Cause)) → (o ≡ none → ⊥) → first_cause (o ∷ l) ≡ o
-unfolding first_cause
-first-fault none l fault = absurd (fault refl)
-first-fault (some c) l fault = refl
-
 module _ (own : (e sum : ℕ) → Aggregate) (table figures entries : List ℕ) where
   abbrev t : Table
   t = table_of table
@@ -70,21 +65,21 @@ module _ (own : (e sum : ℕ) → Aggregate) (table figures entries : List ℕ) 
   checking-none = record { sum_below = omega arith; sum_is = λ path. refl; left = λ gs met. refl }
 
   module _ {sum i : ℕ} (so_far : Checking own table figures entries sum i) where
-    pub checking-all : length entries ≤ i → Answered own table figures entries Nothing
+    pub checking-all : length entries ≤ i → Answered own table figures entries (Ok tt)
     unfolding link_findings first_cause
     checking-all end gs met = sym (ap (λ l. first_cause (link_findings t gs l)) (mapped_end hop_at entries i end)) ∙ so_far.left gs met
 
     -- What the check of the hop at `i` found, with the figures there.
-    module _ (more : i < length entries) (r : Finding) {there : Aggregate} (own_is : there ≡ own (get_or entries i 0) sum)
-        (found : finding_of r ≡ cause_with table figures (get_or entries i 0) there) where
+    module _ (more : i < length entries) {o : Option Cause} {there : Aggregate} (own_is : there ≡ own (get_or entries i 0) sum)
+        (found : o ≡ cause_with table figures (get_or entries i 0) there) where
       abbrev e : ℕ
       e = get_or entries i 0
 
       step : (gs : List Flow) → Met own table figures entries gs
-          → first_cause (finding_of r ∷ link_findings t gs (drop (i + 1) (map hop_at entries))) ≡ first_cause (link_findings t gs (map hop_at entries))
+          → first_cause (o ∷ link_findings t gs (drop (i + 1) (map hop_at entries))) ≡ first_cause (link_findings t gs (map hop_at entries))
       unfolding link_findings
       step gs met =
-          let at-hop : cause_at t gs (hop_at e).link (model.link_at t (hop_at e).link) ≡ finding_of r
+          let at-hop : cause_at t gs (hop_at e).link (model.link_at t (hop_at e).link) ≡ o
           = hop-cause table e (hop-named met.path more) figures met.well gs met.on _ (met.levels i more)
           ∙ ap (λ (s : ℕ). cause_with table figures e (own e s)) (sym (so_far.sum_is met.path))
           ∙ ap (cause_with table figures e) (sym own_is)
@@ -93,8 +88,9 @@ module _ (own : (e sum : ℕ) → Aggregate) (table figures entries : List ℕ) 
           ∙ ap (λ l. first_cause (link_findings t gs l)) (sym (mapped_next hop_at entries i 0 more))
           ∙ so_far.left gs met
 
-      pub checking-found : (finding_of r ≡ none → ⊥) → Answered own table figures entries r
-      checking-found fault gs met = sym (first-fault (finding_of r) (link_findings t gs (drop (i + 1) (map hop_at entries))) fault) ∙ step gs met
+      pub checking-found : (cause : code.Cause) → some (cause_of cause) ≡ o → Answered own table figures entries (Err cause)
+      unfolding first_cause
+      checking-found cause fault gs met = ap (λ o. first_cause (o ∷ link_findings t gs (drop (i + 1) (map hop_at entries)))) fault ∙ step gs met
 
       sum-next : OnTable table entries → sum + growth_at table e ≡ growth_sum t (map hop_at (take (i + 1) entries))
       unfolding growth_sum total
@@ -109,7 +105,7 @@ module _ (own : (e sum : ℕ) → Aggregate) (table figures entries : List ℕ) 
             growth-named table e (hop-named path more),
           ))
 
-      pub checking-next : finding_of r ≡ none → growth_at table e ≤ 100000 → {past : ℕ} → past ≡ sum + growth_at table e
+      pub checking-next : none ≡ o → growth_at table e ≤ 100000 → {past : ℕ} → past ≡ sum + growth_at table e
           → Checking own table figures entries past (i + 1)
       unfolding first_cause
       checking-next fits low past_is =
@@ -117,7 +113,7 @@ module _ (own : (e sum : ℕ) → Aggregate) (table figures entries : List ℕ) 
           (record {
             sum_below = omega (arith, so_far.sum_below);
             sum_is = sum-next;
-            left = λ gs met. ap (λ o. first_cause (o ∷ link_findings t gs (drop (i + 1) (map hop_at entries)))) (sym fits) ∙ step gs met;
+            left = λ gs met. ap (λ o. first_cause (o ∷ link_findings t gs (drop (i + 1) (map hop_at entries)))) fits ∙ step gs met;
           })
 
 -- A flow on the path crosses the link of the hop at `i` there alone.
@@ -147,7 +143,7 @@ module _ {table entries : List ℕ} (path : OnTable table entries) {share : Aggr
       let own = own-level table e (hop-named path more) figures f fs (hop-crossed i more) low exact in
       rw (sum_is, sym is.is) (omega (arith, ap (λ (a : Aggregate). a.rate) own), omega (arith, ap (λ (a : Aggregate). a.burst) own))
 
-module _ {share : Aggregate} {table figures entries : List ℕ} {r : Finding} where
+module _ {share : Aggregate} {table figures entries : List ℕ} {r : Result (Unit {0}) code.Cause} where
   -- With the flow beside those of the figures.
   pub path-checked : Answered (counted_at share figures) table figures entries r → PathChecked share table figures entries r
   path-checked answered =

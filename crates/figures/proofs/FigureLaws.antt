@@ -102,9 +102,20 @@ pub replaced-most : (own was share : Aggregate) → AtMost (replaced own was sha
 unfolding replaced together
 replaced-most own was share = record { rate = omega arith; burst = omega arith; frame = omega arith }
 
--- A number of the array has room for one more flow.
-pub sum_fits : (figures : List ℕ) (k more : ℕ) → Below (2 ^ 63) figures → more ≤ 2 ^ 31 → get_or figures k 0 + more < 2 ^ 64
-sum_fits figures k more below small = omega (arith, below k)
+-- The stores that count a flow in, each worked out from what the ones before it left.
+pub flow-stored : (figures : List ℕ) (e : ℕ) (share : Aggregate) {largest : ℕ} →
+    let one : List ℕ = set figures (own_numbers * e) (get_or figures (own_numbers * e) 0 + share.rate) in
+    let two : List ℕ = set one (burst_position e) (get_or one (burst_position e) 0 + share.burst) in
+    largest ≡ max (get_or two (frame_position e) 0) share.frame
+    → set two (frame_position e) largest ≡ figure_stored figures e (together (figure_at figures e) share)
+unfolding figure_stored figure_at together
+flow-stored figures e share most =
+    let rate : ℕ = get_or figures (own_numbers * e) 0 + share.rate in
+    let burst : ℕ = get_or figures (burst_position e) 0 + share.burst in
+    let burst_is = get_or-set_other figures (own_numbers * e) (burst_position e) rate 0 (omega arith) in
+    let frame_is = get_or-set_other (set figures (own_numbers * e) rate) (burst_position e) (frame_position e) burst 0 (omega arith)
+    ∙ get_or-set_other figures (own_numbers * e) (frame_position e) rate 0 (omega arith) in
+    rw most (rw burst_is (rw frame_is refl))
 
 -- The stores at a queue, one after the other.
 module _ (figures : List ℕ) (e rate burst : ℕ) where
@@ -122,24 +133,6 @@ module _ (figures : List ℕ) (e rate burst : ℕ) where
       = get_or-set_other (set figures (own_numbers * e) rate) (burst_position e) (frame_position e) burst 0 (omega arith)
       ∙ get_or-set_other figures (own_numbers * e) (frame_position e) rate 0 (omega arith) in
       sym (set-get_or sums_stored (frame_position e) 0) ∙ ap (set sums_stored (frame_position e)) same ∙ frame-stored (get_or figures (frame_position e) 0)
-
--- The stores that count a flow in.
-module _ (figures : List ℕ) (e : ℕ) (share : Aggregate) where
-  abbrev sums_more : List ℕ
-  sums_more = sums_stored figures e (get_or figures (own_numbers * e) 0 + share.rate) (get_or figures (burst_position e) 0 + share.burst)
-
-  more-stored : (largest : ℕ) → largest ≡ max (get_or figures (frame_position e) 0) share.frame
-      → figure_stored figures e (record { rate = get_or figures (own_numbers * e) 0 + share.rate; burst = get_or figures (burst_position e) 0 + share.burst; frame = largest })
-      ≡ figure_stored figures e (together (figure_at figures e) share)
-  unfolding figure_at together
-  more-stored largest most = rw most
-
-  pub frame-grows : get_or figures (frame_position e) 0 < share.frame
-      → set sums_more (frame_position e) share.frame ≡ figure_stored figures e (together (figure_at figures e) share)
-  frame-grows lt = frame-stored figures e _ _ share.frame ∙ more-stored share.frame (omega arith)
-
-  pub frame-stays : share.frame ≤ get_or figures (frame_position e) 0 → sums_more ≡ figure_stored figures e (together (figure_at figures e) share)
-  frame-stays le = frame-kept figures e _ _ ∙ more-stored (get_or figures (frame_position e) 0) (omega arith)
 
 -- Two arrays with the figures of the same flows are equal.
 module _ {t : Table} {fs : List Flow} {a b : List ℕ} (fa : Figures t fs a) (fb : Figures t fs b) where

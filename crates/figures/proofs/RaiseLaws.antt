@@ -78,9 +78,6 @@ module _ (figures : List ℕ) (x : ℕ) (inside : frame_position x < length figu
       })
       ∙ sym (raised-none (figure_at figures e)))
 
-  raised-grows : get_or figures (frame_position x) 0 < frame → (e : ℕ) → figure_at (set figures (frame_position x) frame) e ≡ raised (figure_at figures e) (hop_frame frame e x)
-  raised-grows lt e = figure-raised (omega arith) e (ℕ_discrete e x)
-
   raised-stays : frame ≤ get_or figures (frame_position x) 0 → (e : ℕ) → figure_at figures e ≡ raised (figure_at figures e) (hop_frame frame e x)
   raised-stays le e =
       ap (λ l. figure_at l e) (sym (set-get_or figures (frame_position x) 0)) ∙ figure-raised (omega arith) e (ℕ_discrete e x)
@@ -126,10 +123,11 @@ module _ (frame : ℕ) (entries before : List ℕ) where
                 ∙ so_far.left e;
           }
 
-      pub raising-grows : get_or figures place 0 < frame → Raising frame entries before (set figures place frame) (i + 1)
-      raising-grows lt =
+      pub raising-max : {largest : ℕ} → largest ≡ max (get_or figures place 0) frame → Raising frame entries before (set figures place largest) (i + 1)
+      raising-max {largest} most =
           rw there.0
-          (next (length-set figures (frame_position x) frame ∙ so_far.long) (raised-grows figures x (omega (arith, so_far.long, there)) frame (rw there.0 at lt)))
+          (next (length-set figures (frame_position x) largest ∙ so_far.long)
+          (λ e. figure-raised figures x (omega (arith, so_far.long, there)) frame (sym (rw there.0 at most)) e (ℕ_discrete e x)))
 
       pub raising-stays : frame ≤ get_or figures place 0 → Raising frame entries before figures (i + 1)
       raising-stays le = next so_far.long (raised-stays figures x (omega (arith, so_far.long, there)) frame (rw there.0 at le))

@@ -2,8 +2,8 @@
 -- Assumes nothing.
 use Prim.Native.Nat.{ℕ, ◌+◌, ◌*◌, ◌-◌, ◌≤◌, ◌<◌, max}
 use mathlib.Core.Path.{◌≡◌, refl, sym, ap, subst, ◌∙◌}
-use mathlib.Core.Bool.{Bool, true, false, true≢false}
-use mathlib.Core.Logic.{◌⊎◌, ⊎_elim}
+use mathlib.Core.Bool.{Bool, true, false, ◌||◌, true≢false}
+use mathlib.Core.Logic.{◌⊎◌, inl, inr, ⊎_elim}
 use mathlib.Core.List.{List, ◌∷◌}
 use native.Mathlib.Omega.{arith}
 use native.Mathlib.Decide.{ℕ_discrete}
@@ -56,6 +56,14 @@ module _ (figures : List ℕ) (e : ℕ) (share : Aggregate) (counted : (share.ra
 
   pub less-kept : (rates ≡ 0 → ⊥) → share.frame < get_or figures (frame_position e) 0 → HopRemoved share figures e sums_less false
   less-kept some lt = less (get_or figures (frame_position e) 0) (frame-kept figures e rates bursts) (another refl (omega (arith, some)) lt refl)
+
+or-false : (a b : Bool) → (a || b) ≡ false → (a ≡ false) × (b ≡ false)
+or-false false b e = (refl, e)
+or-false true b e = absurd (true≢false e)
+
+or-true : (a b : Bool) → (a || b) ≡ true → (a ≡ true) ⊎ (b ≡ true)
+or-true false b e = inr e
+or-true true b e = inl refl
 
 -- The queue at this index of the path has flows left, and its largest frame must be raised.
 abbrev MustRaise : (entries figures : List ℕ) (j : ℕ) → Type 0
@@ -231,23 +239,21 @@ module _ (share : Aggregate) (table entries before : List ℕ) where
             (from raise)
 
       -- The flow is taken out at the hop.
-      pub removing-next : (low : growth_at table x ≤ 100000) {share' : Aggregate} {past : ℕ} {figures' : List ℕ} {own again' : Bool}
+      pub removing-next : (low : growth_at table x ≤ 100000) {share' : Aggregate} {past : ℕ} {figures' : List ℕ} {own : Bool}
           → share' ≡ there → past ≡ sum + growth_at table x
           → HopRemoved share' figures x figures' own
-          → (again' ≡ false → (again ≡ false) × (own ≡ false))
-          → (again' ≡ true → (again ≡ true) ⊎ (own ≡ true))
-          → Removing share table entries before figures' past (i + 1) again'
-      removing-next low {figures' = figures'} {own = own} same past_is removed both from =
+          → Removing share table entries before figures' past (i + 1) (again || own)
+      removing-next low {figures' = figures'} {own = own} same past_is removed =
           let now = subst (λ (a : Aggregate). HopRemoved a figures x figures' own) same removed in
           rw past_is
           (record {
             long = ap length removed.stored ∙ stored-length figures x removed.left ∙ so_far.long;
             sum_below = omega (arith, so_far.sum_below);
-            left = λ f fs named is exact e lt. step f fs named is exact now both e lt (ℕ_discrete e x);
+            left = λ f fs named is exact e lt. step f fs named is exact now (or-false again own) e lt (ℕ_discrete e x);
             others = λ e off.
                 ap (λ l. figure_at l e) removed.stored
                 ∙ stored_other figures x removed.left e (all_get_d (λ d. e ≡ d → ⊥) entries i 0 off more)
                 ∙ so_far.others e off;
             kept = λ e. step_kept now e (ℕ_discrete e x);
-            must = step-must now from;
+            must = step-must now (or-true again own);
           })

@@ -1,5 +1,5 @@
 -- What the array and the answers of this crate say in the terms of the model.
-use Rattle.std.specs.Prelude.{ℕ, ◌+◌, ◌-◌, ◌*◌, ◌^◌, ◌≤◌, ◌<◌, max, ◌≡◌, Bool, true, false, List, [], ◌∷◌, map, length, get_or, set}
+use Rattle.std.specs.Prelude.{ℕ, ◌+◌, ◌-◌, ◌*◌, ◌^◌, ◌≤◌, ◌<◌, max, ◌≡◌, Bool, true, false, List, [], ◌∷◌, map, length, get_or, set, Result}
 use Rattle.std.proofs.Math.Option.{Option, none}
 use Rattle.model.specs.Words.{All}
 use Rattle.model.specs.Sizes.{levels_most, queues_most, hops_most}
@@ -12,7 +12,7 @@ use Rattle.model.specs.LinkCheck as check
 use Rattle.model.specs.Schedulable.{Named, LinkMeets}
 use Rattle.model.specs.WithFlow.{together}
 use Rattle.model.specs.Reference.{Cause, link_cause, first_cause, link_findings, at_hop, met_earlier}
-use Rattle.causes.specs.declared.Finding.{Finding}
+use Rattle.causes.specs.declared.Cause as code
 use Rattle.causes.specs.View.{finding_of}
 use Rattle.queue_table.specs.View.{up_to, entry_at, link_in, level_in, hop_at, table_numbers, link_count, speed_at, best_effort_at, threshold_at, queue_at, table_of, AllQueues, WellFormed}
 
@@ -200,14 +200,14 @@ cause_with table figures e own = link_cause (link_in e + 1) (finding_at table (l
 
 -- The first of 21 to 23 along the path with the flow beside the others, which are on queues of the table. Free where a link is met twice or a queue
 -- that the table lacks has figures.
-pub record PathChecked (share : Aggregate) (table figures entries : List ℕ) (r : Finding) : Type 0 where
+pub record PathChecked (share : Aggregate) (table figures entries : List ℕ) (r : Result (Unit {0}) code.Cause) : Type 0 where
   pub first : (fs : List Flow) (f : Flow) → WellFormed table → OnTable table entries → FlowOf share entries f
       → Figures (table_of table) fs figures
       → All (λ g. All (Named (table_of table)) g.path) fs
       → finding_of r ≡ first_cause (link_findings (table_of table) (f ∷ fs) f.path)
 
 -- The same with the flow `g` in place of the flow `f` that the figures hold. Free where `g` has another largest frame.
-pub record ChangeChecked (was share : Aggregate) (table figures entries : List ℕ) (r : Finding) : Type 0 where
+pub record ChangeChecked (was share : Aggregate) (table figures entries : List ℕ) (r : Result (Unit {0}) code.Cause) : Type 0 where
   pub first : (fs : List Flow) (f g : Flow) → WellFormed table → OnTable table entries → FlowOf was entries f → FlowOf share entries g
       → was.frame ≡ share.frame
       → Figures (table_of table) (f ∷ fs) figures

@@ -11,8 +11,8 @@ ghost use Rattle.link_check.specs.View.{aggregates_of, queues_of, Narrow};
 ghost use Rattle.figures.specs.View.{Summable, LimitedLevel, Hops, Limited, Speeds, OnTable, PathCounted, finding_at, cause_with, PathChecked, ChangeChecked, code_at, LinkSpeeds, LinksMet};
 
 use crate::link_levels;
-use crate::shares::{changed_at, counted_at};
-use causes::Finding;
+use crate::shares::{changed_at, counted_at, sum_past};
+use causes::Cause;
 use link_check::check_link;
 use queue_table::{LEVELS, Queue, entry_at, level_of, link_at, link_count, link_of, queue_at};
 use units::{Aggregate, Bytes, Micros};
@@ -26,16 +26,14 @@ fn link_queues(link: usize, table: &[u32]) -> [Queue; LEVELS]
         threshold: Micros(0),
         buffer: Bytes(0),
     }; LEVELS];
-    let mut p = 0;
-    while p < LEVELS {
+    for p in 0..LEVELS {
         queues[p] = queue_at(entry_at(link, p), table);
-        p += 1;
     }
     queues
 }
 
 // What the check of a link, counted from 0, finds with these levels.
-fn find_on(link: usize, levels: [Aggregate; LEVELS], table: &[u32]) -> Finding
+fn find_on(link: usize, levels: [Aggregate; LEVELS], table: &[u32]) -> Result<(), Cause>
     requires link_lt_links_most { (link < links_most) × (length table.now ≡ table_numbers) }
     requires link_bound { speed_at table.now link ≤ 10000 }
     requires summable { Summable (aggregates_of levels) }
@@ -45,7 +43,7 @@ fn find_on(link: usize, levels: [Aggregate; LEVELS], table: &[u32]) -> Finding
     let own = link_at(link, table);
     let checked = check_link(
         link as u32 + 1,
-        own.speed as u64,
+        u64::from(own.speed),
         own.besteffort,
         queues,
         levels,
@@ -54,7 +52,7 @@ fn find_on(link: usize, levels: [Aggregate; LEVELS], table: &[u32]) -> Finding
 }
 
 // The check of the link of queue e, with these figures there.
-fn check_hop(e: usize, own: Aggregate, table: &[u32], figures: &[u64]) -> Finding
+fn check_hop(e: usize, own: Aggregate, table: &[u32], figures: &[u64]) -> Result<(), Cause>
     requires e_lt_queues_most { (e < queues_most) × ((length table.now ≡ table_numbers) × Limited figures.now) }
     requires e_bound { speed_at table.now (link_in e) ≤ 10000 }
     requires limited_level { LimitedLevel (aggregate_of own) }
@@ -69,25 +67,19 @@ fn check_hop(e: usize, own: Aggregate, table: &[u32], figures: &[u64]) -> Findin
 // The links of a path one by one, with the flow counted in at its level and with its share there: 21 for the link, then
 // level by level 22 before 23. The answer is free where the path meets a link twice or leaves the table, or where the
 // figures are no flows' on the table.
-pub fn check_links(share: Aggregate, table: &[u32], figures: &[u64], entries: &[u32]) -> Finding
+pub fn check_links(share: Aggregate, table: &[u32], figures: &[u64], entries: &[u32]) -> Result<(), Cause>
     requires at_source { AtSource (aggregate_of share) }
     requires hops { Hops table.now entries.now }
     requires speeds { Speeds table.now entries.now × Limited figures.now }
     ensures { PathChecked (aggregate_of share) table.now figures.now entries.now result }
 {
     let mut sum = Micros(0);
-    let mut i = 0;
-    while i < entries.len() {
-        let e = entries[i] as usize;
-        let there = counted_at(share, sum, e, table, figures);
-        let found = check_hop(e, there.own, table, figures);
-        let Finding::Nothing = found else {
-            return found;
-        };
-        sum = there.past;
-        i += 1;
+    for &entry in entries {
+        let e = entry as usize;
+        check_hop(e, counted_at(share, sum, e, figures), table, figures)?;
+        sum = sum_past(sum, e, table);
     }
-    Finding::Nothing
+    Ok(())
 }
 
 // The same with a flow that the figures hold: it is counted by `share` in place of `was`, whose largest frame it keeps.
@@ -97,7 +89,7 @@ pub fn check_change(
     table: &[u32],
     figures: &[u64],
     entries: &[u32],
-) -> Finding
+) -> Result<(), Cause>
     requires at_source { AtSource (aggregate_of was) × AtSource (aggregate_of share) }
     requires hops { Hops table.now entries.now }
     requires speeds { Speeds table.now entries.now × Limited figures.now }
@@ -105,18 +97,12 @@ pub fn check_change(
     ensures { ChangeChecked (aggregate_of was) (aggregate_of share) table.now figures.now entries.now result }
 {
     let mut sum = Micros(0);
-    let mut i = 0;
-    while i < entries.len() {
-        let e = entries[i] as usize;
-        let there = changed_at(was, share, sum, e, table, figures);
-        let found = check_hop(e, there.own, table, figures);
-        let Finding::Nothing = found else {
-            return found;
-        };
-        sum = there.past;
-        i += 1;
+    for &entry in entries {
+        let e = entry as usize;
+        check_hop(e, changed_at(was, share, sum, e, figures), table, figures)?;
+        sum = sum_past(sum, e, table);
     }
-    Finding::Nothing
+    Ok(())
 }
 
 // Whether a link, counted from 0, meets 21 to 23 with these figures.
@@ -125,12 +111,7 @@ fn link_meets(link: usize, table: &[u32], figures: &[u64]) -> bool
     requires link_bound { speed_at table.now link ≤ 10000 }
     ensures { result ≡ eqb (code_at table.now figures.now link) 0 }
 {
-    let levels = link_levels(link, figures);
-    let found = find_on(link, levels, table);
-    match found {
-        Finding::Nothing => true,
-        Finding::Against(_) => false,
-    }
+    find_on(link, link_levels(link, figures), table).is_ok()
 }
 
 // Whether every link meets 21 to 23 with these figures. The answer is free where they are no flows' on the table.
@@ -139,13 +120,10 @@ pub fn links_meet(table: &[u32], figures: &[u64]) -> bool
     requires link_speeds { LinkSpeeds table.now }
     ensures { LinksMet table.now figures.now result }
 {
-    let n = link_count(table);
-    let mut i = 0;
-    while i < n {
-        if !link_meets(i, table, figures) {
+    for link in 0..link_count(table) {
+        if !link_meets(link, table, figures) {
             return false;
         }
-        i += 1;
     }
     true
 }

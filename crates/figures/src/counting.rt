@@ -6,7 +6,7 @@ ghost use Rattle.model.specs.WithFlow.{together};
 ghost use Rattle.units.specs.View.{aggregate_of, AtSource};
 ghost use Rattle.figures.specs.View.{frame_position, figure_numbers, figure_at, Below, LimitedShare, figure_stored, Hops, PathAdded, PathCounted, PathChanged, HopRemoved, PathRemoved, FrameRaised};
 
-use crate::shares::{changed_at, share_at};
+use crate::shares::{changed_at, sum_past};
 use crate::{BURST, FRAME, OWN_NUMBERS};
 use units::{Aggregate, Bytes, Micros};
 
@@ -17,16 +17,9 @@ fn add_hop(e: usize, share: Aggregate, figures: &mut [u64])
     ensures { figures.new ≡ figure_stored figures.old e (together (figure_at figures.old e) (aggregate_of share)) }
 {
     let at = OWN_NUMBERS * e;
-    let frame = share.frame;
-    let rates = figures[at] + share.rate.0;
-    let bursts = figures[at + BURST] + share.burst.0;
-    let largest = figures[at + FRAME];
-    figures[at] = rates;
-    figures[at + BURST] = bursts;
-    let lower = largest < frame.0;
-    if lower {
-        figures[at + FRAME] = frame.0;
-    }
+    figures[at] += share.rate.0;
+    figures[at + BURST] += share.burst.0;
+    figures[at + FRAME] = figures[at + FRAME].max(share.frame.0);
 }
 
 // Counts a flow in at each queue of its path.
@@ -37,13 +30,10 @@ pub fn add_path(share: Aggregate, table: &[u32], entries: &[u32], figures: &mut 
     ensures { PathAdded (aggregate_of share) table.now entries.now figures.old figures.new }
 {
     let mut sum = Micros(0);
-    let mut i = 0;
-    while i < entries.len() {
-        let e = entries[i] as usize;
-        let there = share_at(share, sum, e, table);
-        add_hop(e, there.share, figures);
-        sum = there.past;
-        i += 1;
+    for &entry in entries {
+        let e = entry as usize;
+        add_hop(e, share.grown(sum), figures);
+        sum = sum_past(sum, e, table);
     }
 }
 
@@ -71,13 +61,10 @@ pub fn change_path(
     ensures { PathChanged (aggregate_of was) (aggregate_of share) table.now entries.now figures.old figures.new }
 {
     let mut sum = Micros(0);
-    let mut i = 0;
-    while i < entries.len() {
-        let e = entries[i] as usize;
-        let there = changed_at(was, share, sum, e, table, &figures[..]);
-        store_hop(e, there.own, figures);
-        sum = there.past;
-        i += 1;
+    for &entry in entries {
+        let e = entry as usize;
+        store_hop(e, changed_at(was, share, sum, e, figures), figures);
+        sum = sum_past(sum, e, table);
     }
 }
 
@@ -115,27 +102,20 @@ pub fn remove_path(share: Aggregate, table: &[u32], entries: &[u32], figures: &m
 {
     let mut sum = Micros(0);
     let mut again = false;
-    let mut i = 0;
-    while i < entries.len() {
-        let e = entries[i] as usize;
-        let there = share_at(share, sum, e, table);
-        let own = remove_hop(e, there.share, figures);
-        sum = there.past;
-        i += 1;
-        if own {
-            again = true;
-        }
+    for &entry in entries {
+        let e = entry as usize;
+        again |= remove_hop(e, share.grown(sum), figures);
+        sum = sum_past(sum, e, table);
     }
     again
 }
 
-// Where the largest frame of the queue of entry i stands.
-fn frame_index(i: usize, entries: &[u32]) -> usize
-    requires { All (λ e. e < queues_most) entries.now × (i < length entries.now) }
-    ensures value { result ≡ frame_position (get_or entries.now i 0) }
-    ensures upper_bound { result < figure_numbers }
+// Where the largest frame of the queue of a hop entry stands.
+fn frame_index(entry: u32) -> usize
+    requires { entry < queues_most }
+    ensures { (result ≡ frame_position entry) × (result < figure_numbers) }
 {
-    OWN_NUMBERS * (entries[i] as usize) + FRAME
+    OWN_NUMBERS * entry as usize + FRAME
 }
 
 // Whether a queue of the path may have a smaller largest frame. It only reads, which is faster than a loop that may store.
@@ -143,12 +123,10 @@ fn any_lower(frame: Bytes, entries: &[u32], figures: &[u64]) -> bool
     requires { All (λ e. e < queues_most) entries.now × (length figures.now ≡ figure_numbers) }
     ensures { result ≡ false → FrameRaised frame.0 entries.now figures.now figures.now }
 {
-    let mut i = 0;
-    while i < entries.len() {
-        if figures[frame_index(i, entries)] < frame.0 {
+    for &entry in entries {
+        if figures[frame_index(entry)] < frame.0 {
             return true;
         }
-        i += 1;
     }
     false
 }
@@ -158,14 +136,9 @@ fn raise_each(frame: Bytes, entries: &[u32], figures: &mut [u64])
     requires { All (λ e. e < queues_most) entries.now × (length figures.old ≡ figure_numbers) }
     ensures { FrameRaised frame.0 entries.now figures.old figures.new }
 {
-    let mut i = 0;
-    while i < entries.len() {
-        let at = frame_index(i, entries);
-        let lower = figures[at] < frame.0;
-        if lower {
-            figures[at] = frame.0;
-        }
-        i += 1;
+    for &entry in entries {
+        let at = frame_index(entry);
+        figures[at] = figures[at].max(frame.0);
     }
 }
 
@@ -174,7 +147,7 @@ pub fn raise_path(frame: Bytes, entries: &[u32], figures: &mut [u64])
     requires { All (λ e. e < queues_most) entries.now × (length figures.old ≡ figure_numbers) }
     ensures { FrameRaised frame.0 entries.now figures.old figures.new }
 {
-    if any_lower(frame, entries, &figures[..]) {
+    if any_lower(frame, entries, figures) {
         raise_each(frame, entries, figures);
     }
 }

@@ -53,10 +53,8 @@ pub(crate) fn link_levels(link: usize, figures: &[u64]) -> [Aggregate; LEVELS]
         burst: Bytes(0),
         frame: Bytes(0),
     }; LEVELS];
-    let mut p = 0;
-    while p < LEVELS {
+    for p in 0..LEVELS {
         levels[p] = figure(entry_at(link, p), figures);
-        p += 1;
     }
     levels
 }
@@ -69,19 +67,11 @@ pub fn limited(figures: &[u64]) -> bool
     requires { length figures.now ≡ figure_numbers }
     ensures { (result ≡ true) ↔ Limited figures.now }
 {
-    let mut e = 0;
-    while e < QUEUES {
+    for e in 0..QUEUES {
         let own = figure(e, figures);
-        if own.rate.0 > 10_000_000 {
+        if own.rate.0 > 10_000_000 || own.burst.0 > MOST_BURST || own.frame.0 > 1542 {
             return false;
         }
-        if own.burst.0 > MOST_BURST {
-            return false;
-        }
-        if own.frame.0 > 1542 {
-            return false;
-        }
-        e += 1;
     }
     true
 }
@@ -91,11 +81,7 @@ pub fn clear(figures: &mut [u64])
     requires { length figures.old ≡ figure_numbers }
     ensures { (length figures.new ≡ figure_numbers) × Below 0 figures.new }
 {
-    let mut i = 0;
-    while i < FIGURE_NUMBERS {
-        figures[i] = 0;
-        i += 1;
-    }
+    figures.fill(0);
 }
 
 // Whether two arrays of figures are equal.
@@ -104,12 +90,5 @@ pub fn same(a: &[u64], b: &[u64]) -> bool
     ensures a_value { result ≡ true → a.now ≡ b.now }
     ensures fact { result ≡ false → a.now ≡ b.now → ⊥ }
 {
-    let mut i = 0;
-    while i < FIGURE_NUMBERS {
-        if a[i] != b[i] {
-            return false;
-        }
-        i += 1;
-    }
-    true
+    a == b
 }

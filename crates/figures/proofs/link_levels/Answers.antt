@@ -13,20 +13,19 @@ use Rattle.figures.proofs.link_levels.Goals as goal
 
 pub loop-p-init : goal.loop-p-init
 unfolding up_to
-loop-p-init c = (omega arith, refl, refl)
+loop-p-init c = (refl, refl)
 
 pub loop-p-preserved : goal.loop-p-preserved
 loop-p-preserved c =
     let at = c.loop-p in
     let args = c.args in (
-      omega arith,
-      length-set at.levels at.p c.figure.result ∙ at.invariant.1,
-      loaded-next aggregate_of at.levels at.p c.figure.result (λ k. figure_at args.figures.now (entry_at args.link k)) (omega (arith, at.invariant.1)) at.invariant.2 (c.figure.ensures ∙ ap (figure_at args.figures.now) c.entry_at.ensures.0),
+      length-set at.levels at.p c.figure.result ∙ at.invariant.0,
+      loaded-next aggregate_of at.levels at.p c.figure.result (λ k. figure_at args.figures.now (entry_at args.link k)) (omega (arith, at.invariant.0)) at.invariant.1 (c.figure.ensures ∙ ap (figure_at args.figures.now) c.entry_at.ensures.0),
     )
 
 pub returns : goal.returns
 unfolding level_figures
 returns c =
     let at = c.loop-p in
-    let end : at.p ≡ levels_most = omega (arith, at.invariant.0, c.loop-p-test.false) in
-    ap aggregates_of (sym (take_all at.p at.levels (omega (arith, at.invariant.1)))) ∙ at.invariant.2 ∙ rw end
+    let end : at.p ≡ levels_most = omega arith in
+    ap aggregates_of (sym (take_all at.p at.levels (omega (arith, at.invariant.0)))) ∙ at.invariant.1 ∙ rw end

@@ -1,5 +1,4 @@
 -- `figures::link_levels` meets its contract. The invariant: the levels before `p` are loaded.
-use Prim.Native.Nat.{◌-◌, ◌≤◌}
 use mathlib.Core.Path.{◌≡◌}
 use lib.ListN.{length, take}
 use Rattle.model.specs.Sizes.{levels_most}
@@ -9,7 +8,4 @@ use Rattle.figures.specs.View.{figure_at}
 use Rattle.figures.proofs.link_levels.Given as goal
 
 abbrev pub invariant-loop-p : goal.invariant-loop-p
-invariant-loop-p l = (l.p ≤ levels_most) × (length l.levels ≡ levels_most) × (aggregates_of (take l.p l.levels) ≡ up_to l.p (λ k. figure_at l.figures (entry_at l.link k)))
-
-abbrev pub decreases-loop-p : goal.decreases-loop-p
-decreases-loop-p l = levels_most - l.p
+invariant-loop-p l = (length l.levels ≡ levels_most) × (aggregates_of (take l.p l.levels) ≡ up_to l.p (λ k. figure_at l.figures (entry_at l.link k)))

@@ -12,7 +12,7 @@ use Rattle.figures.proofs.checking.link_queues.Goals as goal
 
 pub loop-p-init : goal.loop-p-init
 unfolding up_to
-loop-p-init c = (omega arith, refl, refl, tt)
+loop-p-init c = (refl, refl, tt)
 
 pub loop-p-preserved : goal.loop-p-preserved
 unfolding queue_at
@@ -22,16 +22,15 @@ loop-p-preserved c =
     let table = args.table.now in
     let read = c.queue_at.ensures.threshold_value in
     let entry = c.entry_at.ensures.0 in (
-      omega arith,
-      length-set at.queues at.p c.queue_at.result ∙ at.invariant.1,
-      loaded-next queue_of at.queues at.p c.queue_at.result (queue_at table args.link) (omega (arith, at.invariant.1)) at.invariant.2
+      length-set at.queues at.p c.queue_at.result ∙ at.invariant.0,
+      loaded-next queue_of at.queues at.p c.queue_at.result (queue_at table args.link) (omega (arith, at.invariant.0)) at.invariant.1
           (λ t. record { threshold = (read.0 ∙ ap (threshold_at table) entry) t; buffer = (read.1 ∙ ap (buffer_at table) entry) t }),
-      loaded-all Narrow at.queues at.p c.queue_at.result (omega (arith, at.invariant.1)) at.invariant.3 c.queue_at.ensures.threshold_bound,
+      loaded-all Narrow at.queues at.p c.queue_at.result (omega (arith, at.invariant.0)) at.invariant.2 c.queue_at.ensures.threshold_bound,
     )
 
 pub returns : goal.returns
 returns c =
     let at = c.loop-p in
-    let end : at.p ≡ levels_most = omega (arith, at.invariant.0, c.loop-p-test.false) in
-    let whole : take at.p at.queues ≡ at.queues = take_all at.p at.queues (omega (arith, at.invariant.1)) in
-    (ap queues_of (sym whole) ∙ at.invariant.2 ∙ rw end, subst (All Narrow) whole at.invariant.3)
+    let end : at.p ≡ levels_most = omega arith in
+    let whole : take at.p at.queues ≡ at.queues = take_all at.p at.queues (omega (arith, at.invariant.0)) in
+    (ap queues_of (sym whole) ∙ at.invariant.1 ∙ rw end, subst (All Narrow) whole at.invariant.2)

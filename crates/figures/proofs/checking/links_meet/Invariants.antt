@@ -1,11 +1,8 @@
--- `figures::checking::links_meet` meets its contract. The invariant: nothing is found at the links before `i`.
-use Prim.Native.Nat.{ℕ, ◌-◌, ◌≤◌, ◌<◌}
+-- `figures::checking::links_meet` meets its contract. The invariant: nothing is found at the links before `link`.
+use Prim.Native.Nat.{ℕ, ◌<◌}
 use mathlib.Core.Path.{◌≡◌}
 use Rattle.figures.specs.View.{code_at}
 use Rattle.figures.proofs.checking.links_meet.Given as goal
 
-abbrev pub invariant-loop-i : goal.invariant-loop-i
-invariant-loop-i l = (l.i ≤ l.n) × ((j : ℕ) → j < l.i → code_at l.table l.figures j ≡ 0)
-
-abbrev pub decreases-loop-i : goal.decreases-loop-i
-decreases-loop-i l = l.n - l.i
+abbrev pub invariant-loop-link : goal.invariant-loop-link
+invariant-loop-link l = (j : ℕ) → j < l.link → code_at l.table l.figures j ≡ 0

@@ -4,17 +4,16 @@ use native.Mathlib.Omega.{arith}
 use Rattle.figures.proofs.RaiseLaws.{raising-none, raising-stays, raising-all}
 use Rattle.figures.proofs.counting.any_lower.Goals as goal
 
-pub loop-i-init : goal.loop-i-init
-loop-i-init c = raising-none _ _ _ c.requires.1
+pub loop-entry-init : goal.loop-entry-init
+loop-entry-init c = raising-none _ _ _ c.requires.1
 
 pub returns-then-figures-frame_index : goal.returns-then-figures-frame_index
 returns-then-figures-frame_index c = λ e. absurd (true≢false e)
 
-pub loop-i-preserved : goal.loop-i-preserved
-loop-i-preserved c =
+pub loop-entry-preserved : goal.loop-entry-preserved
+loop-entry-preserved c =
     let args = c.args in
-    raising-stays args.frame.0 args.entries.now args.figures.now c.loop-i.invariant c.loop-i-test.true
-    (c.frame_index.ensures.value, c.frame_index.ensures.upper_bound) (omega (arith, c.if-figures-frame_index.false))
+    raising-stays args.frame.0 args.entries.now args.figures.now c.loop-entry.invariant c.loop-entry-test.true c.frame_index.ensures (omega (arith, c.if-figures-frame_index.false))
 
 pub returns : goal.returns
-returns c = λ e. raising-all _ _ _ c.loop-i.invariant c.loop-i-test.false
+returns c = λ e. raising-all _ _ _ c.loop-entry.invariant c.loop-entry-test.false

@@ -11,16 +11,16 @@ use Rattle.figures.proofs.shares.changed_at.Goals as goal
 pub replaced-requires : goal.replaced-requires
 unfolding figure_at
 replaced-requires c =
-    let below = c.requires.figures_len.1 in
+    let below = c.requires.figures_len.1.1 in
     let e = c.args.e in record {
       rate_le_rate = omega (
         arith,
-        ap (λ (a : model.Aggregate). a.rate) c.figure-own.ensures,
-        ap (λ (a : model.Aggregate). a.burst) c.figure-own.ensures,
-        ap (λ (a : model.Aggregate). a.rate) c.share_at-there.ensures.share_value,
-        ap (λ (a : model.Aggregate). a.burst) c.share_at-there.ensures.share_value,
-        ap (λ (a : model.Aggregate). a.rate) c.grown-more.ensures,
-        ap (λ (a : model.Aggregate). a.burst) c.grown-more.ensures,
+        ap (λ (a : model.Aggregate). a.rate) c.figure.ensures,
+        ap (λ (a : model.Aggregate). a.burst) c.figure.ensures,
+        ap (λ (a : model.Aggregate). a.rate) c.grown.ensures,
+        ap (λ (a : model.Aggregate). a.burst) c.grown.ensures,
+        ap (λ (a : model.Aggregate). a.rate) c.grown-2.ensures,
+        ap (λ (a : model.Aggregate). a.burst) c.grown-2.ensures,
         below (own_numbers * e),
         below (burst_position e),
         c.requires.room_at,
@@ -28,12 +28,12 @@ replaced-requires c =
       );
       rate_bound = omega (
         arith,
-        ap (λ (a : model.Aggregate). a.rate) c.figure-own.ensures,
-        ap (λ (a : model.Aggregate). a.burst) c.figure-own.ensures,
-        ap (λ (a : model.Aggregate). a.rate) c.share_at-there.ensures.share_value,
-        ap (λ (a : model.Aggregate). a.burst) c.share_at-there.ensures.share_value,
-        ap (λ (a : model.Aggregate). a.rate) c.grown-more.ensures,
-        ap (λ (a : model.Aggregate). a.burst) c.grown-more.ensures,
+        ap (λ (a : model.Aggregate). a.rate) c.figure.ensures,
+        ap (λ (a : model.Aggregate). a.burst) c.figure.ensures,
+        ap (λ (a : model.Aggregate). a.rate) c.grown.ensures,
+        ap (λ (a : model.Aggregate). a.burst) c.grown.ensures,
+        ap (λ (a : model.Aggregate). a.rate) c.grown-2.ensures,
+        ap (λ (a : model.Aggregate). a.burst) c.grown-2.ensures,
         below (own_numbers * e),
         below (burst_position e),
         c.requires.room_at,
@@ -44,10 +44,6 @@ replaced-requires c =
 pub returns : goal.returns
 returns c =
     let args = c.args in
-    let was = c.share_at-there in
-    let share = c.grown-more in record {
-      own_value = c.replaced.ensures
-          ∙ ap (λ (a : model.Aggregate). replaced a (aggregate_of was.result.share) (aggregate_of share.result)) c.figure-own.ensures
-          ∙ ap₂ (replaced (figure_at args.figures.now args.e)) was.ensures.share_value share.ensures;
-      past_value = was.ensures.past_value;
-    }
+    c.replaced.ensures
+    ∙ ap (λ (a : model.Aggregate). replaced a (aggregate_of c.grown.result) (aggregate_of c.grown-2.result)) c.figure.ensures
+    ∙ ap₂ (replaced (figure_at args.figures.now args.e)) c.grown.ensures c.grown-2.ensures

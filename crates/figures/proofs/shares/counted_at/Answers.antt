@@ -8,20 +8,18 @@ use Rattle.figures.proofs.shares.counted_at.Goals as goal
 
 pub with_flow-requires : goal.with_flow-requires
 with_flow-requires c =
-    let limited = c.requires.e_lt_queues_most.1.1 in
+    let limited = c.requires.e_lt_queues_most.1 in
     let low = c.requires.e_lt_queues_most.0 in
-    let worked = c.share_at-there.ensures.share_value in
     omega (
       arith,
-      ap (λ (a : model.Aggregate). a.rate) c.figure-own.ensures,
-      ap (λ (a : model.Aggregate). a.burst) c.figure-own.ensures,
-      ap (λ (a : model.Aggregate). a.rate) worked,
-      ap (λ (a : model.Aggregate). a.burst) worked,
+      ap (λ (a : model.Aggregate). a.rate) c.figure.ensures,
+      ap (λ (a : model.Aggregate). a.burst) c.figure.ensures,
+      ap (λ (a : model.Aggregate). a.rate) c.grown.ensures,
+      ap (λ (a : model.Aggregate). a.burst) c.grown.ensures,
       limited.rates c.args.e low,
       limited.bursts c.args.e low,
       share-limited c.requires.at_source.0 c.requires.at_source.1,
     )
 
 pub returns : goal.returns
-returns c =
-    let worked = c.share_at-there.ensures in record { own_value = c.with_flow.ensures ∙ ap₂ together c.figure-own.ensures worked.share_value; past_value = worked.past_value }
+returns c = c.with_flow.ensures ∙ ap₂ together c.figure.ensures c.grown.ensures
