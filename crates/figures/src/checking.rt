@@ -67,7 +67,12 @@ fn check_hop(e: usize, own: Aggregate, table: &[u32], figures: &[u64]) -> Result
 // The links of a path one by one, with the flow counted in at its level and with its share there: 21 for the link, then
 // level by level 22 before 23. The answer is free where the path meets a link twice or leaves the table, or where the
 // figures are no flows' on the table.
-pub fn check_links(share: Aggregate, table: &[u32], figures: &[u64], entries: &[u32]) -> Result<(), Cause>
+pub fn check_links(
+    share: Aggregate,
+    table: &[u32],
+    figures: &[u64],
+    entries: &[u32],
+) -> Result<(), Cause>
     requires at_source { AtSource (aggregate_of share) }
     requires hops { Hops table.now entries.now }
     requires speeds { Speeds table.now entries.now × Limited figures.now }

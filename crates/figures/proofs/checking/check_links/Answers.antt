@@ -3,9 +3,9 @@ use mathlib.Core.Path.{refl, sym, subst}
 use Rattle.std.proofs.lemmas.Result.{err_from_is_err_and}
 use Rattle.figures.specs.View.{LimitedLevel}
 use Rattle.figures.proofs.EntryLaws.{hop-at, share-limited}
-use Rattle.figures.proofs.FigureLaws.{at_most, replaced-most}
-use Rattle.figures.proofs.SizeLaws.{level-limited, limited-below}
-use Rattle.figures.proofs.CheckLaws.{checking-none, checking-found, checking-next, checking-all, counted-room, path-checked, change-checked}
+use Rattle.figures.proofs.FigureLaws.{at_most}
+use Rattle.figures.proofs.SizeLaws.{level-limited}
+use Rattle.figures.proofs.CheckLaws.{checking-none, checking-found, checking-next, checking-all, path-checked}
 use Rattle.figures.proofs.checking.check_links.Goals as goal
 
 pub loop-entry-init : goal.loop-entry-init

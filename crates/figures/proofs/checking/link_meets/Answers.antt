@@ -1,9 +1,9 @@
 -- `figures::checking::link_meets` meets its contract: the loaded levels are those of the definition.
 use Prim.Native.Nat.{ℕ, ◌+◌}
-use mathlib.Core.Path.{◌≡◌, refl, sym, ap, ◌∙◌}
+use mathlib.Core.Path.{◌≡◌, refl, ap, ◌∙◌}
 use mathlib.Core.Bool.{Bool, true, false, cond}
 use mathlib.Core.List.{List}
-use mathlib.Core.Option.{Option, none, some}
+use mathlib.Core.Option.{none, some}
 use lib.Dec.{eqb}
 use Rattle.std.specs.Prelude.{Result, Ok, Err, is_ok}
 use Rattle.model.specs.Formula.{Aggregate}
@@ -11,7 +11,7 @@ use Rattle.model.specs.Reference.{Cause, link_cause}
 use Rattle.model.specs.LinkCheck as model
 use Rattle.causes.specs.declared.Cause as code
 use Rattle.causes.specs.View.{finding_of}
-use Rattle.figures.specs.View.{finding_at, code_at}
+use Rattle.figures.specs.View.{finding_at}
 use Rattle.figures.proofs.SizeLaws.{summable-alone}
 use Rattle.figures.proofs.checking.link_meets.Goals as goal
 
