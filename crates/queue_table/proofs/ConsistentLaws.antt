@@ -1,13 +1,14 @@
 -- A test of the values at 0 to n - 1, one value at a time; a link and a table judged by their numbers.
 -- By induction on n. Assumes nothing.
 use Prim.Native.Nat.{ℕ, zero, suc, ◌+◌, ◌<◌}
-use mathlib.Core.Path.{◌≡◌, refl, ap, ◌∙◌}
+use mathlib.Core.Path.{◌≡◌, refl, sym, ap, ◌∙◌}
 use mathlib.Core.Bool.{Bool, true, false, not, ◌&&◌, and-true, and-false}
-use mathlib.Core.List.{List, [], ◌∷◌}
+use mathlib.Core.List.{List, [], ◌∷◌, ◌++◌}
 use native.Mathlib.Omega.{arith}
 use native.Mathlib.Numerals.{add-one}
 use native.Mathlib.Decide.{dec_lt}
 use lib.Dec.{leb, eqb}
+use Rattle.std.specs.List.{list_all, range_with_len}
 use Rattle.model.specs.Words.{every}
 use Rattle.model.specs.Sizes.{links_most, levels_most}
 use Rattle.model.specs.Columns.{between}
@@ -15,31 +16,27 @@ use Rattle.model.specs.QueueTable.{row_in_range}
 use Rattle.model.specs.Consistent.{row_of, link_consistent, table_consistent}
 use Rattle.model.proofs.Laws.Test.{every_append}
 use Rattle.queue_table.specs.View.{up_to, queue_at, link_count, from_at, to_at, levels_at, link_at, table_of}
-use Rattle.queue_table.proofs.ViewLaws.{length_up}
+use Rattle.queue_table.proofs.ViewLaws.{length_up, up_same}
+
+module _ {A : Type 0} where
+  -- The first value stands before those after it.
+  up-front : (n : ℕ) (f : ℕ → A) → up_to (suc n) f ≡ f 0 ∷ up_to n (λ i. f (suc i))
+  unfolding up_to
+  up-front zero f = refl
+  up-front (suc n) f = ap (λ (l : List A). l ++ (f (suc n) ∷ [])) (up-front n f)
 
 module _ {A : Type 0} (test : A → Bool) (f : ℕ → A) where
-  every_more : (n : ℕ) → every test (up_to (suc n) f) ≡ (every test (up_to n f) && test (f n))
-  unfolding up_to every
-  every_more n = every_append test (up_to n f) (f n ∷ []) ∙ ap (λ (b : Bool). every test (up_to n f) && b) (and-true (test (f n)))
+  range-from : (a n : ℕ) → list_all (λ i. test (f i)) (range_with_len a n) ≡ every test (up_to n (λ i. f (a + i)))
+  unfolding every up_to
+  range-from a zero = refl
+  range-from a (suc n) =
+      ap (λ (b : Bool). test (f a) && b) (range-from (a + 1) n ∙ ap (every test) (up_same n (λ i. f (a + 1 + i)) (λ i. f (a + suc i)) (λ i h. ap f (omega arith))))
+      ∙ ap (λ (k : ℕ). test (f k) && every test (up_to n (λ i. f (a + suc i)))) (omega arith)
+      ∙ sym (ap (every test) (up-front n (λ i. f (a + i))))
 
-  pub every_none : every test (up_to 0 f) ≡ true
-  unfolding up_to every
-  every_none = refl
-
-  -- One value more that passes.
-  pub every_passed : (n : ℕ) → every test (up_to n f) ≡ true → test (f n) ≡ true → every test (up_to (n + 1) f) ≡ true
-  every_passed n e p = rw (add-one n) (every_more n ∙ simp (e, p))
-
-  -- A value that fails.
-  pub every_failed : (n i : ℕ) → i < n → test (f i) ≡ false → every test (up_to n f) ≡ false
-  every_failed zero i h e = absurd (omega arith)
-  every_failed (suc n) i h e = every_more n ∙ go (λ lt. every_failed n i lt e) (dec_lt i n)
-    where
-      go : (i < n → every test (up_to n f) ≡ false) → Dec (i < n) → (every test (up_to n f) && test (f n)) ≡ false
-      go before (yes lt) = simp (before lt)
-      go before (no ge) =
-          let same : i ≡ n = omega arith in
-          simp (rw same at e, and-false)
+  -- A test of each number of a range is one of the values there.
+  pub every_range : (n : ℕ) → list_all (λ i. test (f i)) (range_with_len 0 n) ≡ every test (up_to n f)
+  every_range n = range-from 0 n ∙ ap (every test) (up_same n (λ i. f (0 + i)) f (λ i h. ap f (omega arith)))
 
 module _ (table : List ℕ) where
   pub link_at_numbers : (i : ℕ)

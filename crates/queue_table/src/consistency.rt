@@ -32,17 +32,11 @@ fn level_in_range(i: usize, p: usize, table: &[u32]) -> bool
 }
 
 // 2 of the first `levels` levels of link i.
-#[tactic(auto, using(crate::proofs::ConsistentLaws::every_none, crate::proofs::ConsistentLaws::every_passed))]
 fn levels_in_range(i: usize, levels: usize, table: &[u32]) -> bool
     requires { (i < links_most) × (levels ≤ levels_most) × (length table.now ≡ table_numbers) }
     ensures { result ≡ every (λ q. row_in_range (model.row_of (link_at table.now i) q)) (up_to levels (queue_at table.now i)) }
 {
-    for p in 0..levels {
-        if !level_in_range(i, p, table) {
-            return false;
-        }
-    }
-    true
+    (0..levels).all(|p| level_in_range(i, p, table))
 }
 
 // Whether link i passes 2 to 4. Its number of levels is of any value, so it is judged before they are read.
@@ -57,19 +51,11 @@ fn link_consistent(i: usize, table: &[u32]) -> bool
 }
 
 // Whether an array of any content holds a table that passes 2 to 4.
-#[tactic(auto, using(crate::proofs::ConsistentLaws::every_none, crate::proofs::ConsistentLaws::every_passed, crate::proofs::ConsistentLaws::table_at))]
+#[tactic(auto, using(crate::proofs::ConsistentLaws::table_at))]
 pub fn consistent(table: &[u32]) -> bool
     requires { length table.now ≡ table_numbers }
     ensures { result ≡ model.table_consistent (table_of table.now) }
 {
     let n = link_count(table);
-    if LINKS < n {
-        return false;
-    }
-    for i in 0..n {
-        if !link_consistent(i, table) {
-            return false;
-        }
-    }
-    true
+    n <= LINKS && (0..n).all(|i| link_consistent(i, table))
 }

@@ -1,12 +1,17 @@
--- `queue_table::consistency::levels_in_range` meets its contract: one level that fails is enough.
-use mathlib.Core.Path.{sym, ◌∙◌}
-use native.Mathlib.Omega.{arith}
-use Rattle.queue_table.specs.View.{queue_at}
-use Rattle.queue_table.proofs.ConsistentLaws.{every_failed}
-use Rattle.queue_table.proofs.consistency.levels_in_range.Invariants.{passes}
+-- `queue_table::consistency::levels_in_range` meets its contract: the levels that it tests are the link's.
+use mathlib.Core.Path.{refl, ◌∙◌}
+use Rattle.std.proofs.Common.{arith, rules, tests}
+use Rattle.std.proofs.lemmas.Iterator.{YieldsList-from_range}
+use Rattle.std.proofs.lemmas.Iterator.Search.{all_from_yields_List}
+use Rattle.model.specs.QueueTable.{Queue, row_in_range}
+use Rattle.model.specs.Consistent.{row_of}
+use Rattle.queue_table.specs.View.{queue_at, link_at}
+use Rattle.queue_table.proofs.ConsistentLaws.{every_range}
 use Rattle.queue_table.proofs.consistency.levels_in_range.Goals as goal
 
-pub returns-then-not-level_in_range : goal.returns-then-not-level_in_range
-returns-then-not-level_in_range c =
+pub returns : goal.returns
+returns c =
     let args = c.args in
-    sym (every_failed (passes args.table.now args.i) (queue_at args.table.now args.i) args.levels c.loop-p.p (omega arith) (sym c.level_in_range.ensures ∙ c.if-not-level_in_range.true))
+    let test = λ (q : Queue). row_in_range (row_of (link_at args.table.now args.i) q) in
+    all_from_yields_List (λ p. test (queue_at args.table.now args.i p)) _ _ _ c.all.ensures.ran (YieldsList-from_range 0 args.levels args.levels refl (omega arith)) (λ x b q k. search (rules, tests))
+    ∙ every_range test (queue_at args.table.now args.i) args.levels
