@@ -1,12 +1,10 @@
 -- A test of the values at 0 to n - 1, one value at a time; a link and a table judged by their numbers.
 -- By induction on n. Assumes nothing.
-use Prim.Native.Nat.{ℕ, zero, suc, ◌+◌, ◌<◌}
+use Prim.Native.Nat.{ℕ, zero, suc, ◌+◌}
 use mathlib.Core.Path.{◌≡◌, refl, sym, ap, ◌∙◌}
-use mathlib.Core.Bool.{Bool, true, false, not, ◌&&◌, and-true, and-false}
+use mathlib.Core.Bool.{Bool, not, ◌&&◌}
 use mathlib.Core.List.{List, [], ◌∷◌, ◌++◌}
 use native.Mathlib.Omega.{arith}
-use native.Mathlib.Numerals.{add-one}
-use native.Mathlib.Decide.{dec_lt}
 use lib.Dec.{leb, eqb}
 use Rattle.std.specs.List.{list_all, range_with_len}
 use Rattle.model.specs.Words.{every}
@@ -14,7 +12,6 @@ use Rattle.model.specs.Sizes.{links_most, levels_most}
 use Rattle.model.specs.Columns.{between}
 use Rattle.model.specs.QueueTable.{row_in_range}
 use Rattle.model.specs.Consistent.{row_of, link_consistent, table_consistent}
-use Rattle.model.proofs.Laws.Test.{every_append}
 use Rattle.queue_table.specs.View.{up_to, queue_at, link_count, from_at, to_at, levels_at, link_at, table_of}
 use Rattle.queue_table.proofs.ViewLaws.{length_up, up_same}
 

@@ -12,7 +12,6 @@ use Rattle.model.specs.Columns.{Line, lines}
 use Rattle.model.proofs.Laws.Columns.{lines-nothing}
 use Rattle.model.specs.QueueTable as model
 use Rattle.model.specs.Reference.{table_of}
-use Rattle.queue_table.specs.declared.Advance.{Advance}
 use Rattle.queue_table.specs.declared.Fault.{Fault}
 use Rattle.queue_table.specs.declared.Fault.TheVariants.{TooLong}
 use Rattle.queue_table.specs.declared.Refusal.{Refusal}

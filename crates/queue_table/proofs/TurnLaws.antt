@@ -21,7 +21,7 @@ use Rattle.model.proofs.Laws.Table.{RowRules, row-rules, row-turn}
 use Rattle.queue_table.specs.declared.Fault.{Fault}
 use Rattle.queue_table.specs.declared.Fault.TheVariants.{Malformed, OutOfRange, OutOfTurn, Disagrees, TooLong}
 use Rattle.queue_table.specs.declared.row.Row.{Row}
-use Rattle.queue_table.specs.View.{numbers_of, up_to, queue_at, from_at, to_at, speed_at, levels_at, fixed_delay_at, best_effort_at, link_at, links_of, fault_code, code_of, step_of, row_stored, Linked, Placed, LineAdded, LineTaken}
+use Rattle.queue_table.specs.View.{numbers_of, up_to, queue_at, from_at, to_at, speed_at, levels_at, fixed_delay_at, best_effort_at, link_at, links_of, fault_code, row_stored, Linked, Placed, LineAdded, LineTaken}
 use Rattle.queue_table.proofs.ViewLaws.{begins_at, continues_none, continues_at, same_at, links-newest}
 use Rattle.queue_table.proofs.StoreLaws.{link_with, older-links, older-levels, stored, stored-levels, link-stored, stored-long}
 

@@ -7,7 +7,7 @@ use Rattle.std.proofs.Math.Option.{Option, none, some}
 use Rattle.std.proofs.lemmas.List.Edits.{sets}
 use Rattle.model.specs.Words.{All}
 use Rattle.model.specs.Sizes.{links_most, levels_most, queues_most}
-use Rattle.model.specs.Columns.{Line, ended, lines}
+use Rattle.model.specs.Columns.{ended, lines}
 use Rattle.model.specs.QueueTable as model
 use Rattle.model.specs.Orders.{Hop}
 use Rattle.model.specs.Reference as opened

@@ -1,14 +1,13 @@
 -- `queue_table::consistent` meets its contract: the links that it tests are the table's.
-use mathlib.Core.Path.{refl, sym, ap, ◌∙◌}
+use mathlib.Core.Path.{refl, sym, ◌∙◌}
 use mathlib.Core.Bool.{and-true}
 use borrow.Author.Tests.{le-leb}
 use Rattle.std.proofs.Common.{arith, rules, tests}
 use Rattle.std.proofs.lemmas.Iterator.{YieldsList-from_range}
 use Rattle.std.proofs.lemmas.Iterator.Search.{all_from_yields_List}
 use Rattle.model.specs.Sizes.{links_most}
-use Rattle.model.specs.Words.{every}
 use Rattle.model.specs.Consistent.{link_consistent}
-use Rattle.queue_table.specs.View.{up_to, link_count, link_at}
+use Rattle.queue_table.specs.View.{link_count, link_at}
 use Rattle.queue_table.proofs.ConsistentLaws.{every_range, table_at}
 use Rattle.queue_table.proofs.consistency.consistent.Goals as goal
 
