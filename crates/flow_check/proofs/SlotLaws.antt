@@ -1,12 +1,12 @@
 -- A slot judged test by test: what the tests of its numbers say of the flow that it holds.
 -- Assumes nothing.
-use Prim.Native.Nat.{ℕ, zero, suc, ◌+◌, ◌≤◌, ◌<◌}
+use Prim.Native.Nat.{ℕ, ◌+◌, ◌≤◌, ◌<◌}
 use mathlib.Core.Path.{◌≡◌, refl, sym, ap, ◌∙◌}
 use mathlib.Core.Bool.{Bool, true, false, ◌&&◌, true≢false}
 use mathlib.Core.List.{List, ◌∷◌, map}
 use mathlib.Core.Option.{Option, none, some}
 use native.Mathlib.Omega.{arith}
-use borrow.Author.Tests.{eq-eqb, ne_eqb, le-leb, lt-leb, lt-ltb, le-ltb}
+use borrow.Author.Tests.{eq-eqb, ne_eqb, leb-true, lt-ltb, le-ltb}
 use lib.ListN.{length, get_or}
 use lib.Dec.{leb, ltb, eqb}
 use Rattle.model.specs.Words.{first_index, is_none}
@@ -14,7 +14,7 @@ use Rattle.model.specs.Sizes.{number_most, hops_most, slot_count}
 use Rattle.model.specs.Columns.{between}
 use Rattle.model.specs.Orders as model
 use Rattle.model.specs.QueueTable.{Table}
-use Rattle.model.proofs.Laws.Test.{both-and}
+use Rattle.model.proofs.Laws.Test.{and_both}
 use Rattle.model.proofs.Laws.Admissible.{flow-bounds}
 use Rattle.model.specs.Consistent.{flow_in_range, head_of}
 use Rattle.model.specs.Reference.{Cause, Slot, first_cause, whole, holds, line_findings, deadline_finding}
@@ -67,10 +67,6 @@ module _ (t : Table) (slots : List Slot) (i : ℕ) (f : model.Flow) where
       unfolding slot_alone first_cause line_findings deadline_finding entry_findings whole
       alone-path e = simp (range, own, e)
 
-pos : (n : ℕ) → (n ≡ 0 → ⊥) → 1 ≤ n
-pos zero ne = absurd (ne refl)
-pos (suc n) ne = omega arith
-
 module _ (t : Table) (i : ℕ) {bits store : List ℕ} (stored : PackedStore bits store) (inside : i < slot_count) where
   abbrev all : List Slot
   all = slots_of bits store
@@ -108,21 +104,15 @@ module _ (t : Table) (i : ℕ) {bits store : List ℕ} (stored : PackedStore bit
       hops : g.hops ≡ hops_at store i
       hops = ap (λ (h : model.Head). h.hops) e
 
-      pub judged-none : g.hops ≡ 0 → here ≡ false
-      unfolding between
-      judged-none z = outside (rw (← hops, z))
+      within : between 1 hops_most (hops_at store i) ≡ between 1 hops_most g.hops
+      within = ap (between 1 hops_most) (sym hops)
 
-      pub judged-many : hops_most < g.hops → here ≡ false
-      unfolding between
-      judged-many h = outside (and-false (leb 1 (hops_at store i)) (lt-leb (hops_at store i) hops_most (omega (arith, hops))))
+      pub judged-hops : between 1 hops_most g.hops ≡ false → here ≡ false
+      judged-hops o = outside (within ∙ o)
 
-      module _ (some-hops : g.hops ≡ 0 → ⊥) (few : g.hops ≤ hops_most) where
-        fits : between 1 hops_most (hops_at store i) ≡ true
-        unfolding between
-        fits = rw (← hops) (both-and (le-leb 1 g.hops (pos g.hops some-hops)) (le-leb g.hops hops_most few))
-
+      module _ (fits : between 1 hops_most g.hops ≡ true) where
         range-here : flow_in_range flow ≡ model.head_in_range (fields_of g)
-        range-here = range_at ∙ and-true _ fits ∙ ap model.head_in_range (sym e)
+        range-here = range_at ∙ and-true _ (within ∙ fits) ∙ ap model.head_in_range (sym e)
 
         pub judged-range : model.head_in_range (fields_of g) ≡ false → here ≡ false
         judged-range r = there ∙ alone-range t all i flow (range-here ∙ r)
@@ -133,8 +123,7 @@ pub record Ranged (i : ℕ) (bits store : List ℕ) (g : Flow) : Type 0 where
   pub inside : i < slot_count
   pub held : is_set bits i ≡ true
   pub fields : fields_of g ≡ head_at store i
-  pub some-hops : g.hops ≡ 0 → ⊥
-  pub few : g.hops ≤ hops_most
+  pub fits : between 1 hops_most g.hops ≡ true
   pub range : model.head_in_range (fields_of g) ≡ true
 
 module _ (t : Table) {i : ℕ} {bits store : List ℕ} {g : Flow} (r : Ranged i bits store g) where
@@ -147,8 +136,12 @@ module _ (t : Table) {i : ℕ} {bits store : List ℕ} {g : Flow} (r : Ranged i 
   found : get_or view i none ≡ some f
   found = held-slot bits store i r.inside r.held
 
+  pub judged-few : g.hops ≤ hops_most
+  unfolding between
+  judged-few = leb-true g.hops hops_most (and_both (leb 1 g.hops) _ r.fits).1
+
   ranged : flow_in_range f ≡ true
-  ranged = range-here t i r.stored r.inside r.held g r.fields r.some-hops r.few ∙ r.range
+  ranged = range-here t i r.stored r.inside r.held g r.fields r.fits ∙ r.range
 
   number : f.number ≡ g.number
   unfolding flow_at

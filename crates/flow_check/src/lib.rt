@@ -6,6 +6,7 @@ ghost use Rattle.std.specs.Prelude.{◌≡◌, true, map, ◌+◌, ◌≤◌, �
 ghost use Rattle.std.proofs.Math.Option.{none};
 ghost use Rattle.model.specs.Words.{every, is_none};
 ghost use Rattle.model.specs.Sizes.{number_most, hops_most, slot_count};
+ghost use Rattle.model.specs.Columns.{between};
 ghost use Rattle.model.specs.Reference.{first_cause, held_flows};
 ghost use Rattle.queue_table.specs.View.{WellFormed, hop_at, table_of, AllQueues};
 ghost use Rattle.bit_words.specs.View.{is_set, BitChanged};
@@ -14,7 +15,7 @@ ghost use Rattle.orders.specs.View.{hop_numbers};
 ghost use Rattle.causes.specs.View.{finding_of};
 ghost use Rattle.flow_check.specs.View.{entry_findings, PathJudged, FlowJudged, RoomJudged, flow_alone, slot_alone, path_findings, number_words, Marked};
 
-use causes::{Cause, Finding};
+use causes::Cause;
 use flow_store::{POOL, SLOTS};
 use orders::{Flow, MOST_HOPS, MOST_NUMBER};
 use units::Micros;
@@ -22,122 +23,73 @@ use units::Micros;
 // How many words mark flow numbers: number n at bit n % 64 of word n / 64.
 const NUMBER_WORDS: usize = MOST_NUMBER / bit_words::WORD + 1;
 
-// What is against a flow by itself; where that is nothing, the entries name its path, else they are free.
-#[derive(Clone, Copy)]
-pub struct Judged {
-    pub finding: Finding,
-    pub entries: [u32; MOST_HOPS],
-}
-
-// Whether there is room, and where there is, the slot that is free.
-#[derive(Clone, Copy)]
-pub struct FreeSlot {
-    pub finding: Finding,
-    pub slot: usize,
-}
-
 // 16, 15 and 20 over a path whose entries are queues.
-fn judge_entries(deadline: Micros, table: &[u32], entries: &[u32]) -> Finding
+fn judge_entries(deadline: Micros, table: &[u32], entries: &[u32]) -> Result<(), Cause>
     requires { WellFormed table.now × AllQueues table.now entries.now × (length entries.now ≤ hops_most) }
     ensures { finding_of result ≡ first_cause (entry_findings (table_of table.now) deadline.0 (map hop_at entries.now)) }
 {
-    let again = path_check::repeated(entries);
-    if again < entries.len() {
+    if let Some(again) = path_check::repeated(entries) {
         let hop = queue_table::hop_at(entries[again]);
-        return Finding::Against(Cause::MetEarlier(hop.link, hop.level));
+        return Err(Cause::MetEarlier(hop.link, hop.level));
     }
-    let apart = path_check::broken(table, entries);
-    if apart < entries.len() {
+    if let Some(apart) = path_check::broken(table, entries) {
         let hop = queue_table::hop_at(entries[apart]);
-        return Finding::Against(Cause::StartsElsewhere(hop.link, hop.level));
+        return Err(Cause::StartsElsewhere(hop.link, hop.level));
     }
     let sum = path_check::path_delay(table, entries);
     if deadline.0 < sum.0 {
-        return Finding::Against(Cause::OverDeadline);
+        return Err(Cause::OverDeadline);
     }
-    Finding::Nothing
+    Ok(())
 }
 
 // 14, then 16, 15 and 20, over the hops of an order line.
-fn judge_path(flow: Flow, hops: &[u32], table: &[u32]) -> Judged
+fn judge_path(flow: Flow, hops: &[u32], table: &[u32]) -> Result<[u32; MOST_HOPS], Cause>
     requires { WellFormed table.now × (length hops.now ≡ hop_numbers) × (flow.hops ≤ hops_most) }
     ensures { PathJudged flow hops.now table.now result }
 {
     let count = flow.hops as usize;
-    let located = path_check::locate(table, hops, count);
-    let at = located.missing;
-    let entries = located.entries;
-    if at < count {
-        return Judged {
-            finding: Finding::Against(Cause::NoQueue(
-                orders::hop_link(hops, at),
-                orders::hop_level(hops, at),
-            )),
-            entries,
-        };
-    }
-    Judged {
-        finding: judge_entries(flow.deadline, table, &entries[..count]),
-        entries,
-    }
+    let entries = path_check::locate(table, hops, count).map_err(|at| Cause::NoQueue(
+        orders::hop_link(hops, at),
+        orders::hop_level(hops, at),
+    ))?;
+    judge_entries(flow.deadline, table, &entries[..count])?;
+    Ok(entries)
 }
 
-// 12, 17, 14, 16, 15 and 20.
-pub fn judge_flow(flow: Flow, hops: &[u32], table: &[u32], bits: &[u64], store: &[u32]) -> Judged
+// 12, 17, 14, 16, 15 and 20: what is against a flow by itself, or the entries of its path.
+pub fn judge_flow(
+    flow: Flow,
+    hops: &[u32],
+    table: &[u32],
+    bits: &[u64],
+    store: &[u32],
+) -> Result<[u32; MOST_HOPS], Cause>
     requires { WellFormed table.now × (length hops.now ≡ hop_numbers) × (flow.hops ≤ hops_most) × (length bits.now ≡ slot_words) × (length store.now ≡ store_numbers) }
     ensures { FlowJudged flow hops.now table.now bits.now store.now result }
 {
-    let number = flow.number;
-    let share = flow.share;
-    let burst = share.burst.0;
-    let frame = share.frame.0;
-    let held = flow_store::find(number, bits, store) < SLOTS;
-    if held {
-        return Judged {
-            finding: Finding::Against(Cause::NumberHeld),
-            entries: [0; MOST_HOPS],
-        };
+    if flow_store::find(flow.number, bits, store).is_some() {
+        return Err(Cause::NumberHeld);
     }
-    if burst < frame {
-        return Judged {
-            finding: Finding::Against(Cause::FrameAboveBurst),
-            entries: [0; MOST_HOPS],
-        };
+    if flow.share.burst.0 < flow.share.frame.0 {
+        return Err(Cause::FrameAboveBurst);
     }
     judge_path(flow, hops, table)
 }
 
-// 30, then 31 for a path of so many hops.
-pub fn judge_room(hops: u32, bits: &[u64], store: &[u32]) -> FreeSlot
+// 30, then 31 for a path of so many hops; else the slot that is free.
+pub fn judge_room(hops: u32, bits: &[u64], store: &[u32]) -> Result<usize, Cause>
     requires { PackedStore bits.now store.now × (hops ≤ hops_most) }
     ensures { RoomJudged hops bits.now store.now result }
 {
     let slot = flow_store::first_free(bits);
     if SLOTS <= slot {
-        return FreeSlot {
-            finding: Finding::Against(Cause::NoSlot),
-            slot,
-        };
+        return Err(Cause::NoSlot);
     }
     if POOL - (hops as usize) < flow_store::held_entries(bits, store) {
-        return FreeSlot {
-            finding: Finding::Against(Cause::NoEntries),
-            slot,
-        };
+        return Err(Cause::NoEntries);
     }
-    FreeSlot {
-        finding: Finding::Nothing,
-        slot,
-    }
-}
-
-fn is_nothing(finding: Finding) -> bool
-    ensures { result ≡ is_none (finding_of finding) }
-{
-    match finding {
-        Finding::Nothing => true,
-        Finding::Against(_) => false,
-    }
+    Ok(slot)
 }
 
 // Whether none of 14, 16, 15 and 20 is against a path of entries of any value.
@@ -145,10 +97,7 @@ fn path_stands(deadline: Micros, table: &[u32], entries: &[u32]) -> bool
     requires { WellFormed table.now × (length entries.now ≤ hops_most) }
     ensures { result ≡ is_none (first_cause (path_findings (table_of table.now) deadline.0 (map hop_at entries.now))) }
 {
-    if !path_check::all_queues(table, entries) {
-        return false;
-    }
-    is_nothing(judge_entries(deadline, table, entries))
+    path_check::all_queues(table, entries) && judge_entries(deadline, table, entries).is_ok()
 }
 
 // Marks a flow number, and says whether it was marked before.
@@ -162,6 +111,14 @@ fn mark(number: u32, marks: &mut [u64]) -> bool
     known
 }
 
+// Whether a path may have so many hops.
+#[tactic(auto, unfolding(model::specs::Columns::between))]
+fn hops_in_range(hops: u32) -> bool
+    ensures { result ≡ between 1 hops_most hops }
+{
+    (1..=MOST_HOPS as u32).contains(&hops)
+}
+
 // Whether a slot is free, or its flow meets 11, 12, 17, 14, 16, 15 and 20; its numbers can have any value. Its flow number is
 // marked beside those of the slots before it.
 fn slot_stands(slot: usize, table: &[u32], bits: &[u64], store: &[u32], marks: &mut [u64]) -> bool
@@ -173,27 +130,17 @@ fn slot_stands(slot: usize, table: &[u32], bits: &[u64], store: &[u32], marks: &
         return true;
     }
     let flow = flow_store::flow_at(slot, store);
-    let number = flow.number;
-    let share = flow.share;
-    let burst = share.burst.0;
-    let largest = share.frame.0;
-    let hops = flow.hops;
-    if hops == 0 {
-        return false;
-    }
-    if (MOST_HOPS as u32) < hops {
+    if !hops_in_range(flow.hops) {
         return false;
     }
     if !orders::in_range(flow) {
         return false;
     }
-    if mark(number, marks) {
+    if mark(flow.number, marks) {
         return false;
     }
-    if burst < largest {
-        return false;
-    }
-    path_stands(flow.deadline, table, flow_store::path_of(slot, store))
+    flow.share.frame.0 <= flow.share.burst.0
+        && path_stands(flow.deadline, table, flow_store::path_of(slot, store))
 }
 
 // Whether each held flow meets 11, 12, 17, 14, 16, 15 and 20 beside the others; no flow number is marked yet.
@@ -201,12 +148,10 @@ fn slots_stand(table: &[u32], bits: &[u64], store: &[u32], marks: &mut [u64]) ->
     requires { WellFormed table.now × PackedStore bits.now store.now × Marked (slots_of bits.now store.now) 0 marks.old }
     ensures { result ≡ every (flow_alone (table_of table.now) (held_flows (slots_of bits.now store.now))) (held_flows (slots_of bits.now store.now)) }
 {
-    let mut slot = 0;
-    while slot < SLOTS {
+    for slot in 0..SLOTS {
         if !slot_stands(slot, table, bits, store, marks) {
             return false;
         }
-        slot += 1;
     }
     true
 }

@@ -1,10 +1,9 @@
 -- `flow_check::slots_stand` meets its contract. The invariant: the slots before this one stand, and their numbers are marked.
-use Prim.Native.Nat.{ℕ, ◌-◌, ◌≤◌, ◌<◌}
+use Prim.Native.Nat.{ℕ, ◌<◌}
 use mathlib.Core.Path.{◌≡◌}
 use mathlib.Core.Bool.{true}
 use mathlib.Core.Option.{none}
 use lib.ListN.{get_or}
-use Rattle.model.specs.Sizes.{slot_count}
 use Rattle.queue_table.specs.View.{table_of}
 use Rattle.flow_store.specs.View.{slots_of}
 use Rattle.flow_check.specs.View.{slot_alone, Marked}
@@ -12,9 +11,5 @@ use Rattle.flow_check.proofs.slots_stand.Given as goal
 
 abbrev pub invariant-loop-slot : goal.invariant-loop-slot
 invariant-loop-slot l =
-    (l.slot ≤ slot_count)
-    × Marked (slots_of l.bits l.store) l.slot l.marks
+    Marked (slots_of l.bits l.store) l.slot l.marks
     × ((j : ℕ) → j < l.slot → slot_alone (table_of l.table) (slots_of l.bits l.store) j (get_or (slots_of l.bits l.store) j none) ≡ true)
-
-abbrev pub decreases-loop-slot : goal.decreases-loop-slot
-decreases-loop-slot l = slot_count - l.slot
