@@ -8,9 +8,8 @@
 // stands past the last held entry doesn't count.
 #![tactic(auto)]
 
-ghost use Rattle.std.specs.Prelude.{◌≡◌, ℕ, ◌+◌, ◌-◌, ◌^◌, ◌<◌, ◌≤◌, true, false, List, length, take, drop, ◌≢◌, slice_index_or, slice_set};
+ghost use Rattle.std.specs.Prelude.{◌≡◌, ℕ, ◌+◌, ◌-◌, ◌^◌, ◌<◌, ◌≤◌, true, false, List, length, take, ◌≢◌, slice_index_or, slice_set};
 ghost use Rattle.std.proofs.Math.Option.{none};
-ghost use Rattle.std.proofs.Math.Seq.{paste};
 ghost use Rattle.model.specs.Words.{first_index};
 ghost use Rattle.model.specs.Sizes.{hops_most, slot_count};
 ghost use Rattle.model.specs.Reference.{holds, changed_slot};
@@ -261,8 +260,8 @@ pub fn insert(slot: usize, flow: Flow, entries: &[u32], bits: &mut [u64], store:
     requires { Placeable slot flow entries.now bits.old store.old × LeastClear bits.old slot }
     ensures { Placed slot flow entries.now bits.old store.old bits.new store.new }
 {
-    let start = end_before(slot, &store[..]);
-    let end = held_entries(&bits[..], &store[..]);
+    let start = end_before(slot, store);
+    let end = held_entries(bits, store);
     put(slot, start, end, flow, entries, bits, store);
 }
 
@@ -271,7 +270,7 @@ pub fn append(slot: usize, flow: Flow, entries: &[u32], bits: &mut [u64], store:
     requires { Placeable slot flow entries.now bits.old store.old × FreeFrom bits.old slot }
     ensures { Placed slot flow entries.now bits.old store.old bits.new store.new }
 {
-    let end = held_entries(&bits[..], &store[..]);
+    let end = held_entries(bits, store);
     put(slot, end, end, flow, entries, bits, store);
 }
 
@@ -310,9 +309,9 @@ pub fn remove(slot: usize, bits: &mut [u64], store: &mut [u32])
     ensures store_after { slots_of bits.new store.new ≡ slice_set (slots_of bits.old store.old) slot none }
     ensures packed_store { PackedStore bits.new store.new }
 {
-    let start = start_at(slot, &store[..]);
-    let hops = hops_at(slot, &store[..]);
-    let end = held_entries(&bits[..], &store[..]);
+    let start = start_at(slot, store);
+    let hops = hops_at(slot, store);
+    let end = held_entries(bits, store);
     remove_path(start, end, hops, &mut store[SLOT_NUMBERS..]);
     move_starts(slot + 1, (hops as u32).wrapping_neg(), store);
     bit_words::clear_bit(slot, bits);

@@ -19,10 +19,9 @@ overflow_cast-start c =
 
 pub returns : goal.returns
 returns c =
-    let at = c.before.before.before.before.before.before.before.before.before.before.before.before.before.before.before.before.before.before.before in
-    let store = at.args.store.now in
-    let entries = at.args.entries.now in
-    let placed = c.insert_path.ensures ∙ ap (path_inserted at.args.start at.args.end entries) (lent-pool store) in
+    let store = c.args.store.now in
+    let entries = c.args.entries.now in
+    let placed = c.insert_path.ensures ∙ ap (path_inserted c.args.start c.args.end entries) (lent-pool store) in
     let moved = moved-pooled store placed c.move_starts.ensures in
-    rw (c.store_flow.ensures, at.requires.start_value.0)
-    (inserted at.requires.placeable.0 at.requires.placeable.1 c.set_bit.ensures (rw (at.requires.start_value.0, at.requires.start_value.1) at moved))
+    rw (c.store_flow.ensures, c.requires.start_value.0)
+    (inserted c.requires.placeable.0 c.requires.placeable.1 c.set_bit.ensures (rw (c.requires.start_value.0, c.requires.start_value.1) at moved))

@@ -19,37 +19,23 @@ remove_path-requires c =
     let end = c.held_entries-end.ensures in
     (omega (arith, count, start, end, order pre.1 pre.0), omega (arith, end, within pre.1 pre.0, ap length (lent-pool args.store.now)))
 
-pub clear_bit-requires : goal.clear_bit-requires
-clear_bit-requires c =
-    let pre = c.requires in
-    omega (arith, pre.0.bits-long, pre.1)
-
 -- What the parts leave.
 module _ (c : lts.After-slice_known5 tie.the-claims reads.Pre reads.Post tie.handed_clauses) where
-  abbrev first : lts.Start tie.the-claims reads.Pre reads.Post tie.handed_clauses
-  first = c.before.before.before.before.before.before.before.before.before.before.before.before.before.before.before.before.before.before
+  start : c.start_at-start.result ≡ counts_from c.args.slot 0 c.args.bits.now c.args.store.now
+  start = c.start_at-start.ensures.0 ∙ c.requires.0.packed.starts c.args.slot c.requires.1 c.requires.2
 
-  start : c.start_at-start.result ≡ counts_from first.args.slot 0 first.args.bits.now first.args.store.now
-  start = c.start_at-start.ensures.0 ∙ first.requires.0.packed.starts first.args.slot first.requires.1 first.requires.2
+  count : c.hops_at-hops.result ≡ count_at c.args.bits.now c.args.store.now c.args.slot
+  count = c.hops_at-hops.ensures.0 ∙ sym (count_held c.args.bits.now c.args.store.now c.args.slot c.requires.2)
 
-  count : c.hops_at-hops.result ≡ count_at first.args.bits.now first.args.store.now first.args.slot
-  count = c.hops_at-hops.ensures.0 ∙ sym (count_held first.args.bits.now first.args.store.now first.args.slot first.requires.2)
-
-  complement : (c.wrapping_neg.result + count_at first.args.bits.now first.args.store.now first.args.slot) % 2 ^ 32 ≡ 0
+  complement : (c.wrapping_neg.result + count_at c.args.bits.now c.args.store.now c.args.slot) % 2 ^ 32 ≡ 0
   complement = rw (sym count) c.wrapping_neg.ensures
 
-  shift : StartsMoved (first.args.slot + 1) c.wrapping_neg.result (pooled first.args.store.now (pool' first.requires.1 first.requires.0)) c.move_starts.new.store
+  shift : StartsMoved (c.args.slot + 1) c.wrapping_neg.result (pooled c.args.store.now (pool' c.requires.1 c.requires.0)) c.move_starts.new.store
   shift =
       let end = c.held_entries-end.ensures in
-      let left = c.remove_path.ensures ∙ (λ t. path_removed (start t) (end t) (count t) (lent-pool first.args.store.now t)) in
-      moved-pooled first.args.store.now left c.move_starts.ensures
-
-pub shape_of-bits : goal.shape_of-bits
-shape_of-bits c = c.clear_bit.ensures.long
-
-pub shape_of-store : goal.shape_of-store
-shape_of-store c = (removed-store (first c.before).requires.1 (first c.before).requires.0 (complement c.before) c.clear_bit.ensures (shift c.before)).store_long ∙ sym (first c.before).requires.0.store_long
+      let left = c.remove_path.ensures ∙ (λ t. path_removed (start t) (end t) (count t) (lent-pool c.args.store.now t)) in
+      moved-pooled c.args.store.now left c.move_starts.ensures
 
 pub returns : goal.returns
 returns c =
-    let marked = c.clear_bit.ensures in record { store_after = removed (first c.before).requires.1 (first c.before).requires.0 (complement c.before) marked (shift c.before); packed_store = removed-store (first c.before).requires.1 (first c.before).requires.0 (complement c.before) marked (shift c.before) }
+    let marked = c.clear_bit.ensures in record { store_after = removed c.requires.1 c.requires.0 (complement c.before) marked (shift c.before); packed_store = removed-store c.requires.1 c.requires.0 (complement c.before) marked (shift c.before) }
