@@ -126,7 +126,7 @@ fn add_line(line: &[u8], n: usize, table: &mut [u32]) -> Result<usize, Fault>
     ensures { LineAdded n table.old table.new line.now result }
 {
     let row = read_row(line).ok_or(Fault::Malformed)?;
-    judge_row(row, n, &table[..])?;
+    judge_row(row, n, table)?;
     store_row(row, table);
     Ok(row.link as usize)
 }
