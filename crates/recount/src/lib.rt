@@ -20,11 +20,14 @@ fn count_slot(slot: usize, table: &[u32], bits: &[u64], store: &[u32], figures: 
     requires counted { Counted table.now bits.now store.now figures.old (slot + 1) }
     ensures { Counted table.now bits.now store.now figures.new slot }
 {
-    if !is_held(slot, bits) {
-        return;
+    if is_held(slot, bits) {
+        figures::add_path(
+            flow_at(slot, store).share,
+            table,
+            path_of(slot, store),
+            figures,
+        );
     }
-    let flow = flow_at(slot, store);
-    figures::add_path(flow.share, table, path_of(slot, store), figures);
 }
 
 // Works out anew the figures of the held flows, whatever `figures` holds.
@@ -33,9 +36,7 @@ pub fn recount(table: &[u32], bits: &[u64], store: &[u32], figures: &mut [u64])
     ensures { Recounted table.now bits.now store.now figures.new }
 {
     figures::clear(figures);
-    let mut slot = SLOTS;
-    while 0 < slot {
-        slot -= 1;
+    for slot in (0..SLOTS).rev() {
         count_slot(slot, table, bits, store, figures);
     }
 }
@@ -46,12 +47,13 @@ fn raise_slot(slot: usize, bits: &[u64], store: &[u32], figures: &mut [u64])
     requires all { is_set bits.now slot ≡ true → All (λ e. e < queues_most) (entries_in store.now slot) }
     ensures { SlotRaised bits.now store.now slot figures.old figures.new }
 {
-    if !is_held(slot, bits) {
-        return;
+    if is_held(slot, bits) {
+        figures::raise_path(
+            flow_at(slot, store).share.frame,
+            path_of(slot, store),
+            figures,
+        );
     }
-    let flow = flow_at(slot, store);
-    let share = flow.share;
-    figures::raise_path(share.frame, path_of(slot, store), figures);
 }
 
 // Raises each queue's largest frame to that of the held flows.
@@ -60,9 +62,7 @@ pub fn raise_frames(bits: &[u64], store: &[u32], figures: &mut [u64])
     requires by_index { (i : ℕ) → i < slot_count → is_set bits.now i ≡ true → All (λ e. e < queues_most) (entries_in store.now i) }
     ensures { FramesRaised bits.now store.now figures.old figures.new }
 {
-    let mut slot = 0;
-    while slot < SLOTS {
+    for slot in 0..SLOTS {
         raise_slot(slot, bits, store, figures);
-        slot += 1;
     }
 }
