@@ -39,14 +39,6 @@ unfolding first_cause is_none
 first-skip none l e = refl
 first-skip (some c) l e = absurd (true≢false (sym e))
 
-and-false : (a : Bool) {b : Bool} → b ≡ false → (a && b) ≡ false
-and-false true e = e
-and-false false e = refl
-
-and-true : (a : Bool) {b : Bool} → b ≡ true → (a && b) ≡ a
-and-true true e = e
-and-true false e = refl
-
 module _ (t : Table) (slots : List Slot) (i : ℕ) (f : model.Flow) where
   alone-range : flow_in_range f ≡ false → slot_alone t slots i (some f) ≡ false
   unfolding slot_alone
@@ -96,26 +88,13 @@ module _ (t : Table) (i : ℕ) {bits store : List ℕ} (stored : PackedStore bit
         ap (λ (n : ℕ). model.head_in_range (head_at store i) && between 1 hops_most n)
         (flow-long store stored.store_long i (path_inside bits store stored.packed i inside held))
 
-    outside : between 1 hops_most (hops_at store i) ≡ false → here ≡ false
-    outside o = there ∙ alone-range t all i flow (range_at ∙ and-false (model.head_in_range (head_at store i)) o)
-
     -- By the numbers read from the slot.
     module _ (g : Flow) (e : fields_of g ≡ head_at store i) where
-      hops : g.hops ≡ hops_at store i
-      hops = ap (λ (h : model.Head). h.hops) e
+      range-here : flow_in_range flow ≡ (model.head_in_range (fields_of g) && between 1 hops_most g.hops)
+      range-here = range_at ∙ ap (λ (h : model.Head). model.head_in_range h && between 1 hops_most h.hops) (sym e)
 
-      within : between 1 hops_most (hops_at store i) ≡ between 1 hops_most g.hops
-      within = ap (between 1 hops_most) (sym hops)
-
-      pub judged-hops : between 1 hops_most g.hops ≡ false → here ≡ false
-      judged-hops o = outside (within ∙ o)
-
-      module _ (fits : between 1 hops_most g.hops ≡ true) where
-        range-here : flow_in_range flow ≡ model.head_in_range (fields_of g)
-        range-here = range_at ∙ and-true _ (within ∙ fits) ∙ ap model.head_in_range (sym e)
-
-        pub judged-range : model.head_in_range (fields_of g) ≡ false → here ≡ false
-        judged-range r = there ∙ alone-range t all i flow (range-here ∙ r)
+      pub judged-range : (model.head_in_range (fields_of g) && between 1 hops_most g.hops) ≡ false → here ≡ false
+      judged-range r = there ∙ alone-range t all i flow (range-here ∙ r)
 
 -- What the tests up to 11 tell of a slot: it is held, and the numbers read from it are in range.
 pub record Ranged (i : ℕ) (bits store : List ℕ) (g : Flow) : Type 0 where
@@ -123,8 +102,7 @@ pub record Ranged (i : ℕ) (bits store : List ℕ) (g : Flow) : Type 0 where
   pub inside : i < slot_count
   pub held : is_set bits i ≡ true
   pub fields : fields_of g ≡ head_at store i
-  pub fits : between 1 hops_most g.hops ≡ true
-  pub range : model.head_in_range (fields_of g) ≡ true
+  pub range : (model.head_in_range (fields_of g) && between 1 hops_most g.hops) ≡ true
 
 module _ (t : Table) {i : ℕ} {bits store : List ℕ} {g : Flow} (r : Ranged i bits store g) where
   abbrev view : List Slot
@@ -138,10 +116,10 @@ module _ (t : Table) {i : ℕ} {bits store : List ℕ} {g : Flow} (r : Ranged i 
 
   pub judged-few : g.hops ≤ hops_most
   unfolding between
-  judged-few = leb-true g.hops hops_most (and_both (leb 1 g.hops) _ r.fits).1
+  judged-few = leb-true g.hops hops_most (and_both (leb 1 g.hops) _ (and_both (model.head_in_range (fields_of g)) _ r.range).1).1
 
   ranged : flow_in_range f ≡ true
-  ranged = range-here t i r.stored r.inside r.held g r.fields r.fits ∙ r.range
+  ranged = range-here t i r.stored r.inside r.held g r.fields ∙ r.range
 
   number : f.number ≡ g.number
   unfolding flow_at

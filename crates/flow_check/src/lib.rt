@@ -2,16 +2,17 @@
 // then 30 and 31; and whether each held flow meets 11 and those before 30 beside the others.
 #![tactic(auto)]
 
-ghost use Rattle.std.specs.Prelude.{◌≡◌, true, map, ◌+◌, ◌≤◌, ◌<◌, length, get_or};
+ghost use Rattle.std.specs.Prelude.{◌≡◌, true, ◌&&◌, map, ◌+◌, ◌≤◌, ◌<◌, length, get_or};
 ghost use Rattle.std.proofs.Math.Option.{none};
 ghost use Rattle.model.specs.Words.{every, is_none};
 ghost use Rattle.model.specs.Sizes.{number_most, hops_most, slot_count};
 ghost use Rattle.model.specs.Columns.{between};
+ghost use Rattle.model.specs.Orders.{head_in_range};
 ghost use Rattle.model.specs.Reference.{first_cause, held_flows};
 ghost use Rattle.queue_table.specs.View.{WellFormed, hop_at, table_of, AllQueues};
 ghost use Rattle.bit_words.specs.View.{is_set, BitChanged};
 ghost use Rattle.flow_store.specs.View.{PackedStore, slot_words, store_numbers, slots_of};
-ghost use Rattle.orders.specs.View.{hop_numbers};
+ghost use Rattle.orders.specs.View.{hop_numbers, fields_of};
 ghost use Rattle.causes.specs.View.{finding_of};
 ghost use Rattle.flow_check.specs.View.{entry_findings, PathJudged, FlowJudged, RoomJudged, flow_alone, slot_alone, path_findings, number_words, Marked};
 
@@ -111,12 +112,12 @@ fn mark(number: u32, marks: &mut [u64]) -> bool
     known
 }
 
-// Whether a path may have so many hops.
+// Whether a flow's numbers, its hop count among them, are in their ranges.
 #[tactic(auto, unfolding(model::specs::Columns::between))]
-fn hops_in_range(hops: u32) -> bool
-    ensures { result ≡ between 1 hops_most hops }
+fn in_range(flow: Flow) -> bool
+    ensures { result ≡ (head_in_range (fields_of flow) && between 1 hops_most flow.hops) }
 {
-    (1..=MOST_HOPS as u32).contains(&hops)
+    orders::in_range(flow) && (1..=MOST_HOPS as u32).contains(&flow.hops)
 }
 
 // Whether a slot is free, or its flow meets 11, 12, 17, 14, 16, 15 and 20; its numbers can have any value. Its flow number is
@@ -130,10 +131,7 @@ fn slot_stands(slot: usize, table: &[u32], bits: &[u64], store: &[u32], marks: &
         return true;
     }
     let flow = flow_store::flow_at(slot, store);
-    if !hops_in_range(flow.hops) {
-        return false;
-    }
-    if !orders::in_range(flow) {
+    if !in_range(flow) {
         return false;
     }
     if mark(flow.number, marks) {

@@ -6,7 +6,7 @@ use lib.ListN.{length}
 use Rattle.model.specs.Orders.{Head}
 use Rattle.queue_table.specs.View.{table_of}
 use Rattle.flow_store.proofs.ViewLaws.{path_inside, entries-long}
-use Rattle.flow_check.proofs.SlotLaws.{Ranged, judged-free, judged-hops, judged-range, judged-few, judged-small, judged-twice, judged-marked, judged-frame, judged-path}
+use Rattle.flow_check.proofs.SlotLaws.{Ranged, judged-free, judged-range, judged-few, judged-small, judged-twice, judged-marked, judged-frame, judged-path}
 use Rattle.flow_check.proofs.slot_stands.Goals as goal
 
 pub returns-then-not-is_held-clause-value : goal.returns-then-not-is_held-clause-value
@@ -17,17 +17,10 @@ pub returns-then-not-is_held-clause-marked : goal.returns-then-not-is_held-claus
 returns-then-not-is_held-clause-marked c =
     λ e. (judged-free (table_of c.args.table.now) c.args.slot c.requires.1 c.requires.2 c.requires.3 (sym c.is_held.ensures ∙ c.if-not-is_held.true)).1
 
-pub returns-then-not-hops_in_range-clause-value : goal.returns-then-not-hops_in_range-clause-value
-returns-then-not-hops_in_range-clause-value c =
-    let held = sym c.is_held.ensures ∙ c.if-not-is_held.false in
-    let read = c.flow_at-flow in
-    sym (judged-hops (table_of c.args.table.now) c.args.slot c.requires.1 c.requires.2 held read.result read.ensures.result_value (sym c.hops_in_range.ensures ∙ c.if-not-hops_in_range.true))
-
 pub returns-then-not-in_range-clause-value : goal.returns-then-not-in_range-clause-value
 returns-then-not-in_range-clause-value c =
     let held = sym c.is_held.ensures ∙ c.if-not-is_held.false in
-    let read = c.flow_at-flow in
-    sym (judged-range (table_of c.args.table.now) c.args.slot c.requires.1 c.requires.2 held read.result read.ensures.result_value (sym c.hops_in_range.ensures ∙ c.if-not-hops_in_range.false) (sym c.in_range.ensures ∙ c.if-not-in_range.true))
+    sym (judged-range (table_of c.args.table.now) c.args.slot c.requires.1 c.requires.2 held c.flow_at-flow.result c.flow_at-flow.ensures.result_value (sym c.in_range.ensures ∙ c.if-not-in_range.true))
 
 pub mark-requires : goal.mark-requires
 mark-requires c =
@@ -39,7 +32,6 @@ mark-requires c =
       inside = c.requires.2;
       held = held;
       fields = read.ensures.result_value;
-      fits = sym c.hops_in_range.ensures ∙ c.if-not-hops_in_range.false;
       range = sym c.in_range.ensures ∙ c.if-not-in_range.false;
     } in
     (c.requires.3.long, judged-small (table_of c.args.table.now) ranged)
@@ -54,7 +46,6 @@ returns-then-mark-clause-value c =
       inside = c.requires.2;
       held = held;
       fields = read.ensures.result_value;
-      fits = sym c.hops_in_range.ensures ∙ c.if-not-hops_in_range.false;
       range = sym c.in_range.ensures ∙ c.if-not-in_range.false;
     } in
     sym (judged-twice (table_of c.args.table.now) ranged c.requires.3 (sym c.mark.ensures.0 ∙ c.if-mark.true))
@@ -74,7 +65,6 @@ path_stands-requires c =
       inside = c.requires.2;
       held = held;
       fields = read.ensures.result_value;
-      fits = sym c.hops_in_range.ensures ∙ c.if-not-hops_in_range.false;
       range = sym c.in_range.ensures ∙ c.if-not-in_range.false;
     } in
     let count = ap (λ (h : Head). h.hops) read.ensures.result_value in
@@ -91,7 +81,6 @@ returns-then-flow-clause-value c =
       inside = c.requires.2;
       held = held;
       fields = read.ensures.result_value;
-      fits = sym c.hops_in_range.ensures ∙ c.if-not-hops_in_range.false;
       range = sym c.in_range.ensures ∙ c.if-not-in_range.false;
     } in
     c.path_stands.ensures ∙ rw c.path_of.ensures (sym (judged-path (table_of c.args.table.now) ranged c.requires.3 (sym c.mark.ensures.0 ∙ c.if-mark.false) c.if-flow.true))
@@ -106,7 +95,6 @@ returns-then-flow-clause-marked c =
       inside = c.requires.2;
       held = held;
       fields = read.ensures.result_value;
-      fits = sym c.hops_in_range.ensures ∙ c.if-not-hops_in_range.false;
       range = sym c.in_range.ensures ∙ c.if-not-in_range.false;
     } in
     λ e. judged-marked (table_of c.args.table.now) ranged c.requires.3 (sym c.mark.ensures.0 ∙ c.if-mark.false) c.mark.ensures.1
@@ -121,7 +109,6 @@ returns-else-flow-clause-value c =
       inside = c.requires.2;
       held = held;
       fields = read.ensures.result_value;
-      fits = sym c.hops_in_range.ensures ∙ c.if-not-hops_in_range.false;
       range = sym c.in_range.ensures ∙ c.if-not-in_range.false;
     } in
     lt-leb read.result.share.frame.0 read.result.share.burst.0 c.if-flow.false
