@@ -21,21 +21,16 @@ fn entry_of(table: &[u32], link: u32, level: u32) -> Option<u32>
     requires { WellFormed table.now }
     ensures { EntryOf table.now (record { link = link; level = level }) result }
 {
-    if link == 0 {
-        return None;
-    }
-    let i = (link - 1) as usize;
+    let i = link.checked_sub(1)? as usize;
     if queue_table::link_count(table) <= i {
         return None;
     }
-    if level == 0 {
-        return None;
-    }
+    let j = level.checked_sub(1)?;
     let found = queue_table::link_at(i, table);
-    if found.levels < level {
+    if found.levels <= j {
         return None;
     }
-    Some(queue_table::entry_at(i, (level - 1) as usize) as u32)
+    Some(queue_table::entry_at(i, j as usize) as u32)
 }
 
 // 14 no such queue, over the hops of an order line: the entries of the path, or the index of the first hop without a queue.
