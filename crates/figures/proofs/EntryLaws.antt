@@ -20,8 +20,8 @@ use Rattle.model.specs.Orders.{Hop, Flow}
 use Rattle.model.proofs.Laws.Aggregates.{same-hop, hop-same}
 use Rattle.model.proofs.Laws.Figures.{shares-nothing, shares-other, shares-here, aggregate-alone, aggregate-more}
 use Rattle.units.specs.View.{AtSource}
-use Rattle.queue_table.specs.View.{entry_at, link_in, speed_at, table_of, hop_at, is_queue, AllQueues}
-use Rattle.figures.specs.View.{growth_at, LimitedShare, Hops, Speeds, FlowOf}
+use Rattle.queue_table.specs.View.{entry_at, table_of, hop_at, is_queue, AllQueues}
+use Rattle.figures.specs.View.{growth_at, LimitedShare, Hops, FlowOf}
 use Rattle.queue_table.proofs.EntryLaws.{threshold-named, speed-named}
 use Rattle.link_check.proofs.Laws.{mapped_next, mapped_end}
 
@@ -56,9 +56,6 @@ pub hop-at : {table entries : List ℕ} {sum i : ℕ} → Hops table entries →
 hop-at {table} {entries} {sum} {i} hops below more =
     let hop = all_get_d (λ e. (e < queues_most) × (growth_at table e ≤ 100000)) entries i 0 hops.each more in
     (hop.0, hop.1, omega (arith, hops.few))
-
-pub speed-at : {table entries : List ℕ} {i : ℕ} → Speeds table entries → i < length entries → speed_at table (link_in (get_or entries i 0)) ≤ 10000
-speed-at {table} {entries} {i} speeds more = all_get_d (λ e. speed_at table (link_in e) ≤ 10000) entries i 0 speeds.each more
 
 -- What the hops of a flow from `i` on add at queue `e`, where S over those before them is `sum`.
 abbrev pub left_at : (table : List ℕ) (f : Flow) (sum i e : ℕ) → Aggregate

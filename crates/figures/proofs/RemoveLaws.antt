@@ -8,6 +8,7 @@ use mathlib.Core.List.{List, ◌∷◌}
 use native.Mathlib.Omega.{arith}
 use native.Mathlib.Decide.{ℕ_discrete}
 use lib.ListN.{length, get_or, set, drop}
+use lib.Seq.{get_or-set_same, get_or-set_other}
 use Rattle.model.specs.Words.{All}
 use Rattle.model.specs.Sizes.{queues_most}
 use Rattle.model.specs.Orders.{Flow}
@@ -22,16 +23,38 @@ use Rattle.figures.specs.View.{own_numbers, burst_position, frame_position, figu
 use Rattle.figures.proofs.FigureLaws.{stored-length, stored_here, stored_other, frame-stored, frame-kept}
 use Rattle.figures.proofs.EntryLaws.{left_at, left-whole, left-none, left_here, left_other}
 
--- The stores that take a flow out at a queue.
-module _ (figures : List ℕ) (e : ℕ) (share : Aggregate) (counted : (share.rate ≤ (figure_at figures e).rate) × (share.burst ≤ (figure_at figures e).burst)) where
+-- The stores that take a flow out at a queue, each worked out from what the ones before it left.
+module _ (figures : List ℕ) (e : ℕ) (share : Aggregate) (inside : frame_position e < length figures)
+    (counted : (share.rate ≤ (figure_at figures e).rate) × (share.burst ≤ (figure_at figures e).burst)) where
   abbrev rates : ℕ
   rates = get_or figures (own_numbers * e) 0 - share.rate
 
   abbrev bursts : ℕ
   bursts = get_or figures (burst_position e) 0 - share.burst
 
-  abbrev sums_less : List ℕ
-  sums_less = set (set figures (own_numbers * e) rates) (burst_position e) bursts
+  abbrev rate_stored : List ℕ
+  rate_stored = set figures (own_numbers * e) rates
+
+  abbrev sums_stored : List ℕ
+  sums_stored = set rate_stored (burst_position e) (get_or rate_stored (burst_position e) 0 - share.burst)
+
+  -- Nothing but the sums is stored.
+  burst-kept : get_or rate_stored (burst_position e) 0 ≡ get_or figures (burst_position e) 0
+  burst-kept = get_or-set_other figures (own_numbers * e) (burst_position e) rates 0 (omega arith)
+
+  pub burst-room : share.burst ≤ get_or rate_stored (burst_position e) 0
+  unfolding figure_at
+  burst-room = omega (arith, burst-kept, counted.1)
+
+  rate-left : get_or sums_stored (own_numbers * e) 0 ≡ rates
+  rate-left =
+      get_or-set_other rate_stored (burst_position e) (own_numbers * e) _ 0 (omega arith)
+      ∙ get_or-set_same figures (own_numbers * e) rates 0 (omega arith)
+
+  frame_left : get_or sums_stored (frame_position e) 0 ≡ get_or figures (frame_position e) 0
+  frame_left =
+      get_or-set_other rate_stored (burst_position e) (frame_position e) _ 0 (omega arith)
+      ∙ get_or-set_other figures (own_numbers * e) (frame_position e) rates 0 (omega arith)
 
   less : (largest : ℕ) {figures' : List ℕ} {again : Bool} → figures' ≡ figure_stored figures e (record { rate = rates; burst = bursts; frame = largest })
       → FrameLeft rates share.frame (get_or figures (frame_position e) 0) largest again
@@ -48,14 +71,20 @@ module _ (figures : List ℕ) (e : ℕ) (share : Aggregate) (counted : (share.ra
         frame-left = left;
       }
 
-  pub less_none : rates ≡ 0 → HopRemoved share figures e (set sums_less (frame_position e) 0) false
-  less_none z = less 0 (frame-stored figures e rates bursts 0) (no_flow refl z refl)
+  frame-gone : set sums_stored (frame_position e) 0 ≡ figure_stored figures e (record { rate = rates; burst = bursts; frame = 0 })
+  frame-gone = rw burst-kept (frame-stored figures e rates bursts 0)
 
-  pub less-own : (rates ≡ 0 → ⊥) → get_or figures (frame_position e) 0 ≤ share.frame → HopRemoved share figures e (set sums_less (frame_position e) 0) true
-  less-own some le = less 0 (frame-stored figures e rates bursts 0) (unknown refl (omega (arith, some)) le refl)
+  pub less_none : get_or sums_stored (own_numbers * e) 0 ≡ 0 → HopRemoved share figures e (set sums_stored (frame_position e) 0) false
+  less_none z = less 0 frame-gone (no_flow refl (sym rate-left ∙ z) refl)
 
-  pub less-kept : (rates ≡ 0 → ⊥) → share.frame < get_or figures (frame_position e) 0 → HopRemoved share figures e sums_less false
-  less-kept some lt = less (get_or figures (frame_position e) 0) (frame-kept figures e rates bursts) (another refl (omega (arith, some)) lt refl)
+  pub less-own : (get_or sums_stored (own_numbers * e) 0 ≡ 0 → ⊥) → get_or sums_stored (frame_position e) 0 ≤ share.frame
+      → HopRemoved share figures e (set sums_stored (frame_position e) 0) true
+  less-own some le = less 0 frame-gone (unknown refl (omega (arith, some, rate-left)) (omega (arith, le, frame_left)) refl)
+
+  pub less-kept : (get_or sums_stored (own_numbers * e) 0 ≡ 0 → ⊥) → share.frame < get_or sums_stored (frame_position e) 0
+      → HopRemoved share figures e sums_stored false
+  less-kept some lt =
+      less (get_or figures (frame_position e) 0) (rw burst-kept (frame-kept figures e rates bursts)) (another refl (omega (arith, some, rate-left)) (omega (arith, lt, frame_left)) refl)
 
 or-false : (a b : Bool) → (a || b) ≡ false → (a ≡ false) × (b ≡ false)
 or-false false b e = (refl, e)

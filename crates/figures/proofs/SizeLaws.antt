@@ -19,7 +19,7 @@ use Rattle.model.proofs.Laws.Total.{total-le, largest-le}
 use Rattle.model.proofs.Laws.All.{all_append}
 use Rattle.queue_table.specs.View.{up_to, entry_at, link_in, level_in}
 use Rattle.queue_table.proofs.ViewLaws.{length_up}
-use Rattle.figures.specs.View.{own_numbers, figure_numbers, figure_at, level_figures, levels_with, Summable, Below, LimitedShare, LimitedLevel, Limited}
+use Rattle.figures.specs.View.{own_numbers, figure_at, level_figures, levels_with, Summable, Below, LimitedShare, LimitedLevel, Limited}
 
 module _ {A : Type 0} where
   set_all : (P : A → Type 0) (l : List A) (i : ℕ) (v : A) → All P l → P v → All P (set l i v)
@@ -90,14 +90,6 @@ summable-alone figures limited link low =
 -- The figures of one queue are small.
 abbrev pub Small : Aggregate → Type 0
 Small a = (a.rate ≤ 10000000) × (a.burst ≤ 2 ^ 32) × (a.frame ≤ 1542)
-
-module _ (figures : List ℕ) where
-  pub small_all : length figures ≡ figure_numbers → ((e : ℕ) → e < queues_most → Small (figure_at figures e)) → Limited figures
-  small_all long small =
-      record { long = long; rates = λ e lt. (small e lt).0; bursts = λ e lt. (small e lt).1; frames = λ e lt. (small e lt).2 }
-
-  pub all_small : Limited figures → (e : ℕ) → e < queues_most → Small (figure_at figures e)
-  all_small limited e lt = (limited.rates e lt, limited.bursts e lt, limited.frames e lt)
 
 -- Every number of a limited array is small.
 pub limited-below : (figures : List ℕ) → Limited figures → Below (2 ^ 62) figures

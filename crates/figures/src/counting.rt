@@ -16,10 +16,10 @@ fn add_hop(e: usize, share: Aggregate, figures: &mut [u64])
     requires limited_share { LimitedShare (aggregate_of share) }
     ensures { figures.new ≡ figure_stored figures.old e (together (figure_at figures.old e) (aggregate_of share)) }
 {
-    let at = OWN_NUMBERS * e;
-    figures[at] += share.rate.0;
-    figures[at + BURST] += share.burst.0;
-    figures[at + FRAME] = figures[at + FRAME].max(share.frame.0);
+    let first = OWN_NUMBERS * e;
+    figures[first] += share.rate.0;
+    figures[first + BURST] += share.burst.0;
+    figures[first + FRAME] = figures[first + FRAME].max(share.frame.0);
 }
 
 // Counts a flow in at each queue of its path.
@@ -38,13 +38,15 @@ pub fn add_path(share: Aggregate, table: &[u32], entries: &[u32], figures: &mut 
 }
 
 // Stores the figures of queue e.
+#[tactic(auto, unfolding(crate::specs::View::figure_stored))]
 fn store_hop(e: usize, own: Aggregate, figures: &mut [u64])
     requires { (e < queues_most) × (length figures.old ≡ figure_numbers) }
     ensures { figures.new ≡ figure_stored figures.old e (aggregate_of own) }
 {
-    figures[OWN_NUMBERS * e] = own.rate.0;
-    figures[OWN_NUMBERS * e + BURST] = own.burst.0;
-    figures[OWN_NUMBERS * e + FRAME] = own.frame.0;
+    let first = OWN_NUMBERS * e;
+    figures[first] = own.rate.0;
+    figures[first + BURST] = own.burst.0;
+    figures[first + FRAME] = own.frame.0;
 }
 
 // Counts a flow by `share` in place of `was` at each queue of its path. Largest frames stay.
@@ -75,17 +77,13 @@ fn remove_hop(e: usize, share: Aggregate, figures: &mut [u64]) -> bool
     ensures { HopRemoved (aggregate_of share) figures.old e figures.new result }
 {
     let first = OWN_NUMBERS * e;
-    let frame = share.frame;
-    let rates = figures[first] - share.rate.0;
-    let bursts = figures[first + BURST] - share.burst.0;
-    let largest = figures[first + FRAME];
-    figures[first] = rates;
-    figures[first + BURST] = bursts;
-    if rates == 0 {
+    figures[first] -= share.rate.0;
+    figures[first + BURST] -= share.burst.0;
+    if figures[first] == 0 {
         figures[first + FRAME] = 0;
         return false;
     }
-    if frame.0 < largest {
+    if share.frame.0 < figures[first + FRAME] {
         return false;
     }
     figures[first + FRAME] = 0;

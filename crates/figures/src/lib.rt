@@ -32,6 +32,7 @@ const FRAME: usize = 2;
 pub const FIGURE_NUMBERS: usize = OWN_NUMBERS * QUEUES;
 
 // The figures of queue e.
+#[tactic(auto, unfolding(crate::specs::View::figure_at))]
 pub fn figure(e: usize, figures: &[u64]) -> Aggregate
     requires { (e < queues_most) × (length figures.now ≡ figure_numbers) }
     ensures { aggregate_of result ≡ figure_at figures.now e }

@@ -17,9 +17,6 @@ use Rattle.units.specs.View.{aggregate_of}
 use Rattle.link_check.specs.View.{aggregates_of, bytes_of}
 
 module _ {A : Type 0} {B : Type 0} (f : A → B) where
-  pub length-mapped : (l : List A) {n : ℕ} → length (map f l) ≡ n → length l ≡ n
-  length-mapped l e = sym (length-map l f) ∙ e
-
   pub mapped_next : (l : List A) (i : ℕ) (d : A) → i < length l → drop i (map f l) ≡ f (get_or l i d) ∷ drop (i + 1) (map f l)
   mapped_next l i d h = rw add-one (rw (← get_or-map f l i d) (drop-cons (map f l) i (f d) (simp length-map h)))
 
