@@ -13,7 +13,7 @@ fn print_answers(rt: &impl Print, err: &impl Print, text: &[u8])
     let mut area = [0u8; PRINTED];
     let bytes = offer_list::answer(text, &mut area);
     if rt.write_all(&area[..bytes]).is_err() {
-        let _ = err.write_all(b"offers: the output can't be written\n");
+        let _ = println!(err; "offers: the output can't be written");
     }
 }
 
