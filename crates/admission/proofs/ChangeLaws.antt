@@ -1,12 +1,13 @@
 -- A change: the flow in the slot is counted in by its share, its figures are those with the new one in its place, and the registry is consistent again.
 -- Assumes nothing.
+use Rattle.std.specs.Prelude.{Result, Ok}
 use Prim.Native.Nat.{ℕ, ◌+◌, ◌≤◌, ◌<◌}
-use mathlib.Core.Path.{◌≡◌, refl, sym, ap, ◌∙◌}
+use mathlib.Core.Path.{◌≡◌, refl, sym, ap, subst, ◌∙◌}
 use mathlib.Core.Bool.{true, ◌&&◌}
 use mathlib.Core.List.{List, ◌∷◌}
 use mathlib.Core.Option.{Option, none, some}
 use native.Mathlib.Omega.{arith}
-use lib.ListN.{get_or, set, get_or-eq_default}
+use lib.ListN.{get_or, set, get_or-eq_default, take}
 use lib.Dec.{ltb}
 use borrow.Author.Tests.{lt-ltb, le-ltb}
 use Rattle.model.specs.Words.{All}
@@ -32,11 +33,10 @@ use Rattle.orders.specs.declared.Change.{Change}
 use Rattle.orders.specs.View.{change_of}
 use Rattle.bit_words.specs.View.{is_set}
 use Rattle.flow_store.specs.View.{PackedStore, slots_of, frame_at, share_at, flow_at, entries_in, flow_in, ChangeNarrow}
-use Rattle.causes.specs.declared.Finding.{Finding}
+use Rattle.causes.specs.declared.Cause as causes
 use Rattle.causes.specs.View.{finding_of}
 use Rattle.flow_store.specs.Laws.{length-slots}
 use Rattle.figures.specs.View.{Figures, FlowOf, OnTable, ChangeChecked, PathChanged}
-use Rattle.admission.specs.declared.Answer.TheVariants.{Done}
 use Rattle.admission.specs.View.{state_of, answer_of, ConsistentArrays, Stepped}
 use Rattle.admission.proofs.ConsistentLaws.{filled, held-named}
 use Rattle.admission.proofs.ReleaseLaws as held
@@ -51,12 +51,12 @@ narrow given e =
     record { rate = (between-true 1 10000000 given.rate.0 rate).1; burst = (between-true 84 1000000 given.burst.0 burst).1 }
 
 -- 13: no slot holds the number.
-pub not-held : (table bits store : List ℕ) (c : line.Change) {slot : ℕ} → slot ≡ index_of c.number (slots_of bits store) → slot ≡ slot_count
+pub not-held : (table bits store : List ℕ) (c : line.Change) → index_of c.number (slots_of bits store) ≡ slot_count
     → first_cause (findings (state_of table bits store) (change c)) ≡ some (record { code = 13; link = 0; level = 0 })
 unfolding findings change_findings first_cause whole
-not-held table bits store c at end =
+not-held table bits store c end =
     ap (λ x. first_cause (change_findings (state_of table bits store) c x))
-    (get_or-eq_default (slots_of bits store) none (omega (arith, length-slots bits store, at, end)))
+    (get_or-eq_default (slots_of bits store) none (omega (arith, length-slots bits store, end)))
 
 -- The flow with the number is in this slot.
 module _ (table bits store figures : List ℕ) (k : ConsistentArrays table bits store figures) (given : Change) (slot : ℕ) (at : slot ≡ index_of given.number (slots_of bits store))
@@ -84,7 +84,7 @@ module _ (table bits store figures : List ℕ) (k : ConsistentArrays table bits 
   share = record { rate = given.rate.0; burst = given.burst.0; frame = frame_at store slot }
 
   pub bit : is_set bits slot ≡ true
-  bit = slot-set given.number bits store slot at (λ e. omega (arith, e))
+  bit = slot-set given.number bits store slot at inside
 
   rules : StateRules s
   rules = state-rules s k.is-consistent
@@ -125,7 +125,7 @@ module _ (table bits store figures : List ℕ) (k : ConsistentArrays table bits 
   past-burst le = ap first_cause against ∙ rw (le-ltb given.burst.0 (frame_at store slot) le)
 
   -- What the check of the links found.
-  pub checked : frame_at store slot ≤ given.burst.0 → {r : Finding} → ChangeChecked (share_at store slot) share table figures entries r
+  pub checked : frame_at store slot ≤ given.burst.0 → {r : Result (Unit {0}) causes.Cause} → ChangeChecked (share_at store slot) share table figures entries r
       → finding_of r ≡ first_cause (findings s (change c))
   unfolding flow_at changed
   checked le found_at =
@@ -133,18 +133,38 @@ module _ (table bits store figures : List ℕ) (k : ConsistentArrays table bits 
       (held.with-flow table bits store figures k slot inside bit) others-named
       ∙ sym (past-burst le)
 
-  module _ (range : change_in_range c ≡ true) where
-    pub at_source : AtSource share
-    at_source =
-        let small = narrow given range in
-        (small.rate, small.burst, (held.ranged table bits store figures k slot inside bit).share.2)
+  -- The flow's share and path, read out.
+  module _ (own : Aggregate) (hops : ℕ) (copied : List ℕ) (share-is : own ≡ share_at store slot) (path : take hops copied ≡ entries) where
+    abbrev pub own-share : Aggregate
+    own-share = record { rate = given.rate.0; burst = given.burst.0; frame = own.frame }
 
+    own-is : own-share ≡ share
+    own-is = ap (λ (a : Aggregate). record { rate = given.rate.0; burst = given.burst.0; frame = a.frame }) share-is
+
+    pub path-on-table : OnTable table (take hops copied)
+    path-on-table = rw path on-table
+
+    pub found-cause : own.frame ≤ given.burst.0 → (r : Result (Unit {0}) causes.Cause) → ChangeChecked own own-share table figures (take hops copied) r
+        → first_cause (findings s (change c)) ≡ finding_of r
+    found-cause le r found_at =
+        let frame : own.frame ≡ frame_at store slot = ap (λ (a : Aggregate). a.frame) share-is in
+        sym (checked (omega arith) (rw (share-is, path) at found_at))
+
+    pub path-moved : (figures' : List ℕ) → PathChanged own own-share table (take hops copied) figures figures' → PathChanged (share_at store slot) share table entries figures figures'
+    path-moved figures' moved = rw (share-is, path) at moved
+
+    pub own-at-source : change_in_range c ≡ true → AtSource own-share
+    own-at-source range =
+        let small = narrow given range in
+        subst AtSource (sym own-is) ((small.rate, small.burst, (held.ranged table bits store figures k slot inside bit).share.2))
+
+  module _ (range : change_in_range c ≡ true) where
     -- The slot holds the flow so changed, its figures are those, and the slot is answered.
     pub stepped-changed : first_cause (findings s (change c)) ≡ none → {store' figures' : List ℕ}
         → slots_of bits store' ≡ set (slots_of bits store) slot (changed_slot c (get_or (slots_of bits store) slot none))
         → PackedStore bits store'
         → PathChanged (share_at store slot) share table entries figures figures'
-        → Stepped (change c) table bits store bits store' figures' (Done (slot + 1))
+        → Stepped (change c) table bits store bits store' figures' (Ok (slot + 1))
     unfolding apply decide perform fill flow_at changed changed_slot
     stepped-changed nothing {store'} {figures'} view stored moved =
         record { answer = answer; next = next; kept = record { formed = k.formed; stored = stored; is-consistent = is-consistent; exact = exact } }
@@ -152,8 +172,8 @@ module _ (table bits store figures : List ℕ) (k : ConsistentArrays table bits 
         done : apply s (change c) ≡ fill s (index_of given.number (slots_of bits store)) (changed_slot c (slot_with given.number (slots_of bits store)))
         done = ap (decide s (change c)) nothing
 
-        answer : answer_of (Done (slot + 1)) ≡ (apply s (change c)).answer
-        answer = ap (λ (i : ℕ). answer_of (Done (i + 1))) at ∙ filled s (index_of given.number (slots_of bits store)) (changed_slot c (slot_with given.number (slots_of bits store))) ∙ sym (ap (λ (out : Outcome). out.answer) done)
+        answer : answer_of (Ok (slot + 1)) ≡ (apply s (change c)).answer
+        answer = ap (λ (i : ℕ). answer_of (Ok (i + 1))) at ∙ filled s (index_of given.number (slots_of bits store)) (changed_slot c (slot_with given.number (slots_of bits store))) ∙ sym (ap (λ (out : Outcome). out.answer) done)
 
         next : state_of table bits store' ≡ (apply s (change c)).next
         next =

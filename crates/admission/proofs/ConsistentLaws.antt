@@ -1,5 +1,6 @@
 -- What a consistent registry gives its leaves, and that it is consistent again after a registration.
 -- Assumes nothing.
+use Rattle.std.specs.Prelude.{Result, Ok, Err}
 use Prim.Native.Nat.{ℕ, suc, ◌+◌, ◌≤◌, ◌<◌}
 use mathlib.Core.Path.{◌≡◌, refl, sym, ap, subst, ◌∙◌}
 use mathlib.Core.Bool.{true, false, ◌&&◌}
@@ -47,8 +48,6 @@ use Rattle.queue_table.proofs.EntryLaws.{queue-within, queue-low, queue-named}
 use Rattle.figures.proofs.EntryLaws.{growth-named}
 use Rattle.figures.proofs.AddLaws.{figures-added}
 use Rattle.admission.specs.View.{state_of, answer_of, LineRead, ConsistentArrays, Stepped}
-use Rattle.admission.specs.declared.Answer.{Answer}
-use Rattle.admission.specs.declared.Answer.TheVariants.{Done, Refused}
 
 -- 11: the ranges of a registration that was read.
 pub record Ranges (f : line.Flow) : Type 0 where
@@ -94,13 +93,13 @@ hops-ranged table formed right entries named few =
           (le_trans (growth-most _ _) (threshold-below (table_of table) right (hop_at e) _ (queue-named table e q))),
     )
 
-pub stepped_same : {o o' : Order} {table bits store bits' store' figures' : List ℕ} {r : Answer} → o ≡ o'
+pub stepped_same : {o o' : Order} {table bits store bits' store' figures' : List ℕ} {r : Result ℕ Cause} → o ≡ o'
     → Stepped o table bits store bits' store' figures' r
     → Stepped o' table bits store bits' store' figures' r
 stepped_same {table = table} {bits} {store} {bits'} {store'} {figures'} {r} e =
     subst (λ (o : Order). Stepped o table bits store bits' store' figures' r) e
 
-pub filled : (s : State) (i : ℕ) (x : Slot) → answer_of (Done (i + 1)) ≡ (fill s i x).answer
+pub filled : (s : State) (i : ℕ) (x : Slot) → answer_of (Ok (i + 1)) ≡ (fill s i x).answer
 unfolding fill
 filled s i x =
     let e : i + 1 ≡ suc i = omega arith in
@@ -115,7 +114,7 @@ module _ (table bits store figures : List ℕ) (k : ConsistentArrays table bits 
 
   -- A refusal is the first cause, and nothing changes.
   pub stepped-refused : (o : Order) (cause : Cause) → first_cause (findings s o) ≡ some (cause_of cause)
-      → Stepped o table bits store bits store figures (Refused cause)
+      → Stepped o table bits store bits store figures (Err cause)
   unfolding apply decide refuse
   stepped-refused o cause first =
       let done : apply s o ≡ refuse s (cause_of cause) = ap (decide s o) first in
@@ -207,7 +206,7 @@ module _ (table bits store figures : List ℕ) (k : ConsistentArrays table bits 
       pub stepped-admitted : {bits' store' figures' : List ℕ} → first_cause (findings s (register f)) ≡ none
           → Placed slot flow path bits store bits' store'
           → PathAdded (aggregate_of flow.share) table path figures figures'
-          → Stepped (register f) table bits store bits' store' figures' (Done (slot + 1))
+          → Stepped (register f) table bits store bits' store' figures' (Ok (slot + 1))
       unfolding apply decide perform fill
       stepped-admitted {bits'} {store'} {figures'} nothing placed added =
           record { answer = answer; next = next; kept = record { formed = k.formed; stored = placed.stored; is-consistent = is-consistent; exact = exact } }
@@ -221,8 +220,8 @@ module _ (table bits store figures : List ℕ) (k : ConsistentArrays table bits 
               ∙ ap (λ (i : ℕ). set (slots_of bits store) i (some (flow_of (fields_of flow) (map hop_at path)))) lowest
               ∙ ap (λ (p : List line.Hop). set (slots_of bits store) (first_index is_none (slots_of bits store)) (some (flow_of (fields_of flow) p))) named.path
 
-          answer : answer_of (Done (slot + 1)) ≡ (apply s (register f)).answer
-          answer = ap (λ (i : ℕ). answer_of (Done (i + 1))) lowest ∙ filled s (first_index is_none (slots_of bits store)) (some f) ∙ sym (ap (λ (out : Outcome). out.answer) done)
+          answer : answer_of (Ok (slot + 1)) ≡ (apply s (register f)).answer
+          answer = ap (λ (i : ℕ). answer_of (Ok (i + 1))) lowest ∙ filled s (first_index is_none (slots_of bits store)) (some f) ∙ sym (ap (λ (out : Outcome). out.answer) done)
 
           next : state_of table bits' store' ≡ (apply s (register f)).next
           next = ap (λ (l : List Slot). record { table = table_of table; slots = l }) seen ∙ sym (ap (λ (out : Outcome). out.next) done)

@@ -5,3 +5,4 @@ pub mod ReadLaws
 pub mod ReleaseLaws
 pub mod ChangeLaws
 pub mod OpenLaws
+pub mod FoundLaws

@@ -1,5 +1,6 @@
 -- A registry of zeros on a table that was read is the empty one, and consistent.
 -- Assumes nothing.
+use Rattle.std.specs.Prelude.{Result}
 use Prim.Native.Nat.{ℕ, zero, suc}
 use mathlib.Core.Path.{◌≡◌, refl, sym, ap, ap₂, ◌∙◌}
 use mathlib.Core.Bool.{true≢false}
@@ -10,7 +11,7 @@ use lib.ListN.{replicate, length-replicate}
 use Rattle.model.specs.Sizes.{slot_count}
 use Rattle.model.specs.Reference.{Slot, held_flows, opened}
 use Rattle.model.proofs.Laws.Reached.{opened-rules, rules-state, none-held}
-use Rattle.queue_table.specs.declared.Verdict.{Verdict}
+use Rattle.queue_table.specs.declared.Refusal.{Refusal}
 use Rattle.queue_table.specs.View.{table_of, TableFilled}
 use Rattle.bit_words.specs.Laws.{zero-at, none-set}
 use Rattle.flow_store.specs.View.{slot_words, store_numbers, slots_of, slots_from, slot_of, counts_from}
@@ -29,7 +30,7 @@ unfolding counts_from
 free-counts w zero i store = refl
 free-counts w (suc n) i store = rw (count-free (replicate w 0) store i (none-set w i)) (omega (arith, free-counts w n (suc i) store))
 
-module _ (text table : List ℕ) (v : Verdict) (filled : TableFilled text v table)
+module _ (text table : List ℕ) (v : Result (Unit {0}) Refusal) (filled : TableFilled text v table)
     (bits store figures : ℕ) (bits_are : bits ≡ slot_words) (Store-is : store ≡ store_numbers) (figures-are : figures ≡ figure_numbers) where
   pub empty : state_of table (replicate bits 0) (replicate store 0) ≡ opened text
   unfolding opened slots_of

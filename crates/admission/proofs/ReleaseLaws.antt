@@ -1,16 +1,17 @@
 -- A release: the flow in a held slot was counted in at its queues, and the registry without it is consistent again.
 -- Assumes nothing.
-use Prim.Native.Nat.{ℕ, suc, ◌+◌, ◌≤◌, ◌<◌, max}
+use Rattle.std.specs.Prelude.{Ok}
+use Prim.Native.Nat.{ℕ, ◌+◌, ◌≤◌, ◌<◌, max}
 use mathlib.Core.Path.{◌≡◌, refl, sym, ap, subst, ◌∙◌}
-use mathlib.Core.Bool.{Bool, true, false, cond, false≢true}
-use mathlib.Core.List.{List, [], ◌∷◌}
+use mathlib.Core.Bool.{Bool, true, false, false≢true}
+use mathlib.Core.List.{List, ◌∷◌}
 use mathlib.Core.Option.{none, some}
 use native.Mathlib.Omega.{arith}
-use lib.ListN.{length, get_or, set}
+use lib.ListN.{length, get_or, set, take}
 use lib.Dec.{leb}
 use borrow.Author.Tests.{leb-true, leb-false, lt-ltb, le-ltb, eq-eqb, ne_eqb}
 use Rattle.model.specs.Words.{All, first_index}
-use Rattle.model.specs.Sizes.{queues_most, slot_count}
+use Rattle.model.specs.Sizes.{queues_most, hops_most, slot_count}
 use Rattle.model.specs.Formula.{Aggregate}
 use Rattle.model.specs.QueueTable.{Table}
 use Rattle.model.specs.Orders.{Flow, release}
@@ -21,14 +22,14 @@ use Rattle.model.proofs.Laws.Figures.{carried}
 use Rattle.model.proofs.Laws.Aggregates.{aggregate-perm}
 use Rattle.model.proofs.Laws.Slot.{index-found, number-index, held-perm}
 use Rattle.model.proofs.Laws.Reached.{StateRules, state-rules, rules-state, clear-keeps}
+use Rattle.units.specs.View.{AtSource}
 use Rattle.queue_table.specs.View.{table_of, hop_at}
 use Rattle.bit_words.specs.View.{is_set}
-use Rattle.flow_store.specs.View.{PackedStore, slots_of, slot_of, rate_at, share_at, flow_at, entries_in, flow_in}
+use Rattle.flow_store.specs.View.{PackedStore, slots_of, slot_of, rate_at, hops_at, share_at, flow_at, entries_in, flow_in}
 use Rattle.flow_store.specs.Laws.{length-slots, slot_at, held-slot}
-use Rattle.figures.specs.View.{Figures, FlowOf, PathCounted, Carried, Near, PathRemoved, figure_at, raised}
+use Rattle.figures.specs.View.{Figures, Hops, FlowOf, PathCounted, Carried, Near, PathRemoved, figure_at, raised}
 use Rattle.queue_table.proofs.EntryLaws.{queue-low}
 use Rattle.recount.specs.View.{Ranged, OnQueues, FramesRaised}
-use Rattle.admission.specs.declared.Answer.TheVariants.{Done}
 use Rattle.admission.specs.View.{state_of, answer_of, ConsistentArrays, Stepped}
 use Rattle.admission.proofs.ConsistentLaws.{ranges, filled}
 use Rattle.admission.proofs.HeldLaws.{by_itself, on-queues, countable, kept-alone}
@@ -90,6 +91,23 @@ module _ (table bits store figures : List ℕ) (k : ConsistentArrays table bits 
     counted =
         record { f = flow; fs = left; named = on slot inside held; is = is; exact = with-flow }
 
+    -- Its share and its path, read out.
+    module _ (own : Aggregate) (hops : ℕ) (copied : List ℕ) (share-is : own ≡ share_at store slot) (count : hops ≡ hops_at store slot) (path : take hops copied ≡ entries) where
+      pub few : hops ≤ hops_most
+      few = omega (arith, count, ranged.few)
+
+      pub share-ranged : AtSource own
+      share-ranged = subst AtSource (sym share-is) ranged.share
+
+      pub path-ranged : Hops table (take hops copied)
+      path-ranged = rw path ranged.hops
+
+      pub path-counted : PathCounted own table (take hops copied) figures
+      path-counted = rw (share-is, path) counted
+
+      pub path-removed : (figures' : List ℕ) (again : Bool) → PathRemoved own table (take hops copied) figures figures' again → PathRemoved (share_at store slot) table entries figures figures' again
+      path-removed figures' again left = rw (share-is, path) at left
+
     -- The slot is empty.
     module _ {bits' store' : List ℕ} (view : slots_of bits' store' ≡ set (slots_of bits store) slot none) (stored : PackedStore bits' store') where
       rules' : StateRules (state_of table bits' store')
@@ -140,58 +158,47 @@ module _ (table bits store figures : List ℕ) (k : ConsistentArrays table bits 
             })
 
 module _ (number : ℕ) where
-  index-most : (l : List Slot) → first_index (holds number) l ≤ length l
-  unfolding first_index
-  index-most [] = omega arith
-  index-most (x ∷ l) = go (holds number x) (index-most l)
-    where
-      go : (b : Bool) → first_index (holds number) l ≤ length l → cond b 0 (suc (first_index (holds number) l)) ≤ suc (length l)
-      go true h = omega arith
-      go false h = omega arith
-
   held-bit : (b : Bool) (f : Flow) → holds number (slot_of b f) ≡ true → b ≡ true
   unfolding slot_of holds
   held-bit true f e = refl
   held-bit false f e = absurd (false≢true e)
 
-  module _ (bits store : List ℕ) (slot : ℕ) (found : slot ≡ first_index (holds number) (slots_of bits store)) where
+  module _ (bits store : List ℕ) where
     -- 13: no slot holds the number.
-    pub not-held : (t : Table) → slot ≡ slot_count
+    pub not-held : (t : Table) → first_index (holds number) (slots_of bits store) ≡ slot_count
         → first_cause (findings (record { table = t; slots = slots_of bits store }) (release number)) ≡ some (record { code = 13; link = 0; level = 0 })
     unfolding findings first_cause whole
     not-held t none-holds =
         let none-held : leb 1 (with_number number (held_flows (slots_of bits store))) ≡ false
-        = number-index number (slots_of bits store) ∙ le-ltb (first_index (holds number) (slots_of bits store)) (length (slots_of bits store)) (omega (arith, found, length-slots bits store)) in
+        = number-index number (slots_of bits store) ∙ le-ltb (first_index (holds number) (slots_of bits store)) (length (slots_of bits store)) (omega (arith, none-holds, length-slots bits store)) in
         let zero_held : with_number number (held_flows (slots_of bits store)) ≡ 0 = omega (arith, leb-false 1 (with_number number (held_flows (slots_of bits store))) none-held) in
         rw (eq-eqb (with_number number (held_flows (slots_of bits store))) 0 zero_held)
 
-    module _ (known : slot ≡ slot_count → ⊥) where
-      pub slot-inside : slot < slot_count
-      slot-inside = omega (arith, found, index-most (slots_of bits store), length-slots bits store, known)
-
+    -- A slot holds it.
+    module _ (slot : ℕ) (found : slot ≡ first_index (holds number) (slots_of bits store)) (inside : slot < slot_count) where
       pub slot-set : is_set bits slot ≡ true
       slot-set =
           held-bit (is_set bits slot) _
-          (ap (holds number) (sym (slot_at bits store slot slot-inside))
+          (ap (holds number) (sym (slot_at bits store slot inside))
           ∙ ap (λ (i : ℕ). holds number (get_or (slots_of bits store) i none)) found
-          ∙ index-found (holds number) none (slots_of bits store) (omega (arith, sym found, slot-inside, length-slots bits store)))
+          ∙ index-found (holds number) none (slots_of bits store) (omega (arith, sym found, inside, length-slots bits store)))
 
       nothing : (t : Table) → first_cause (findings (record { table = t; slots = slots_of bits store }) (release number)) ≡ none
       unfolding findings first_cause whole
       nothing t =
           let some-held : leb 1 (with_number number (held_flows (slots_of bits store))) ≡ true
-          = number-index number (slots_of bits store) ∙ lt-ltb (first_index (holds number) (slots_of bits store)) (length (slots_of bits store)) (omega (arith, sym found, slot-inside, length-slots bits store)) in
+          = number-index number (slots_of bits store) ∙ lt-ltb (first_index (holds number) (slots_of bits store)) (length (slots_of bits store)) (omega (arith, sym found, inside, length-slots bits store)) in
           rw (ne_eqb (with_number number (held_flows (slots_of bits store))) 0 (λ z. omega (arith, leb-true 1 (with_number number (held_flows (slots_of bits store))) some-held)))
 
       -- The slot of the flow with the number is empty, and that slot is answered.
       pub stepped-released : {table bits' store' figures' : List ℕ} → slots_of bits' store' ≡ set (slots_of bits store) slot none → ConsistentArrays table bits' store' figures'
-          → Stepped (release number) table bits store bits' store' figures' (Done (slot + 1))
+          → Stepped (release number) table bits store bits' store' figures' (Ok (slot + 1))
       unfolding apply decide perform fill
       stepped-released {table} view kept =
           let s : State = state_of table bits store in
           let done : apply s (release number) ≡ fill s (first_index (holds number) (slots_of bits store)) none = ap (decide s (release number)) (nothing (table_of table)) in
           record {
-            answer = ap (λ (i : ℕ). answer_of (Done (i + 1))) found ∙ filled s (first_index (holds number) (slots_of bits store)) none ∙ sym (ap (λ (out : Outcome). out.answer) done);
+            answer = ap (λ (i : ℕ). answer_of (Ok (i + 1))) found ∙ filled s (first_index (holds number) (slots_of bits store)) none ∙ sym (ap (λ (out : Outcome). out.answer) done);
             next = ap (λ (l : List Slot). record { table = table_of table; slots = l }) (view ∙ ap (λ (i : ℕ). set (slots_of bits store) i none) found) ∙ sym (ap (λ (out : Outcome). out.next) done);
             kept = kept;
           }

@@ -14,18 +14,12 @@ ghost use Rattle.bit_words.specs.View.{is_set};
 ghost use Rattle.flow_store.specs.View.{slots_of};
 ghost use Rattle.admission.specs.View.{LineRead, OrderRead, ConsistentArrays, Stepped};
 
-use causes::{Cause, Finding};
-use flow_store::SLOTS;
-use orders::{Change, Flow, Order};
+use causes::Cause;
+use orders::{Change, Flow, MOST_HOPS, Order, Unread};
 use units::Aggregate;
 
-// What an order is answered.
-#[derive(Clone, Copy)]
-pub enum Answer {
-    // The slot, counted from 1.
-    Done(u32),
-    Refused(Cause),
-}
+// What an order is answered: the slot, counted from 1, or why it is refused.
+pub type Answer = Result<u32, Cause>;
 
 // Registers the flow of an order line.
 fn register_flow(
@@ -40,28 +34,13 @@ fn register_flow(
     requires consistent_arrays { ConsistentArrays table.now bits.old store.old figures.old }
     ensures { Stepped (register (line_flow flow hops.now)) table.now bits.old store.old bits.new store.new figures.new result }
 {
-    let count = flow.hops as usize;
-    let judged = flow_check::judge_flow(flow, hops, table, &bits[..], &store[..]);
-    let against = judged.finding;
-    let entries = judged.entries;
-    if let Finding::Against(cause) = against {
-        return Answer::Refused(cause);
-    }
-    let room = flow_check::judge_room(flow.hops, &bits[..], &store[..]);
-    let lack = room.finding;
-    let slot = room.slot;
-    if let Finding::Against(cause) = lack {
-        return Answer::Refused(cause);
-    }
-    let path = &entries[..count];
-    let found = figures::check_links(flow.share, table, &figures[..], path);
-    if let Finding::Against(cause) = found {
-        return Answer::Refused(cause);
-    }
-    let share = flow.share;
+    let entries = flow_check::judge_flow(flow, hops, table, &bits[..], &store[..])?;
+    let slot = flow_check::judge_room(flow.hops, &bits[..], &store[..])?;
+    let path = &entries[..flow.hops as usize];
+    figures::check_links(flow.share, table, &figures[..], path)?;
     flow_store::insert(slot, flow, path, bits, store);
-    figures::add_path(share, table, path, figures);
-    Answer::Done(slot as u32 + 1)
+    figures::add_path(flow.share, table, path, figures);
+    Ok(slot as u32 + 1)
 }
 
 // Empties a held slot and takes its flow out at each queue.
@@ -72,7 +51,7 @@ fn take_out(slot: usize, table: &[u32], bits: &mut [u64], store: &mut [u32], fig
     ensures consistent_arrays_2 { ConsistentArrays table.now bits.new store.new figures.new }
 {
     let flow = flow_store::flow_at(slot, &store[..]);
-    let mut entries = [0u32; orders::MOST_HOPS];
+    let mut entries = [0; MOST_HOPS];
     let hops = flow_store::path_into(slot, &store[..], &mut entries);
     flow_store::remove(slot, bits, store);
     if figures::remove_path(flow.share, table, &entries[..hops], figures) {
@@ -91,12 +70,9 @@ fn release_flow(
     requires { ConsistentArrays table.now bits.old store.old figures.old }
     ensures { Stepped (release number) table.now bits.old store.old bits.new store.new figures.new result }
 {
-    let held = flow_store::find(number, &bits[..], &store[..]);
-    if held == SLOTS {
-        return Answer::Refused(Cause::NumberNotHeld);
-    }
+    let held = flow_store::find(number, &bits[..], &store[..]).ok_or(Cause::NumberNotHeld)?;
     take_out(held, table, bits, store, figures);
-    Answer::Done(held as u32 + 1)
+    Ok(held as u32 + 1)
 }
 
 // Changes rate and burst of the flow in a held slot. Its figures are written only after the last link has passed.
@@ -113,25 +89,22 @@ fn change_held(
     requires given_value { change_in_range (change_of given) ≡ true }
     ensures { Stepped (change (change_of given)) table.now bits.now store.old bits.now store.new figures.new result }
 {
-    let flow = flow_store::flow_at(held, &store[..]);
-    let was = flow.share;
-    let rate = given.rate;
-    let burst = given.burst;
-    let frame = was.frame;
-    if burst.0 < frame.0 {
-        return Answer::Refused(Cause::FrameAboveBurst);
+    let was = flow_store::flow_at(held, &store[..]).share;
+    if given.burst.0 < was.frame.0 {
+        return Err(Cause::FrameAboveBurst);
     }
-    let share = Aggregate { rate, burst, frame };
-    let mut entries = [0u32; orders::MOST_HOPS];
+    let share = Aggregate {
+        rate: given.rate,
+        burst: given.burst,
+        frame: was.frame,
+    };
+    let mut entries = [0; MOST_HOPS];
     let hops = flow_store::path_into(held, &store[..], &mut entries);
     let path = &entries[..hops];
-    let found = figures::check_change(was, share, table, &figures[..], path);
-    if let Finding::Against(cause) = found {
-        return Answer::Refused(cause);
-    }
+    figures::check_change(was, share, table, &figures[..], path)?;
     flow_store::change(held, given, store);
     figures::change_path(was, share, table, path, figures);
-    Answer::Done(held as u32 + 1)
+    Ok(held as u32 + 1)
 }
 
 // Changes the flow with the number of the change.
@@ -146,16 +119,13 @@ fn change_flow(
     requires given_value { change_in_range (change_of given) ≡ true }
     ensures { Stepped (change (change_of given)) table.now bits.now store.old bits.now store.new figures.new result }
 {
-    let held = flow_store::find(given.number, bits, &store[..]);
-    if held == SLOTS {
-        return Answer::Refused(Cause::NumberNotHeld);
-    }
+    let held = flow_store::find(given.number, bits, &store[..]).ok_or(Cause::NumberNotHeld)?;
     change_held(held, given, table, bits, store, figures)
 }
 
 // Carries out the order of a line.
 pub fn apply(
-    order: Order,
+    order: Result<Order, Unread>,
     hops: &[u32],
     table: &[u32],
     bits: &mut [u64],
@@ -167,10 +137,10 @@ pub fn apply(
     ensures { Stepped (order_with order hops.now) table.now bits.old store.old bits.new store.new figures.new result }
 {
     match order {
-        Order::Register(flow) => register_flow(flow, hops, table, bits, store, figures),
-        Order::Release(number) => release_flow(number, table, bits, store, figures),
-        Order::Change(given) => change_flow(given, table, &bits[..], store, figures),
-        Order::Malformed => Answer::Refused(Cause::Malformed),
-        Order::OutOfRange => Answer::Refused(Cause::OutOfRange),
+        Ok(Order::Register(flow)) => register_flow(flow, hops, table, bits, store, figures),
+        Ok(Order::Release(number)) => release_flow(number, table, bits, store, figures),
+        Ok(Order::Change(given)) => change_flow(given, table, bits, store, figures),
+        Err(Unread::Malformed) => Err(Cause::Malformed),
+        Err(Unread::OutOfRange) => Err(Cause::OutOfRange),
     }
 }

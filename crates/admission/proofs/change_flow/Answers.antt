@@ -1,31 +1,16 @@
 -- `admission::change_flow` meets its contract: 13 where no slot holds the number, else the flow there is changed.
-use mathlib.Core.Path.{◌≡◌}
+use Rattle.std.proofs.lemmas.Result.{err_from_is_err_and}
+use mathlib.Core.Path.{sym, ◌∙◌}
 use Rattle.model.specs.Orders.{change}
-use Rattle.model.specs.Reference.{index_of}
-use Rattle.flow_store.specs.View.{slots_of}
 use Rattle.causes.specs.declared.Cause.TheVariants.{NumberNotHeld}
 use Rattle.orders.specs.View.{change_of}
+use Rattle.admission.proofs.FoundLaws.{lacking}
 use Rattle.admission.proofs.ConsistentLaws.{stepped-refused}
-use Rattle.admission.proofs.ReleaseLaws.{slot-inside}
 use Rattle.admission.proofs.ChangeLaws.{not-held}
 use Rattle.admission.proofs.change_flow.Goals as goal
-use Rattle.admission.proofs.change_flow.Tie as tie
-use Rattle.admission.proofs.change_flow.Lts as lts
-use Rattle.admission.proofs.change_flow.Reads as reads
 
-module _ (c : lts.After-find tie.the-claims reads.Pre reads.Post tie.handed_clauses) where
-  abbrev start : lts.Start tie.the-claims reads.Pre reads.Post tie.handed_clauses
-  start = c.before.before.before.before.before
-
-  found : c.find-held.result ≡ index_of start.args.given.number (slots_of start.args.bits.now start.args.store.now)
-  found = c.find-held.ensures
-
-pub returns-then-held-eq-SLOTS : goal.returns-then-held-eq-SLOTS
-returns-then-held-eq-SLOTS c =
-    let s = start c.before.before in
-    stepped-refused _ _ _ _ s.requires.consistent_arrays (change _) NumberNotHeld (not-held _ _ _ (change_of s.args.given) (found c.before.before) c.if-held-eq-SLOTS.true)
-
-pub change_held-requires : goal.change_held-requires
-change_held-requires c =
-    let at = c.before.before.before.before in
-    let s = start at in record { consistent_arrays = s.requires.consistent_arrays; held_value = (found at, slot-inside s.args.given.number _ _ _ (found at) c.if-held-eq-SLOTS.false); given_value = s.requires.given_value }
+pub returns-in_err-held : goal.returns-in_err-held
+returns-in_err-held c =
+    let refused = err_from_is_err_and c.from_residual.result c.from_residual.ensures.1 in
+    let none = lacking _ c.find.result NumberNotHeld _ c.find.ensures (sym c.ok_or.ensures.value ∙ c.in_err-held.was) in
+    rw (refused.1, refused.2, none.1) (stepped-refused _ _ _ _ c.requires.consistent_arrays (change _) NumberNotHeld (not-held _ _ _ (change_of c.args.given) none.0))

@@ -1,96 +1,67 @@
 -- `admission::take_out` meets its contract: the flow was counted in, so that its path can be taken out, and what is left is right.
 use borrow.Author.Rules.{rules, length_unmapped}
-use Prim.Native.Nat.{ℕ, ◌≤◌}
-use mathlib.Core.Path.{◌≡◌, refl, sym, subst}
-use mathlib.Core.List.{List}
+use mathlib.Core.Path.{◌≡◌, refl, sym}
 use native.Mathlib.Omega.{arith}
-use lib.ListN.{length, take}
+use lib.ListN.{length}
 use lib.Seq.{length-take-le}
-use Rattle.units.specs.View.{aggregate_of, AtSource}
 use Rattle.model.specs.Sizes.{hops_most}
-use Rattle.flow_store.specs.View.{hops_at, share_at, entries_in}
 use Rattle.flow_store.proofs.ViewLaws.{path_inside, readable}
-use Rattle.figures.specs.View.{PathRemoved}
-use Rattle.recount.specs.View.{Ranged}
-use Rattle.admission.proofs.ReleaseLaws as released
+use Rattle.admission.proofs.ReleaseLaws.{ranged, few, share-ranged, path-ranged, path-counted, path-removed, entries-low-left, kept-left, kept-raised}
 use Rattle.admission.proofs.take_out.Goals as goal
-use Rattle.admission.proofs.take_out.Tie as tie
-use Rattle.admission.proofs.take_out.Lts as lts
-use Rattle.admission.proofs.take_out.Reads as reads
-
--- The flow in the slot.
-module _ (c : lts.Start tie.the-claims reads.Pre reads.Post tie.handed_clauses) where
-  ranged : Ranged c.args.table.now c.args.store.now c.args.slot
-  ranged = released.ranged _ _ _ _ c.requires.consistent_arrays c.args.slot c.requires.slot_lt_slot_count.0 c.requires.slot_lt_slot_count.1
-
-  few-hops : hops_at c.args.store.now c.args.slot ≤ hops_most
-  few-hops = ranged.few
-
--- Its path, copied out.
-module _ (c : lts.After-path_into tie.the-claims reads.Pre reads.Post tie.handed_clauses) where
-  abbrev start : lts.Start tie.the-claims reads.Pre reads.Post tie.handed_clauses
-  start = c.before.before.before.before.before.before.before
-
-  abbrev copied : List ℕ
-  copied = c.path_into-hops.new.entries
-
-  abbrev hops : ℕ
-  hops = c.path_into-hops.result
-
-  path : take hops copied ≡ entries_in start.args.store.now start.args.slot
-  path = c.path_into-hops.ensures.entries_after
-
-  long : length copied ≡ hops_most
-  long = search (rules, length_unmapped)
-
-  few : hops ≤ hops_most
-  few = omega (arith, c.path_into-hops.ensures.value, few-hops start)
-
--- Its share.
-share : (c : lts.After-flow_at tie.the-claims reads.Pre reads.Post tie.handed_clauses) → aggregate_of c.flow_at-flow.result.share ≡ share_at c.args.store.now c.args.slot
-share c = c.flow_at-flow.ensures.share_value
-
--- What taking the path out left.
-module _ (c : lts.After-remove_path tie.the-claims reads.Pre reads.Post tie.handed_clauses) where
-  abbrev at : lts.Start tie.the-claims reads.Pre reads.Post tie.handed_clauses
-  at = start c.before.before.before.before.before.before.before.before.before.before.before.before
-
-  removed : PathRemoved (share_at at.args.store.now at.args.slot) at.args.table.now (entries_in at.args.store.now at.args.slot) at.args.figures.now c.remove_path.new.figures c.remove_path.result
-  removed = rw (share c.before.before.before.before.before.before.before.before.before.before.before.before.before.before, path c.before.before.before.before.before.before.before.before.before.before.before.before) at c.remove_path.ensures
 
 pub path_into-hops-requires : goal.path_into-hops-requires
 path_into-hops-requires c =
-    let at = c.before.before.before.before.before.before.before in
-    let stored = at.requires.consistent_arrays.stored in
-    (stored.store_long, at.requires.slot_lt_slot_count.0, path_inside _ _ stored.packed at.args.slot at.requires.slot_lt_slot_count.0 at.requires.slot_lt_slot_count.1, few-hops at, refl)
+    let kept = c.requires.consistent_arrays in
+    let (inside, held) = c.requires.slot_lt_slot_count in
+    (kept.stored.store_long, inside, path_inside _ _ kept.stored.packed c.args.slot inside held, (ranged _ _ _ _ kept c.args.slot inside held).few, refl)
 
 pub slice_bounds-entries-end : goal.slice_bounds-entries-end
-slice_bounds-entries-end c = omega (arith, long c.before.before.before.before.before.before.before.before.before.before, few c.before.before.before.before.before.before.before.before.before.before)
+slice_bounds-entries-end c =
+    let (inside, held) = c.requires.slot_lt_slot_count in
+    let long : length c.path_into-hops.new.entries ≡ hops_most = search (rules, length_unmapped) in
+    omega (arith, long, few _ _ _ _ c.requires.consistent_arrays c.args.slot inside held _ _ _ c.flow_at-flow.ensures.share_value c.path_into-hops.ensures.value c.path_into-hops.ensures.entries_after)
 
 pub slice_bounds-remove_path-end : goal.slice_bounds-remove_path-end
 slice_bounds-remove_path-end c =
-    let p = c.before.before.before.before.before.before.before.before.before.before.before in sym (length-take-le (hops p) (copied p) (omega (arith, long p, few p)))
+    let (inside, held) = c.requires.slot_lt_slot_count in
+    let long : length c.path_into-hops.new.entries ≡ hops_most = search (rules, length_unmapped) in
+    let count = few _ _ _ _ c.requires.consistent_arrays c.args.slot inside held _ _ _ c.flow_at-flow.ensures.share_value c.path_into-hops.ensures.value c.path_into-hops.ensures.entries_after in
+    sym (length-take-le c.path_into-hops.result c.path_into-hops.new.entries (omega (arith, long, count)))
 
 pub remove_path-requires : goal.remove_path-requires
 remove_path-requires c =
-    let p = c.before.before.before.before.before.before.before.before.before.before.before.before in
-    let at = start p in
-    let r = ranged at in record { at_source = subst AtSource (sym (share p.before.before)) r.share; hops = rw (path p) r.hops; path_counted = rw (share p.before.before, path p) (released.counted _ _ _ _ at.requires.consistent_arrays at.args.slot at.requires.slot_lt_slot_count.0 at.requires.slot_lt_slot_count.1) }
+    let (inside, held) = c.requires.slot_lt_slot_count in
+    let kept = c.requires.consistent_arrays in
+    let share = c.flow_at-flow.ensures.share_value in
+    let count = c.path_into-hops.ensures.value in
+    let path = c.path_into-hops.ensures.entries_after in
+    record {
+      at_source = share-ranged _ _ _ _ kept c.args.slot inside held _ _ _ share count path;
+      hops = path-ranged _ _ _ _ kept c.args.slot inside held _ _ _ share count path;
+      path_counted = path-counted _ _ _ _ kept c.args.slot inside held _ _ _ share count path;
+    }
 
 pub raise_frames-requires : goal.raise_frames-requires
 raise_frames-requires c =
-    let e = c.before.before.before.before.before in
-    let s = at e in
-    let gone = c.remove.ensures in record { readable = (readable _ _ gone.packed_store, e.remove_path.ensures.long); by_index = released.entries-low-left _ _ _ _ s.requires.consistent_arrays s.args.slot s.requires.slot_lt_slot_count.0 s.requires.slot_lt_slot_count.1 gone.store_after gone.packed_store }
+    let (inside, held) = c.requires.slot_lt_slot_count in
+    let gone = c.remove.ensures in
+    record {
+      readable = (readable _ _ gone.packed_store, c.remove_path.ensures.long);
+      by_index = entries-low-left _ _ _ _ c.requires.consistent_arrays c.args.slot inside held gone.store_after gone.packed_store;
+    }
 
-pub returns-then-remove_path : goal.returns-then-remove_path
-returns-then-remove_path c =
-    let e = c.before.before.before.before.before.before.before.before in
-    let s = at e in
-    let gone = c.remove.ensures in record { store_after = gone.store_after; consistent_arrays_2 = released.kept-raised _ _ _ _ s.requires.consistent_arrays s.args.slot s.requires.slot_lt_slot_count.0 s.requires.slot_lt_slot_count.1 gone.store_after gone.packed_store (removed e) c.raise_frames.ensures }
+pub returns-then-remove_path-clause-consistent_arrays_2 : goal.returns-then-remove_path-clause-consistent_arrays_2
+returns-then-remove_path-clause-consistent_arrays_2 c =
+    let (inside, held) = c.requires.slot_lt_slot_count in
+    let kept = c.requires.consistent_arrays in
+    let gone = c.remove.ensures in
+    let removed = path-removed _ _ _ _ kept c.args.slot inside held _ _ _ c.flow_at-flow.ensures.share_value c.path_into-hops.ensures.value c.path_into-hops.ensures.entries_after _ _ c.remove_path.ensures in
+    kept-raised _ _ _ _ kept c.args.slot inside held gone.store_after gone.packed_store removed c.raise_frames.ensures
 
-pub returns-else-remove_path : goal.returns-else-remove_path
-returns-else-remove_path c =
-    let e = c.before.before.before.before in
-    let s = at e in
-    let gone = c.remove.ensures in record { store_after = gone.store_after; consistent_arrays_2 = released.kept-left _ _ _ _ s.requires.consistent_arrays s.args.slot s.requires.slot_lt_slot_count.0 s.requires.slot_lt_slot_count.1 gone.store_after gone.packed_store (removed e) c.if-remove_path.false }
+pub returns-else-remove_path-clause-consistent_arrays_2 : goal.returns-else-remove_path-clause-consistent_arrays_2
+returns-else-remove_path-clause-consistent_arrays_2 c =
+    let (inside, held) = c.requires.slot_lt_slot_count in
+    let kept = c.requires.consistent_arrays in
+    let gone = c.remove.ensures in
+    let removed = path-removed _ _ _ _ kept c.args.slot inside held _ _ _ c.flow_at-flow.ensures.share_value c.path_into-hops.ensures.value c.path_into-hops.ensures.entries_after _ _ c.remove_path.ensures in
+    kept-left _ _ _ _ kept c.args.slot inside held gone.store_after gone.packed_store removed c.if-remove_path.false
