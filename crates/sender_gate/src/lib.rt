@@ -25,14 +25,11 @@ pub struct Gate {
 // What becomes of an opening or an offer.
 #[derive(Clone, Copy)]
 enum Outcome {
-    // 0: opened or passed.
-    Done,
-    // 1
-    Dropped,
-    // 60
-    FrameOutOfRange,
-    // 61
-    GateOutOfRange,
+    // Opened or passed.
+    Done = 0,
+    Dropped = 1,
+    FrameOutOfRange = 60,
+    GateOutOfRange = 61,
 }
 
 // The code, and the gate then.
@@ -41,19 +38,6 @@ enum Outcome {
 pub struct GateAnswer {
     pub gate: Gate,
     pub code: u32,
-}
-
-impl From<Outcome> for u32 {
-    ghost from_gives = { λ outcome code. code ≡ code_of outcome };
-
-    fn from(outcome: Outcome) -> u32 {
-        match outcome {
-            Outcome::Done => 0,
-            Outcome::Dropped => 1,
-            Outcome::FrameOutOfRange => 60,
-            Outcome::GateOutOfRange => 61,
-        }
-    }
 }
 
 // With so many tokens at this reading.
@@ -67,7 +51,7 @@ fn answer(outcome: Outcome, gate: Gate, tokens: Tokens, reading: u32) -> GateAns
             reading,
             ..gate
         },
-        code: u32::from(outcome),
+        code: outcome as u32,
     }
 }
 
