@@ -1,6 +1,6 @@
 -- The mission's third line over what the contracts promise: any table text, and any list of calls on the registry opened on it.
 -- That it holds is `claim` in `ClaimLaws`. And what the order of registrations doesn't change (W-205).
-use Rattle.std.specs.Prelude.{ℕ, ◌<◌, ◌≡◌, ◌↔◌}
+use Rattle.std.specs.Prelude.{ℕ, ◌<◌, ◌≡◌, ◌↔◌, Result}
 use mathlib.Core.List.{List, [], ◌∷◌, map, Permᴰ}
 use Rattle.model.specs.Words.{All}
 use Rattle.model.specs.Sizes.{queues_most}
@@ -14,7 +14,7 @@ use Rattle.model.specs.Part.{Part}
 use Rattle.model.specs.AnyOrder.{HeldInTurn, SameFlows}
 use Rattle.queue_table.specs.View.{hop_at}
 use Rattle.figures.specs.View.{figure_at}
-use Rattle.admission.specs.declared.Answer.{Answer}
+use Rattle.causes.specs.declared.Cause.{Cause}
 use Rattle.registry.specs.declared.Registry.{Registry}
 use Rattle.registry.specs.declared.Opened.{Opened}
 use Rattle.registry.specs.declared.Called.{Called}
@@ -22,9 +22,9 @@ use Rattle.admission.specs.View.{answer_of}
 use Rattle.registry.specs.View.{state_in, Consistent, OpensOn, call_of, Performs}
 
 -- Call after call, each on the registry that the one before left, nobody else writing it.
-pub data Chain : (first : Registry) (calls : List Call) (answers : List Answer) (last : Registry) → Type 0 where
+pub data Chain : (first : Registry) (calls : List Call) (answers : List (Result ℕ Cause)) (last : Registry) → Type 0 where
   none : {r : Registry} → Chain r [] [] r
-  call : {before last : Registry} {c : Call} {called : Called} {calls : List Call} {answers : List Answer}
+  call : {before last : Registry} {c : Call} {called : Called} {calls : List Call} {answers : List (Result ℕ Cause)}
       → Performs before c called
       → Chain called.registry calls answers last
       → Chain before (c ∷ calls) (called.answer ∷ answers) last
@@ -37,11 +37,11 @@ abbrev pub flows_after : (text : List ℕ) (calls : List Call) → List Flow
 flows_after text calls = held_flows (after text calls).slots
 
 -- Another code than 42, a registry that is not consistent (document 01: in order).
-abbrev pub NotSpoilt : Answer → Type 0
+abbrev pub NotSpoilt : Result ℕ Cause → Type 0
 NotSpoilt a = (answer_of a).code ≡ 42 → ⊥
 
 -- What the mission's third line says after these calls on this text.
-pub record Claimed (text : List ℕ) (calls : List Call) (answers : List Answer) (last : Registry) : Type 0 where
+pub record Claimed (text : List ℕ) (calls : List Call) (answers : List (Result ℕ Cause)) (last : Registry) : Type 0 where
   -- All answers, the table and the flow at each slot, and every queue's figures are the reference model's.
   pub answered : map answer_of answers ≡ model.answers (opened text) calls
   pub state : state_in last ≡ after text calls
@@ -61,11 +61,11 @@ pub record Claimed (text : List ℕ) (calls : List Call) (answers : List Answer)
 -- W-205, of calls on a registry opened on the text that were registrations, all admitted, and left `last`. That it holds is `any_order` in `ClaimLaws`.
 pub record InAnyOrder (text : List ℕ) (calls : List Call) (last : Registry) : Type 0 where
   -- Every part of them, made in any order on any registry opened on the text, is admitted, and held in turn.
-  pub part : {o : Opened} {other : List Call} {answers : List Answer} {last' : Registry} → OpensOn text o → Chain o.registry other answers last'
+  pub part : {o : Opened} {other : List Call} {answers : List (Result ℕ Cause)} {last' : Registry} → OpensOn text o → Chain o.registry other answers last'
       → Part other calls
       → HeldInTurn (map call_order other) (map answer_of answers) (state_in last')
   -- So is every order of them all, which leaves the same flows and the same figures.
-  pub order : {o : Opened} {other : List Call} {answers : List Answer} {last' : Registry} → OpensOn text o → Chain o.registry other answers last'
+  pub order : {o : Opened} {other : List Call} {answers : List (Result ℕ Cause)} {last' : Registry} → OpensOn text o → Chain o.registry other answers last'
       → Permᴰ other calls
       → HeldInTurn (map call_order other) (map answer_of answers) (state_in last')
       × SameFlows (state_in last') (state_in last)

@@ -1,6 +1,6 @@
 -- What is claimed of a chain of calls holds: it follows the reference model step by step, and the rest is said of every state that
 -- the model reaches; so is what the order of registrations doesn't change. A chain grows at its end by any call that is performed on the registry it left. Assumes nothing.
-use Rattle.std.specs.Prelude.{ℕ, ◌≡◌, refl, ◌↔◌, List, [], ◌∷◌, ◌++◌, map}
+use Rattle.std.specs.Prelude.{ℕ, ◌≡◌, refl, ◌↔◌, List, [], ◌∷◌, ◌++◌, map, Result}
 use Rattle.std.proofs.Common.{ap, sym, ◌∙◌, subst}
 use Rattle.model.specs.Words.{All}
 use Rattle.model.specs.Orders.{registering}
@@ -14,7 +14,7 @@ use Rattle.model.proofs.Results as results
 use Rattle.model.proofs.Results.{reached-consistent, reached-timely, room-exactly}
 use Rattle.queue_table.specs.View.{hop_at}
 use Rattle.figures.specs.View.{figure_at}
-use Rattle.admission.specs.declared.Answer.{Answer}
+use Rattle.causes.specs.declared.Cause.{Cause}
 use Rattle.admission.specs.View.{answer_of}
 use Rattle.registry.specs.declared.Registry.{Registry}
 use Rattle.registry.specs.declared.Opened.{Opened}
@@ -22,7 +22,7 @@ use Rattle.registry.specs.declared.Called.{Called}
 use Rattle.registry.specs.View.{state_in, Consistent, OpensOn, call_of, Performs}
 use Rattle.registry.specs.Claim.{Chain, none, call, after, NotSpoilt, Claimed, InAnyOrder}
 
-pub claim : (text : List ℕ) (o : Opened) → OpensOn text o → (calls : List Call) (answers : List Answer) (last : Registry)
+pub claim : (text : List ℕ) (o : Opened) → OpensOn text o → (calls : List Call) (answers : List (Result ℕ Cause)) (last : Registry)
     → Chain o.registry calls answers last
     → Claimed text calls answers last
 unfolding model.answers final model.order_answers model.after_orders model.step
@@ -48,7 +48,7 @@ claim text o opens calls answers last chain =
     not-spoilt {before} {c} p k e = never-spoilt (state_in before) c (sym (ap (λ a. a.code) (p.answer k)) ∙ e)
 
     -- From any consistent registry: it stays so, and answers and state are the reference model's from the state it holds.
-    follows : {first last : Registry} {calls : List Call} {answers : List Answer} → Chain first calls answers last → Consistent first
+    follows : {first last : Registry} {calls : List Call} {answers : List (Result ℕ Cause)} → Chain first calls answers last → Consistent first
         → Consistent last
         × (map answer_of answers ≡ model.answers (state_in first) calls)
         × (state_in last ≡ final (state_in first) calls)
@@ -62,7 +62,7 @@ claim text o opens calls answers last chain =
           (not-spoilt p k, never),
         )
 
-pub any_order : (text : List ℕ) (o : Opened) → OpensOn text o → (calls : List Call) (answers : List Answer) (last : Registry)
+pub any_order : (text : List ℕ) (o : Opened) → OpensOn text o → (calls : List Call) (answers : List (Result ℕ Cause)) (last : Registry)
     → Chain o.registry calls answers last
     → AllAdmitted (map call_order calls) (map answer_of answers)
     → InAnyOrder text calls last
@@ -85,7 +85,7 @@ any_order text o opens calls answers last chain all =
     whole : AnyOrder call_order (opened text) calls
     whole = results.any_order text calls (subst (AllAdmitted (map call_order calls)) first.answered all)
 
-    held : {o : Opened} {other : List Call} {answers : List Answer} {last : Registry} → OpensOn text o → Chain o.registry other answers last
+    held : {o : Opened} {other : List Call} {answers : List (Result ℕ Cause)} {last : Registry} → OpensOn text o → Chain o.registry other answers last
         → InTurn call_order (opened text) other
         → HeldInTurn (map call_order other) (map answer_of answers) (state_in last)
     held {o} {other} {answers} {last} opens chain turn =
@@ -93,7 +93,7 @@ any_order text o opens calls answers last chain all =
         subst (λ l. HeldInTurn (map call_order other) l (state_in last)) (sym now.answered)
         (subst (HeldInTurn (map call_order other) (model.answers (opened text) other)) (sym now.state) turn)
 
-pub chain_next : {first last : Registry} {calls : List Call} {answers : List Answer} {c : Call} {called : Called}
+pub chain_next : {first last : Registry} {calls : List Call} {answers : List (Result ℕ Cause)} {c : Call} {called : Called}
     → Chain first calls answers last → Performs last c called
     → Chain first (calls ++ c ∷ []) (answers ++ called.answer ∷ []) called.registry
 chain_next none p = call p none

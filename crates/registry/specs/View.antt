@@ -1,5 +1,5 @@
 -- What the arrays and answers of the registry say in the terms of the model.
-use Rattle.std.specs.Prelude.{ℕ, ◌≡◌, List, length}
+use Rattle.std.specs.Prelude.{ℕ, ◌≡◌, List, length, Result, Err}
 use Rattle.model.specs.QueueTable.{read_table}
 use Rattle.model.specs.Orders.{Order, Kind}
 use Rattle.model.specs.Reference as model
@@ -7,8 +7,7 @@ use Rattle.queue_table.specs.View.{table_numbers, table_of, text_of}
 use Rattle.flow_store.specs.View.{slot_words, store_numbers, slots_of}
 use Rattle.figures.specs.View.{figure_numbers, Figures}
 use Rattle.recount.specs.View.{OnQueues}
-use Rattle.admission.specs.declared.Answer.{Answer}
-use Rattle.admission.specs.declared.Answer.TheVariants.{Refused}
+use Rattle.causes.specs.declared.Cause.{Cause}
 use Rattle.causes.specs.declared.Cause.TheVariants.{Inconsistent}
 use Rattle.admission.specs.View.{state_of, answer_of, ConsistentArrays, Stepped}
 use Rattle.registry.specs.declared.Registry.{Registry}
@@ -23,10 +22,10 @@ pub record Sized (table bits store figures : List ℕ) : Type 0 where
   pub figures-long : length figures ≡ figure_numbers
 
 -- 42 and nothing changed where the arrays aren't a consistent registry; else the order is done.
-pub record Guarded (o : Order) (table bits store figures bits' store' figures' : List ℕ) (r : Answer) : Type 0 where
+pub record Guarded (o : Order) (table bits store figures bits' store' figures' : List ℕ) (r : Result ℕ Cause) : Type 0 where
   pub done : ConsistentArrays table bits store figures → Stepped o table bits store bits' store' figures' r
   pub inconsistent : (ConsistentArrays table bits store figures → ⊥)
-      → (r ≡ Refused Inconsistent) × ((bits' ≡ bits) × ((store' ≡ store) × (figures' ≡ figures)))
+      → (r ≡ Err Inconsistent) × ((bits' ≡ bits) × ((store' ≡ store) × (figures' ≡ figures)))
 
 -- The state that a registry holds, and that it is consistent.
 abbrev pub state_in : Registry → model.State
@@ -57,4 +56,4 @@ pub record Performs (before : Registry) (call : model.Call) (r : Called) : Type 
   pub answer : Consistent before → answer_of r.answer ≡ (model.step (state_in before) call).answer
   pub next : Consistent before → state_in r.registry ≡ (model.step (state_in before) call).next
   pub is-consistent : Consistent before → Consistent r.registry
-  pub inconsistent : (Consistent before → ⊥) → (r.answer ≡ Refused Inconsistent) × (r.registry ≡ before)
+  pub inconsistent : (Consistent before → ⊥) → (r.answer ≡ Err Inconsistent) × (r.registry ≡ before)

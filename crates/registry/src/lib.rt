@@ -19,7 +19,7 @@ use causes::Cause;
 use figures::FIGURE_NUMBERS;
 use flow_store::{SLOT_WORDS, STORE_NUMBERS};
 use orders::Kind;
-use queue_table::{TABLE_NUMBERS, Verdict};
+use queue_table::{Refusal, TABLE_NUMBERS};
 
 // The registry: the queue table, the slots' bits, their numbers with the pool of hop entries, and the figures of all queues.
 #[derive(Clone, Copy)]
@@ -33,7 +33,7 @@ pub struct Registry {
 // What a table text gives: its verdict, and an empty registry.
 #[derive(Clone, Copy)]
 pub struct Opened {
-    pub verdict: Verdict,
+    pub verdict: Result<(), Refusal>,
     pub registry: Registry,
 }
 
@@ -92,65 +92,46 @@ fn call_arrays(
     ensures { Guarded (only_line (kind_number (kind_of kind)) (lines bytes.now)) table.now bits.old store.old figures.old bits.new store.new figures.new result }
 {
     if !is_consistent(table, &bits[..], &store[..], &figures[..]) {
-        return Answer::Refused(Cause::Inconsistent);
+        return Err(Cause::Inconsistent);
     }
     let line = orders::read_call(kind, bytes);
-    let order = line.order;
-    let hops = line.hops;
-    admission::apply(order, &hops, table, bits, store, figures)
+    admission::apply(line.order, &line.hops, table, bits, store, figures)
 }
 
-// A direct call of any kind on any registry whatever.
-fn call(registry: Registry, kind: Kind, bytes: &[u8]) -> Called
+// A call of any kind.
+pub fn step(mut registry: Registry, kind: Kind, bytes: &[u8]) -> Called
     ensures { Performs registry (call_of (kind_of kind) bytes.now) result }
 {
-    let table = registry.table;
-    let mut bits = registry.bits;
-    let mut store = registry.store;
-    let mut figures = registry.figures;
-    let answer = call_arrays(kind, bytes, &table, &mut bits, &mut store, &mut figures);
-    let after = Registry {
-        table,
-        bits,
-        store,
-        figures,
-    };
-    Called {
-        answer,
-        registry: after,
-    }
+    let answer = call_arrays(
+        kind,
+        bytes,
+        &registry.table,
+        &mut registry.bits,
+        &mut registry.store,
+        &mut registry.figures,
+    );
+    Called { answer, registry }
 }
 
 // Registers the flow of one order line with its LF.
 pub fn register(registry: Registry, bytes: &[u8]) -> Called
     ensures { Performs registry (call_of registering bytes.now) result }
 {
-    call(registry, Kind::Register, bytes)
+    step(registry, Kind::Register, bytes)
 }
 
 // Releases the flow that one order line with its LF names.
 pub fn release(registry: Registry, bytes: &[u8]) -> Called
     ensures { Performs registry (call_of releasing bytes.now) result }
 {
-    call(registry, Kind::Release, bytes)
+    step(registry, Kind::Release, bytes)
 }
 
 // Changes rate and burst of the flow that one order line with its LF names.
 pub fn change(registry: Registry, bytes: &[u8]) -> Called
     ensures { Performs registry (call_of changing bytes.now) result }
 {
-    call(registry, Kind::Change, bytes)
-}
-
-// One call of any kind.
-pub fn step(registry: Registry, kind: Kind, bytes: &[u8]) -> Called
-    ensures { Performs registry (call_of (kind_of kind) bytes.now) result }
-{
-    match kind {
-        Kind::Register => register(registry, bytes),
-        Kind::Release => release(registry, bytes),
-        Kind::Change => change(registry, bytes),
-    }
+    step(registry, Kind::Change, bytes)
 }
 
 // An empty registry on a table text; without queues where the text is refused.
@@ -158,13 +139,14 @@ pub fn open(text: &[u8]) -> Opened
     ensures { OpensOn text.now result }
 {
     let read = queue_table::read_table(text);
-    let verdict = read.verdict;
     let table = read.numbers;
-    let registry = Registry {
-        table,
-        bits: [0; SLOT_WORDS],
-        store: [0; STORE_NUMBERS],
-        figures: [0; FIGURE_NUMBERS],
-    };
-    Opened { verdict, registry }
+    Opened {
+        verdict: read.verdict,
+        registry: Registry {
+            table,
+            bits: [0; SLOT_WORDS],
+            store: [0; STORE_NUMBERS],
+            figures: [0; FIGURE_NUMBERS],
+        },
+    }
 }
