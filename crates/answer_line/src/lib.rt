@@ -21,29 +21,33 @@ struct Fields {
     level: u32,
 }
 
-fn refusal(numbers: Numbers) -> Fields
-    ensures { fields_of result ≡ refusal_of (numbers_in numbers) }
-{
-    Fields {
-        code: numbers.code,
-        slot: 0,
-        link: numbers.link,
-        level: numbers.level,
+// Those of a refusal.
+impl From<Numbers> for Fields {
+    ghost from_gives = { λ numbers fields. fields_of fields ≡ refusal_of (numbers_in numbers) };
+
+    fn from(numbers: Numbers) -> Fields {
+        Fields {
+            code: numbers.code,
+            slot: 0,
+            link: numbers.link,
+            level: numbers.level,
+        }
     }
 }
 
-// An answer's numbers.
-fn fields_of(answer: Answer) -> Fields
-    ensures { fields_of result ≡ answer_of answer }
-{
-    match answer {
-        Answer::Done(slot) => Fields {
-            code: 0,
-            slot,
-            link: 0,
-            level: 0,
-        },
-        Answer::Refused(cause) => refusal(causes::numbers_of(cause)),
+impl From<Answer> for Fields {
+    ghost from_gives = { λ answer fields. fields_of fields ≡ answer_of answer };
+
+    fn from(answer: Answer) -> Fields {
+        match answer {
+            Ok(slot) => Fields {
+                code: 0,
+                slot,
+                link: 0,
+                level: 0,
+            },
+            Err(cause) => Fields::from(Numbers::from(cause)),
+        }
     }
 }
 
@@ -52,15 +56,11 @@ pub fn write_answer(answer: Answer, part: &mut [u8])
     requires { 13 ≤ length part.old }
     ensures { part.new ≡ answer_columns (answer_of answer) ++ drop 13 part.old }
 {
-    let numbers = fields_of(answer);
-    let code = numbers.code;
-    let slot = numbers.slot;
-    let link = numbers.link;
-    let level = numbers.level;
-    columns::write_at(part, 1, 3, columns::wide(code));
-    columns::write_at(part, 4, 7, columns::wide(slot));
-    columns::write_at(part, 8, 11, columns::wide(link));
-    columns::write_at(part, 12, 13, columns::wide(level));
+    let fields = Fields::from(answer);
+    columns::write_at(part, 1, 3, u64::from(fields.code));
+    columns::write_at(part, 4, 7, u64::from(fields.slot));
+    columns::write_at(part, 8, 11, u64::from(fields.link));
+    columns::write_at(part, 12, 13, u64::from(fields.level));
 }
 
 // Writes the answer to the order of this line number over the first 20 bytes of `line`.
@@ -69,6 +69,6 @@ pub fn write_line(number: u32, answer: Answer, line: &mut [u8])
     ensures { line.new ≡ answer_line number (answer_of answer) ++ drop 20 line.old }
 {
     line[19] = LF;
-    columns::write_at(line, 1, 6, columns::wide(number));
+    columns::write_at(line, 1, 6, u64::from(number));
     write_answer(answer, &mut line[6..]);
 }

@@ -14,13 +14,14 @@ use Rattle.model.specs.Answers.{answer_line}
 use Rattle.model.proofs.Laws.Answers.{line-length}
 use Rattle.model.proofs.Laws.Columns.{lines-nothing}
 use Rattle.model.specs.Batch.{line_answers, answer_text, done_batch}
-use Rattle.admission.specs.declared.Answer.{Answer}
+use Rattle.std.specs.Prelude.{Result}
+use Rattle.causes.specs.declared.Cause.{Cause}
 use Rattle.admission.specs.View.{state_of, answer_of, ConsistentArrays, Stepped}
 use Rattle.batch.specs.declared.Advance.{Advance}
 use Rattle.batch.specs.View.{LineDone, Answerable}
 
 -- The first line was carried out.
-module _ (orders : List ℕ) (at next : ℕ) (table bits store bits' store' figures' : List ℕ) (a : Answer) (l : Line)
+module _ (orders : List ℕ) (at next : ℕ) (table bits store bits' store' figures' : List ℕ) (a : Result ℕ Cause) (l : Line)
     (stepped : Stepped (order_line l) table bits store bits' store' figures' a) (first : lines (drop at orders) ≡ l ∷ lines (drop next orders)) where
   answers-on : line_answers (state_of table bits store) (l ∷ lines (drop next orders))
       ≡ answer_of a ∷ line_answers (state_of table bits' store') (lines (drop next orders))

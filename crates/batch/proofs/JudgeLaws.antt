@@ -10,8 +10,8 @@ use Rattle.model.specs.Columns.{lines}
 use Rattle.model.specs.QueueTable.{Table, TableText, accepted}
 use Rattle.model.specs.Reference.{State, opened}
 use Rattle.model.specs.Batch.{Batch, refused_batch, done_batch, too_long, too_short, after_table, batch}
-use Rattle.queue_table.specs.declared.Fault.{Fault}
-use Rattle.queue_table.specs.declared.Verdict.TheVariants.{Accepted, Refused}
+use Rattle.std.specs.Prelude.{Ok, Err}
+use Rattle.queue_table.specs.declared.Refusal.{Refusal}
 use Rattle.queue_table.specs.View.{table_of, fault_code, TableFilled}
 use Rattle.flow_store.specs.View.{slot_words, store_numbers}
 use Rattle.figures.specs.View.{figure_numbers}
@@ -44,14 +44,14 @@ module _ (t : Table) (s : State) (orders area : List ℕ) where
           simp (le-ltb order_bytes (length orders) within, le-ltb order_lines (length (lines orders)) few, le-ltb (length area) (answer_bytes * length (lines orders)) room)
 
 -- A table that was accepted.
-module _ (text table : List ℕ) (filled : TableFilled text Accepted table) where
+module _ (text table : List ℕ) (filled : TableFilled text (Ok tt) table) where
   pub empty-registry : ConsistentArrays table no_bits no_flows no_figures
   unfolding no_bits no_flows no_figures
-  empty-registry = empty-consistent text table Accepted filled slot_words store_numbers figure_numbers refl refl refl
+  empty-registry = empty-consistent text table (Ok tt) filled slot_words store_numbers figure_numbers refl refl refl
 
   starts : state_of table no_bits no_flows ≡ opened text
   unfolding no_bits no_flows
-  starts = empty text table Accepted filled slot_words store_numbers figure_numbers refl refl refl
+  starts = empty text table (Ok tt) filled slot_words store_numbers figure_numbers refl refl refl
 
   pub from-table : (orders area : List ℕ)
       → after_table (accepted (table_of table)) (state_of table no_bits no_flows) orders area ≡ batch text orders area
@@ -59,7 +59,7 @@ module _ (text table : List ℕ) (filled : TableFilled text Accepted table) wher
   from-table orders area = ap₂ (λ (t : TableText) (s : State). after_table t s orders area) filled.same starts
 
 -- A table that was refused.
-pub refused-table : (text table orders area : List ℕ) (fault : Fault) (line : ℕ) → TableFilled text (Refused fault line) table
-    → refused_batch (fault_code fault) line area ≡ batch text orders area
+pub refused-table : (text table orders area : List ℕ) (refusal : Refusal) → TableFilled text (Err refusal) table
+    → refused_batch (fault_code refusal.fault) refusal.line area ≡ batch text orders area
 unfolding batch after_table
-refused-table text table orders area fault line filled = ap (λ (t : TableText). after_table t (opened text) orders area) filled.same
+refused-table text table orders area refusal filled = ap (λ (t : TableText). after_table t (opened text) orders area) filled.same

@@ -1,5 +1,5 @@
 -- What the parts of a batch say in the terms of the model.
-use Rattle.std.specs.Prelude.{ℕ, suc, ◌*◌, ◌≤◌, ◌<◌, ◌≡◌, List, ◌∷◌, length, drop, replicate}
+use Rattle.std.specs.Prelude.{ℕ, suc, ◌*◌, ◌≤◌, ◌<◌, ◌≡◌, List, ◌∷◌, length, drop, replicate, Bool, eqb, Result, Ok, Err}
 use Rattle.model.specs.Sizes.{order_lines, answer_bytes}
 use Rattle.model.specs.Columns.{lines}
 use Rattle.model.specs.QueueTable.{accepted}
@@ -12,6 +12,9 @@ use Rattle.batch.specs.declared.Advance.{Advance}
 use Rattle.batch.specs.declared.BatchResult.{BatchResult}
 use Rattle.batch.specs.declared.Refusal.{Refusal}
 use Rattle.batch.specs.declared.Refusal.TheVariants.{Table, OrdersTooLong, AreaTooShort}
+
+abbrev pub is_lf : ℕ → Bool
+is_lf byte = eqb byte 10
 
 -- The arrays of an empty registry.
 unfoldable pub no_bits : List ℕ
@@ -47,14 +50,19 @@ result_of r area = record { code = r.code; line = r.line; area = area }
 
 -- 1 to 5 with the table's line, 41 and 40 with line 0; nothing is written.
 abbrev pub refused_with : Refusal → (area : List ℕ) → model.Batch
-refused_with (Table fault line) area = model.refused_batch (fault_code fault) line area
+refused_with (Table of_table) area = model.refused_batch (fault_code of_table.fault) of_table.line area
 refused_with OrdersTooLong area = model.refused_batch 41 0 area
 refused_with AreaTooShort area = model.refused_batch 40 0 area
 
+-- 0 with the count of order lines, or a refusal.
+abbrev pub batch_of : Result ℕ Refusal → (area : List ℕ) → model.Batch
+batch_of (Ok count) area = record { code = 0; line = count; area = area }
+batch_of (Err refusal) area = refused_with refusal area
+
 -- The orders were judged and answered on an empty registry.
-abbrev pub OrdersDone : (table orders area area' : List ℕ) → BatchResult → Type 0
+abbrev pub OrdersDone : (table orders area area' : List ℕ) → Result ℕ Refusal → Type 0
 OrdersDone table orders area area' r =
-    result_of r area' ≡ model.after_table (accepted (table_of table)) (state_of table no_bits no_flows) orders area
+    batch_of r area' ≡ model.after_table (accepted (table_of table)) (state_of table no_bits no_flows) orders area
 
 -- Code, line and every byte of the area are those of the model.
 abbrev pub Batched : (table orders area area' : List ℕ) → BatchResult → Type 0

@@ -4,17 +4,19 @@
 // consistent and 42 isn't looked for.
 #![tactic(auto)]
 
-ghost use Rattle.std.specs.Prelude.{◌≡◌, List, ℕ, ◌+◌, ◌≤◌, ◌<◌, length, drop};
+ghost use Rattle.std.specs.Prelude.{◌≡◌, List, ℕ, ◌≤◌, ◌<◌, length, count_by};
 ghost use Rattle.model.specs.Columns.{lines};
+ghost use Rattle.model.specs.Batch.{batch};
 ghost use Rattle.admission.specs.View.{ConsistentArrays};
-ghost use Rattle.batch.specs.View.{no_bits, no_flows, no_figures, LineDone, Answerable, Answered, OrdersDone, result_of, refused_with, Batched};
+ghost use Rattle.batch.specs.View.{no_bits, no_flows, no_figures, LineDone, Answerable, Answered, OrdersDone, result_of, refused_with, batch_of, is_lf, Batched};
+ghost use Rattle.batch.specs.declared.Refusal.TheVariants.{Table};
 
 use admission::Answer;
 use causes::Cause;
-use columns::{LF, NextLine};
+use columns::LF;
 use figures::FIGURE_NUMBERS;
 use flow_store::{SLOT_WORDS, STORE_NUMBERS};
-use queue_table::{Fault, TABLE_NUMBERS, Verdict};
+use queue_table::TABLE_NUMBERS;
 
 // How many bytes and lines an order text has at the most.
 pub const ORDER_BYTES: usize = 60_000;
@@ -33,14 +35,39 @@ pub struct BatchResult {
 }
 
 // What a batch as a whole is refused for.
-#[derive(Clone, Copy)]
-enum Refusal {
+#[derive(Clone, Copy, Debug, PartialEq, Eq)]
+pub enum Refusal {
     // 1 to 5, with the table's line.
-    Table(Fault, u32),
+    Table(queue_table::Refusal),
     // 41: too many order bytes or lines.
     OrdersTooLong,
     // 40: no room for the answers.
     AreaTooShort,
+}
+
+impl From<queue_table::Refusal> for Refusal {
+    ghost from_gives = { λ of_table refusal. refusal ≡ Table of_table };
+
+    fn from(of_table: queue_table::Refusal) -> Refusal {
+        Refusal::Table(of_table)
+    }
+}
+
+// Document 01's code and line of a refusal.
+#[tactic(auto, unfolding(model::specs::Batch::refused_batch))]
+impl From<Refusal> for BatchResult {
+    ghost from_gives = { λ refusal r. (area : List ℕ) → result_of r area ≡ refused_with refusal area };
+
+    fn from(refusal: Refusal) -> BatchResult {
+        match refusal {
+            Refusal::Table(of_table) => BatchResult {
+                code: u32::from(of_table.fault),
+                line: of_table.line,
+            },
+            Refusal::OrdersTooLong => BatchResult { code: 41, line: 0 },
+            Refusal::AreaTooShort => BatchResult { code: 40, line: 0 },
+        }
+    }
 }
 
 // The answer to a line, and the position after it.
@@ -50,56 +77,36 @@ struct Advance {
     next: usize,
 }
 
-// How many LFs stand in the 128 bytes from `at` on. The counter is a byte, so that many are counted at once.
-fn count_block(text: &[u8], at: usize) -> u8
-    requires { at + 128 < length text.now }
-    ensures upper_bound { result ≤ 128 }
-    ensures text_value { result + length (lines (drop (at + 128) text.now)) ≡ length (lines (drop at text.now)) }
+// So many bytes are counted at once: their LFs fit a byte.
+const BLOCK: usize = 128;
+
+// How many LFs stand in a block.
+fn count_block(block: &[u8]) -> u8
+    requires { length block.now ≤ 128 }
+    ensures upper_bound { result ≤ length block.now }
+    ensures value { result ≡ count_by is_lf block.now }
 {
     let mut count: u8 = 0;
-    let mut i = 0;
-    while i < 128 {
-        if text[at + i] == LF {
+    for byte in block {
+        if *byte == LF {
             count += 1;
         }
-        i += 1;
     }
     count
 }
 
-// The lines from `at` on, after `before` others. Each LF before the last byte ends one, and the last byte belongs to one more.
-fn count_rest(text: &[u8], at: usize, before: usize) -> usize
-    requires { (at < length text.now) × (before ≤ at) }
-    ensures { result ≡ before + length (lines (drop at text.now)) }
-{
-    let last = text.len() - 1;
-    let mut count = before;
-    let mut i = at;
-    while i < last {
-        if text[i] == LF {
-            count += 1;
-        }
-        i += 1;
-    }
-    count + 1
-}
-
-// How many lines a text has.
+// How many lines a text has: each LF before the last byte ends one, and the last byte belongs to one more.
 fn count_lines(text: &[u8]) -> usize
     ensures { result ≡ length (lines text.now) }
 {
-    let size = text.len();
-    if size == 0 {
+    let Some((_, before)) = text.split_last() else {
         return 0;
+    };
+    let mut count = 1;
+    for block in before.chunks(BLOCK) {
+        count += usize::from(count_block(block));
     }
-    let mut count = 0;
-    let mut at = 0;
-    while 128 < size - at {
-        let more = count_block(text, at);
-        count += more as usize;
-        at += 128;
-    }
-    count_rest(text, at, count)
+    count
 }
 
 // Carries out the order of the line that starts at `at`.
@@ -114,18 +121,15 @@ fn answer_next(
     requires { (at < length orders.now) × ConsistentArrays table.now bits.old store.old figures.old }
     ensures { LineDone orders.now at table.now bits.old store.old bits.new store.new figures.new result }
 {
-    let NextLine::Ended(end) = columns::next_line(orders, at) else {
+    let Some(end) = columns::next_line(orders, at) else {
         return Advance {
-            answer: Answer::Refused(Cause::Malformed),
+            answer: Err(Cause::Malformed),
             next: orders.len(),
         };
     };
     let line = orders::read_order(&orders[at..end]);
-    let order = line.order;
-    let hops = line.hops;
-    let answer = admission::apply(order, &hops, table, bits, store, figures);
     Advance {
-        answer,
+        answer: admission::apply(line.order, &line.hops, table, bits, store, figures),
         next: end + 1,
     }
 }
@@ -148,9 +152,8 @@ fn answer_all(
     let mut offset = 0;
     while at < orders.len() {
         let advance = answer_next(orders, at, table, bits, store, figures);
-        let answer = advance.answer;
         number += 1;
-        answer_line::write_line(number, answer, &mut answers[offset..]);
+        answer_line::write_line(number, advance.answer, &mut answers[offset..]);
         offset += ANSWER_BYTES;
         at = advance.next;
     }
@@ -168,50 +171,42 @@ fn run(orders: &[u8], table: &[u32], answers: &mut [u8])
     answer_all(orders, table, &mut bits, &mut store, &mut figures, answers);
 }
 
-// Document 01's code and line of a refusal.
-fn refused(refusal: Refusal) -> BatchResult
-    ensures { (area : List ℕ) → result_of result area ≡ refused_with refusal area }
-{
-    match refusal {
-        Refusal::Table(fault, line) => BatchResult {
-            code: queue_table::fault_code(fault),
-            line,
-        },
-        Refusal::OrdersTooLong => BatchResult { code: 41, line: 0 },
-        Refusal::AreaTooShort => BatchResult { code: 40, line: 0 },
-    }
-}
-
-// 41, then 40, then the orders, on a table that was accepted.
-fn judge_orders(orders: &[u8], table: &[u32], answers: &mut [u8]) -> BatchResult
+// 41, then 40, then the orders, on a table that was accepted: how many were answered.
+fn judge_orders(orders: &[u8], table: &[u32], answers: &mut [u8]) -> Result<u32, Refusal>
     requires { ConsistentArrays table.now no_bits no_flows no_figures }
     ensures { OrdersDone table.now orders.now answers.old answers.new result }
 {
     if ORDER_BYTES < orders.len() {
-        return refused(Refusal::OrdersTooLong);
+        return Err(Refusal::OrdersTooLong);
     }
     let count = count_lines(orders);
     if ORDER_LINES < count {
-        return refused(Refusal::OrdersTooLong);
+        return Err(Refusal::OrdersTooLong);
     }
     if answers.len() < ANSWER_BYTES * count {
-        return refused(Refusal::AreaTooShort);
+        return Err(Refusal::AreaTooShort);
     }
     run(orders, table, answers);
-    BatchResult {
-        code: 0,
-        line: count as u32,
-    }
+    Ok(count as u32)
 }
 
-// A batch over byte areas. Refused, it writes nothing; done, it writes 20 bytes per order line and leaves the rest as it was.
+// A batch over byte areas: how many order lines were answered, in 20 bytes each, the rest of the area left as it was. Refused, it
+// writes nothing.
+pub fn answer(table: &[u8], orders: &[u8], answers: &mut [u8]) -> Result<u32, Refusal>
+    ensures { batch_of result answers.new ≡ batch table.now orders.now answers.old }
+{
+    let mut numbers = [0u32; TABLE_NUMBERS];
+    queue_table::read_into(table, &mut numbers)?;
+    judge_orders(orders, &numbers, answers)
+}
+
+// The same for a host in C.
 #[unsafe(no_mangle)]
 pub extern "C" fn devvonur_batch(table: &[u8], orders: &[u8], answers: &mut [u8]) -> BatchResult
     ensures { Batched table.now orders.now answers.old answers.new result }
 {
-    let mut numbers = [0u32; TABLE_NUMBERS];
-    match queue_table::read_into(table, &mut numbers) {
-        Verdict::Accepted => judge_orders(orders, &numbers, answers),
-        Verdict::Refused(fault, line) => refused(Refusal::Table(fault, line)),
+    match answer(table, orders, answers) {
+        Ok(line) => BatchResult { code: 0, line },
+        Err(refusal) => BatchResult::from(refusal),
     }
 }

@@ -14,7 +14,7 @@ returns-then-orders-gt-ORDER_BYTES c =
     let s = state_of c.args.table.now no_bits no_flows in
     let orders = c.args.orders.now in
     let area = c.args.answers.now in
-    c.refused.ensures area ∙ sym (judged-long t s orders area c.if-orders-gt-ORDER_BYTES.true)
+    sym (judged-long t s orders area c.if-orders-gt-ORDER_BYTES.true)
 
 pub returns-then-count-gt-ORDER_LINES : goal.returns-then-count-gt-ORDER_LINES
 returns-then-count-gt-ORDER_LINES c =
@@ -23,7 +23,7 @@ returns-then-count-gt-ORDER_LINES c =
     let orders = c.args.orders.now in
     let area = c.args.answers.now in
     let counted = c.count_lines-count.ensures in
-    c.refused-then-count-gt-ORDER_LINES.ensures area ∙ sym (judged-many t s orders area c.if-orders-gt-ORDER_BYTES.false (omega (arith, counted, c.if-count-gt-ORDER_LINES.true)))
+    sym (judged-many t s orders area c.if-orders-gt-ORDER_BYTES.false (omega (arith, counted, c.if-count-gt-ORDER_LINES.true)))
 
 pub returns-then-answers-count : goal.returns-then-answers-count
 returns-then-answers-count c =
@@ -32,7 +32,7 @@ returns-then-answers-count c =
     let orders = c.args.orders.now in
     let area = c.args.answers.now in
     let counted = c.count_lines-count.ensures in
-    c.refused-then-answers-count.ensures area ∙ sym (judged-short t s orders area c.if-orders-gt-ORDER_BYTES.false (omega (arith, counted, c.if-count-gt-ORDER_LINES.false)) (omega (arith, counted, c.if-answers-count.true)))
+    sym (judged-short t s orders area c.if-orders-gt-ORDER_BYTES.false (omega (arith, counted, c.if-count-gt-ORDER_LINES.false)) (omega (arith, counted, c.if-answers-count.true)))
 
 pub returns : goal.returns
 unfolding model.done_batch

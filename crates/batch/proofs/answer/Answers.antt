@@ -1,0 +1,20 @@
+-- `batch::answer` meets its contract: the table is read first, then the orders are judged and answered.
+use Rattle.std.proofs.Common.{◌≡◌, ℕ, ap, ◌∙◌, rules}
+use Rattle.std.specs.Prelude.{Result, Err}
+use Rattle.batch.specs.declared.Refusal.{Refusal}
+use Rattle.batch.specs.declared.Refusal.TheVariants.{Table}
+use Rattle.batch.specs.View.{batch_of}
+use Rattle.batch.proofs.JudgeLaws.{empty-registry, from-table, refused-table}
+use Rattle.batch.proofs.answer.Goals as goal
+
+pub returns-in_err-read_into : goal.returns-in_err-read_into
+returns-in_err-read_into c =
+    let args = c.args in
+    let refused : c.from_residual.result ≡ Err (Table c.in_err-read_into.field-0.0) = search rules in
+    ap (λ (r : Result ℕ Refusal). batch_of r args.answers.now) refused ∙ refused-table args.table.now c.read_into.new.table args.orders.now args.answers.now _ c.in_err-read_into.ensures
+
+pub judge_orders-requires : goal.judge_orders-requires
+judge_orders-requires c = empty-registry _ _ c.in_ok-read_into.ensures
+
+pub returns : goal.returns
+returns c = c.judge_orders.ensures ∙ from-table _ _ c.in_ok-read_into.ensures c.args.orders.now c.args.answers.now
