@@ -2,7 +2,7 @@
 ghost use Rattle.std.specs.Prelude.{◌≡◌, ◌&&◌, ◌+◌, ◌≤◌, ◌<◌, length, eqb};
 ghost use Rattle.columns.specs.View.{value_of};
 ghost use Rattle.model.specs.Sizes.{links_most};
-ghost use Rattle.model.specs.QueueTable.{is_row_length, later_field, row, best_effort_in_range, row_in_range, continues, row_in_turn, same_link, row_agrees, row_cause};
+ghost use Rattle.model.specs.QueueTable.{is_row_length, later_field, row, best_effort_in_range, row_in_range, begins, continues, row_in_turn, same_link, row_agrees, row_cause};
 ghost use Rattle.queue_table.specs.View.{table_numbers, row_of, numbers_of, links_of, code_of};
 
 use crate::access::link_at;
@@ -84,74 +84,83 @@ pub(crate) fn in_range(r: Row) -> bool
         && best_effort_in_range(r.besteffort)
 }
 
-// The line is level 1 of the next link, after n of them.
-fn begins(r: Row, n: usize) -> bool
-    requires { n ≤ links_most }
-    ensures { result ≡ (eqb r.link (n + 1) && eqb r.level 1) }
-{
-    r.link as usize == n + 1 && r.level == 1
+// The first `count` links of an array: while a table is read, the links so far.
+#[derive(Clone, Copy)]
+pub(crate) struct Links<'a> {
+    pub(crate) count: usize,
+    pub(crate) table: &'a [u32],
+    ghost few: { count ≤ links_most },
+    ghost long: { length table.now ≡ table_numbers },
 }
 
-// The line is the next level of the newest of n links.
-#[tactic(auto, using(crate::proofs::ViewLaws::continues_none, crate::proofs::ViewLaws::continues_at))]
-fn continues(r: Row, n: usize, table: &[u32]) -> bool
-    requires { (n ≤ links_most) × (length table.now ≡ table_numbers) }
-    ensures { result ≡ continues (links_of n table.now) (numbers_of r) }
-{
-    n != 0 && r.link as usize == n && r.level != 0 && link_at(n - 1, table).levels == r.level - 1
-}
-
-// 3: link and level are in turn, and not past the most of either.
-#[tactic(auto, using(crate::proofs::ViewLaws::begins_at), unfolding(model::specs::QueueTable::row_in_turn))]
-fn in_turn(r: Row, n: usize, table: &[u32]) -> bool
-    requires { (n ≤ links_most) × (length table.now ≡ table_numbers) }
-    ensures { result ≡ row_in_turn (links_of n table.now) (numbers_of r) }
-{
-    r.link as usize <= LINKS
-        && r.level as usize <= LEVELS
-        && (begins(r, n) || continues(r, n, table))
-}
-
-// The line has all that is the link's as the newest of n links has it.
-#[tactic(auto, using(crate::proofs::ViewLaws::same_none, crate::proofs::ViewLaws::same_at))]
-fn same_link(r: Row, n: usize, table: &[u32]) -> bool
-    requires { (n ≤ links_most) × (length table.now ≡ table_numbers) }
-    ensures { result ≡ same_link (links_of n table.now) (numbers_of r) }
-{
-    if n == 0 {
-        return false;
+impl Links<'_> {
+    // The line is level 1 of the next link.
+    #[tactic(auto, using(crate::proofs::ViewLaws::begins_at))]
+    fn begins(self, r: Row) -> bool
+        ensures { result ≡ begins (links_of self.entry.count self.entry.table.now) (numbers_of r) }
+    {
+        r.link as usize == self.count + 1 && r.level == 1
     }
-    let newest = link_at(n - 1, table);
-    r.from == newest.from
-        && r.to == newest.to
-        && r.speed == newest.speed
-        && u64::from(r.fixed) == newest.fixed.0
-        && u64::from(r.besteffort) == newest.besteffort.0
-}
 
-// 4: from and to are two nodes, and all that is the link's is the same within a link.
-#[tactic(auto, using(crate::proofs::ViewLaws::begins_at), unfolding(model::specs::QueueTable::row_agrees))]
-fn agrees(r: Row, n: usize, table: &[u32]) -> bool
-    requires { (n ≤ links_most) × (length table.now ≡ table_numbers) }
-    ensures { result ≡ row_agrees (links_of n table.now) (numbers_of r) }
-{
-    r.from != r.to && (begins(r, n) || same_link(r, n, table))
-}
+    // The line is the next level of the newest link.
+    #[tactic(auto, using(crate::proofs::ViewLaws::continues_none, crate::proofs::ViewLaws::continues_at))]
+    fn continues(self, r: Row) -> bool
+        ensures { result ≡ continues (links_of self.entry.count self.entry.table.now) (numbers_of r) }
+    {
+        self.count != 0
+            && r.link as usize == self.count
+            && r.level != 0
+            && link_at(self.count - 1, self.table).levels == r.level - 1
+    }
 
-// The first cause, 2 to 4, against a line after n links.
-#[tactic(auto, unfolding(model::specs::QueueTable::row_cause))]
-pub(crate) fn judge_row(r: Row, n: usize, table: &[u32]) -> Result<(), Fault>
-    requires { (n ≤ links_most) × (length table.now ≡ table_numbers) }
-    ensures { code_of result ≡ row_cause (links_of n table.now) (numbers_of r) }
-{
-    if !in_range(r) {
-        return Err(Fault::OutOfRange);
+    // 3: link and level are in turn, and not past the most of either.
+    #[tactic(auto, unfolding(model::specs::QueueTable::row_in_turn))]
+    fn in_turn(self, r: Row) -> bool
+        ensures { result ≡ row_in_turn (links_of self.entry.count self.entry.table.now) (numbers_of r) }
+    {
+        r.link as usize <= LINKS
+            && r.level as usize <= LEVELS
+            && (self.begins(r) || self.continues(r))
     }
-    if !in_turn(r, n, table) {
-        return Err(Fault::OutOfTurn);
+
+    // The line has all that is the link's as the newest link has it.
+    #[tactic(auto, using(crate::proofs::ViewLaws::same_none, crate::proofs::ViewLaws::same_at))]
+    fn same_link(self, r: Row) -> bool
+        ensures { result ≡ same_link (links_of self.entry.count self.entry.table.now) (numbers_of r) }
+    {
+        if self.count == 0 {
+            return false;
+        }
+        let newest = link_at(self.count - 1, self.table);
+        r.from == newest.from
+            && r.to == newest.to
+            && r.speed == newest.speed
+            && u64::from(r.fixed) == newest.fixed.0
+            && u64::from(r.besteffort) == newest.besteffort.0
     }
-    if !agrees(r, n, table) {
-        return Err(Fault::Disagrees);
+
+    // 4: from and to are two nodes, and all that is the link's is the same within a link.
+    #[tactic(auto, unfolding(model::specs::QueueTable::row_agrees))]
+    fn agrees(self, r: Row) -> bool
+        ensures { result ≡ row_agrees (links_of self.entry.count self.entry.table.now) (numbers_of r) }
+    {
+        r.from != r.to && (self.begins(r) || self.same_link(r))
     }
-    Ok(())
+
+    // The first cause, 2 to 4, against a further line.
+    #[tactic(auto, unfolding(model::specs::QueueTable::row_cause))]
+    pub(crate) fn judge(self, r: Row) -> Result<(), Fault>
+        ensures { code_of result ≡ row_cause (links_of self.entry.count self.entry.table.now) (numbers_of r) }
+    {
+        if !in_range(r) {
+            return Err(Fault::OutOfRange);
+        }
+        if !self.in_turn(r) {
+            return Err(Fault::OutOfTurn);
+        }
+        if !self.agrees(r) {
+            return Err(Fault::Disagrees);
+        }
+        Ok(())
+    }
 }
