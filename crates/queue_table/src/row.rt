@@ -1,9 +1,11 @@
 // One table line: its numbers, and what is against it after the links before (document 01, codes 1 to 4).
-ghost use Rattle.std.specs.Prelude.{◌≡◌, ◌&&◌, ◌+◌, ◌≤◌, ◌<◌, length, eqb};
+ghost use Rattle.std.specs.Prelude.{◌≡◌, ◌&&◌, ◌+◌, ◌≤◌, ◌<◌, List, length};
 ghost use Rattle.columns.specs.View.{value_of};
 ghost use Rattle.model.specs.Sizes.{links_most};
-ghost use Rattle.model.specs.QueueTable.{is_row_length, later_field, row, best_effort_in_range, row_in_range, begins, continues, row_in_turn, same_link, row_agrees, row_cause};
+ghost use Rattle.model.specs.QueueTable.{Link, is_row_length, later_field, row, best_effort_in_range, row_in_range, begins, continues, row_in_turn, same_link, row_agrees, row_cause};
 ghost use Rattle.queue_table.specs.View.{table_numbers, row_of, numbers_of, links_of, code_of};
+
+use std::marker::Model;
 
 use crate::access::link_at;
 use crate::{BASE_COLUMNS, BEST_EFFORT_COLUMNS, DELAY_COLUMNS, Fault, LEVELS, LINKS};
@@ -85,27 +87,33 @@ pub(crate) fn in_range(r: Row) -> bool
 }
 
 // The first `count` links of an array: while a table is read, the links so far.
-#[derive(Clone, Copy)]
+#[derive(Drop)]
 pub(crate) struct Links<'a> {
     pub(crate) count: usize,
     pub(crate) table: &'a [u32],
-    ghost few: { count ≤ links_most },
-    ghost long: { length table.now ≡ table_numbers },
+}
+
+impl<'a> Model for Links<'a> {
+    ghost Value = { List Link };
+
+    ghost view = { λ links. links_of links.count links.table.now };
+
+    ghost invariant = { λ links. (links.count ≤ links_most) × (length links.table.now ≡ table_numbers) };
 }
 
 impl Links<'_> {
     // The line is level 1 of the next link.
     #[tactic(auto, using(crate::proofs::ViewLaws::begins_at))]
-    fn begins(self, r: Row) -> bool
-        ensures { result ≡ begins (links_of self.entry.count self.entry.table.now) (numbers_of r) }
+    fn begins(&self, r: Row) -> bool
+        ensures { result ≡ begins self.now (numbers_of r) }
     {
         r.link as usize == self.count + 1 && r.level == 1
     }
 
     // The line is the next level of the newest link.
     #[tactic(auto, using(crate::proofs::ViewLaws::continues_none, crate::proofs::ViewLaws::continues_at))]
-    fn continues(self, r: Row) -> bool
-        ensures { result ≡ continues (links_of self.entry.count self.entry.table.now) (numbers_of r) }
+    fn continues(&self, r: Row) -> bool
+        ensures { result ≡ continues self.now (numbers_of r) }
     {
         self.count != 0
             && r.link as usize == self.count
@@ -115,8 +123,8 @@ impl Links<'_> {
 
     // 3: link and level are in turn, and not past the most of either.
     #[tactic(auto, unfolding(model::specs::QueueTable::row_in_turn))]
-    fn in_turn(self, r: Row) -> bool
-        ensures { result ≡ row_in_turn (links_of self.entry.count self.entry.table.now) (numbers_of r) }
+    fn in_turn(&self, r: Row) -> bool
+        ensures { result ≡ row_in_turn self.now (numbers_of r) }
     {
         r.link as usize <= LINKS
             && r.level as usize <= LEVELS
@@ -125,8 +133,8 @@ impl Links<'_> {
 
     // The line has all that is the link's as the newest link has it.
     #[tactic(auto, using(crate::proofs::ViewLaws::same_none, crate::proofs::ViewLaws::same_at))]
-    fn same_link(self, r: Row) -> bool
-        ensures { result ≡ same_link (links_of self.entry.count self.entry.table.now) (numbers_of r) }
+    fn same_link(&self, r: Row) -> bool
+        ensures { result ≡ same_link self.now (numbers_of r) }
     {
         if self.count == 0 {
             return false;
@@ -141,16 +149,16 @@ impl Links<'_> {
 
     // 4: from and to are two nodes, and all that is the link's is the same within a link.
     #[tactic(auto, unfolding(model::specs::QueueTable::row_agrees))]
-    fn agrees(self, r: Row) -> bool
-        ensures { result ≡ row_agrees (links_of self.entry.count self.entry.table.now) (numbers_of r) }
+    fn agrees(&self, r: Row) -> bool
+        ensures { result ≡ row_agrees self.now (numbers_of r) }
     {
         r.from != r.to && (self.begins(r) || self.same_link(r))
     }
 
     // The first cause, 2 to 4, against a further line.
     #[tactic(auto, unfolding(model::specs::QueueTable::row_cause))]
-    pub(crate) fn judge(self, r: Row) -> Result<(), Fault>
-        ensures { code_of result ≡ row_cause (links_of self.entry.count self.entry.table.now) (numbers_of r) }
+    pub(crate) fn judge(&self, r: Row) -> Result<(), Fault>
+        ensures { code_of result ≡ row_cause self.now (numbers_of r) }
     {
         if !in_range(r) {
             return Err(Fault::OutOfRange);
