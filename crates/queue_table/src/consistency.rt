@@ -1,13 +1,12 @@
 // Whether an array of any content holds a table that passes 2 to 4 (document 01, code 42).
 ghost use Rattle.std.specs.Prelude.{◌≡◌, ◌≤◌, ◌<◌, length};
-ghost use Rattle.model.specs.Words.{every};
 ghost use Rattle.model.specs.Sizes.{links_most, levels_most};
 ghost use Rattle.model.specs.QueueTable.{row_in_range};
 ghost use Rattle.model.specs.Consistent as model;
-ghost use Rattle.queue_table.specs.View.{table_numbers, up_to, queue_at, link_at, table_of};
+ghost use Rattle.queue_table.specs.View.{table_numbers, queue_at, link_at, table_of};
 
 use crate::access::{entry_at, link_at, link_count, queue_at};
-use crate::row::{Row, in_range};
+use crate::row::Row;
 use crate::{LEVELS, LINKS};
 
 // 2 of level p of link i, both counted from 0.
@@ -18,7 +17,7 @@ fn level_in_range(i: usize, p: usize, table: &[u32]) -> bool
 {
     let link = link_at(i, table);
     let queue = queue_at(entry_at(i, p), table);
-    in_range(Row {
+    let row = Row {
         link: 0,
         from: link.from,
         to: link.to,
@@ -28,15 +27,8 @@ fn level_in_range(i: usize, p: usize, table: &[u32]) -> bool
         buffer: queue.buffer.0 as u32,
         fixed: link.fixed.0 as u32,
         besteffort: link.besteffort.0 as u32,
-    })
-}
-
-// 2 of the first `levels` levels of link i.
-fn levels_in_range(i: usize, levels: usize, table: &[u32]) -> bool
-    requires { (i < links_most) × (levels ≤ levels_most) × (length table.now ≡ table_numbers) }
-    ensures { result ≡ every (λ q. row_in_range (model.row_of (link_at table.now i) q)) (up_to levels (queue_at table.now i)) }
-{
-    (0..levels).all(|p| level_in_range(i, p, table))
+    };
+    row.in_range()
 }
 
 // Whether link i passes 2 to 4. Its number of levels is of any value, so it is judged before they are read.
@@ -47,7 +39,10 @@ fn link_consistent(i: usize, table: &[u32]) -> bool
 {
     let link = link_at(i, table);
     let levels = link.levels as usize;
-    levels != 0 && levels <= LEVELS && link.from != link.to && levels_in_range(i, levels, table)
+    levels != 0
+        && levels <= LEVELS
+        && link.from != link.to
+        && (0..levels).all(|p| level_in_range(i, p, table))
 }
 
 // Whether an array of any content holds a table that passes 2 to 4.

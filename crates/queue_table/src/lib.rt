@@ -17,7 +17,7 @@ pub use access::{
 };
 use access::{link_position, queue_position};
 pub use consistency::consistent;
-use row::{Links, Row, read_row};
+use row::{Links, Row};
 
 // How many links a table has at the most, how many levels a link, and so queues.
 pub const LINKS: usize = 64;
@@ -125,7 +125,7 @@ fn add_line(line: &[u8], n: usize, table: &mut [u32]) -> Result<usize, Fault>
     requires { Linked n table.old }
     ensures { LineAdded n table.old table.new line.now result }
 {
-    let row = read_row(line).ok_or(Fault::Malformed)?;
+    let row = Row::read(line).ok_or(Fault::Malformed)?;
     Links { count: n, table }.judge(row)?;
     store_row(row, table);
     Ok(row.link as usize)

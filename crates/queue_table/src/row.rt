@@ -1,14 +1,13 @@
 // One table line: its numbers, and what is against it after the links before (document 01, codes 1 to 4).
-ghost use Rattle.std.specs.Prelude.{◌≡◌, ◌&&◌, ◌+◌, ◌≤◌, ◌<◌, List, length};
+ghost use Rattle.std.specs.Prelude.{◌≡◌, ◌+◌, ◌≤◌, ◌<◌, List, length};
 ghost use Rattle.columns.specs.View.{value_of};
 ghost use Rattle.model.specs.Sizes.{links_most};
 ghost use Rattle.model.specs.QueueTable.{Link, is_row_length, later_field, row, best_effort_in_range, row_in_range, begins, continues, row_in_turn, same_link, row_agrees, row_cause};
 ghost use Rattle.queue_table.specs.View.{table_numbers, row_of, numbers_of, links_of, code_of};
 
-use std::marker::Model;
-
 use crate::access::link_at;
 use crate::{BASE_COLUMNS, BEST_EFFORT_COLUMNS, DELAY_COLUMNS, Fault, LEVELS, LINKS};
+use std::marker::Model;
 
 // The numbers of one table line.
 #[derive(Clone, Copy)]
@@ -44,26 +43,6 @@ fn later_field(line: &[u8], first: usize, last: usize) -> Option<u32>
     columns::read_at(line, first, last)
 }
 
-#[tactic(auto, unfolding(model::specs::QueueTable::row, model::specs::QueueTable::row_fields))]
-pub(crate) fn read_row(line: &[u8]) -> Option<Row>
-    ensures { row_of result ≡ row line.now }
-{
-    if !is_row_length(line.len()) {
-        return None;
-    }
-    Some(Row {
-        link: columns::read_at(line, 1, 4)?,
-        from: columns::read_at(line, 5, 8)?,
-        to: columns::read_at(line, 9, 12)?,
-        speed: columns::read_at(line, 13, 18)?,
-        level: columns::read_at(line, 19, 20)?,
-        threshold: columns::read_at(line, 21, 27)?,
-        buffer: columns::read_at(line, 28, 36)?,
-        fixed: later_field(line, 37, 43)?,
-        besteffort: later_field(line, 44, 48)?,
-    })
-}
-
 // A best-effort frame: none, or as long as a frame is.
 #[tactic(auto, unfolding(model::specs::QueueTable::best_effort_in_range))]
 fn best_effort_in_range(bytes: u32) -> bool
@@ -72,18 +51,41 @@ fn best_effort_in_range(bytes: u32) -> bool
     bytes == 0 || columns::within(84, 1542, u64::from(bytes))
 }
 
-// 2: each number is in its range.
-#[tactic(auto, unfolding(model::specs::QueueTable::row_in_range))]
-pub(crate) fn in_range(r: Row) -> bool
-    ensures { result ≡ row_in_range (numbers_of r) }
-{
-    columns::within(1, 9999, u64::from(r.from))
-        && columns::within(1, 9999, u64::from(r.to))
-        && columns::within(1, 10_000, u64::from(r.speed))
-        && columns::within(1, 100_000, u64::from(r.threshold))
-        && columns::within(1, 16_777_215, u64::from(r.buffer))
-        && columns::within(0, 10_000, u64::from(r.fixed))
-        && best_effort_in_range(r.besteffort)
+impl Row {
+    // 1: the numbers of a line, none where its columns are wrong.
+    #[tactic(auto, unfolding(model::specs::QueueTable::row, model::specs::QueueTable::row_fields))]
+    pub(crate) fn read(line: &[u8]) -> Option<Self>
+        ensures { row_of result ≡ row line.now }
+    {
+        if !is_row_length(line.len()) {
+            return None;
+        }
+        Some(Row {
+            link: columns::read_at(line, 1, 4)?,
+            from: columns::read_at(line, 5, 8)?,
+            to: columns::read_at(line, 9, 12)?,
+            speed: columns::read_at(line, 13, 18)?,
+            level: columns::read_at(line, 19, 20)?,
+            threshold: columns::read_at(line, 21, 27)?,
+            buffer: columns::read_at(line, 28, 36)?,
+            fixed: later_field(line, 37, 43)?,
+            besteffort: later_field(line, 44, 48)?,
+        })
+    }
+
+    // 2: each number is in its range.
+    #[tactic(auto, unfolding(model::specs::QueueTable::row_in_range))]
+    pub(crate) fn in_range(self) -> bool
+        ensures { result ≡ row_in_range (numbers_of self) }
+    {
+        columns::within(1, 9999, u64::from(self.from))
+            && columns::within(1, 9999, u64::from(self.to))
+            && columns::within(1, 10_000, u64::from(self.speed))
+            && columns::within(1, 100_000, u64::from(self.threshold))
+            && columns::within(1, 16_777_215, u64::from(self.buffer))
+            && columns::within(0, 10_000, u64::from(self.fixed))
+            && best_effort_in_range(self.besteffort)
+    }
 }
 
 // The first `count` links of an array: while a table is read, the links so far.
@@ -160,7 +162,7 @@ impl Links<'_> {
     pub(crate) fn judge(&self, r: Row) -> Result<(), Fault>
         ensures { code_of result ≡ row_cause self.now (numbers_of r) }
     {
-        if !in_range(r) {
+        if !r.in_range() {
             return Err(Fault::OutOfRange);
         }
         if !self.in_turn(r) {

@@ -7,5 +7,5 @@ use Rattle.queue_table.proofs.add_line.Goals as goal
 pub returns : goal.returns
 returns c =
     let args = c.args in
-    let row = sym c.read_row.ensures ∙ ap row_of c.in_ok-row.ensures.ok_part in
+    let row = sym c.read.ensures ∙ ap row_of c.in_ok-row.ensures.ok_part in
     line_added args.n args.table.now args.line.now c.requires c.in_ok-row.row _ c.store_row.ensures row c.in_ok-judge.ensures
