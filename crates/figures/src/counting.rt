@@ -16,10 +16,10 @@ fn add_hop(e: usize, share: Aggregate, figures: &mut [u64])
     requires limited_share { LimitedShare (aggregate_of share) }
     ensures { figures.new ≡ figure_stored figures.old e (together (figure_at figures.old e) (aggregate_of share)) }
 {
-    let first = OWN_NUMBERS * e;
-    figures[first] += share.rate.0;
-    figures[first + BURST] += share.burst.0;
-    figures[first + FRAME] = figures[first + FRAME].max(share.frame.0);
+    let at = OWN_NUMBERS * e;
+    figures[at] += share.rate.0;
+    figures[at + BURST] += share.burst.0;
+    figures[at + FRAME] = figures[at + FRAME].max(share.frame.0);
 }
 
 // Counts a flow in at each queue of its path.
