@@ -24,71 +24,63 @@ use Rattle.model.specs.Reference.{Cause, cause_at, link_findings, first_cause}
 use Rattle.model.proofs.Laws.Aggregates.{growth_sum}
 use Rattle.model.proofs.Laws.All.{all-imp, map-all, all_get_d}
 use Rattle.model.proofs.Laws.Figures.{Crossed, crossed}
-use Rattle.queue_table.specs.View.{link_in, level_in, queue_at, table_of, hop_at, is_queue, WellFormed}
+use Rattle.queue_table.specs.View.{link_in, level_in, queue_at, table_of, hop_at, is_queue}
 use Rattle.queue_table.proofs.EntryLaws.{queue-named}
 use Rattle.link_check.proofs.Laws.{mapped_next, mapped_end}
 use Rattle.causes.specs.declared.Cause as code
-use Rattle.causes.specs.View.{cause_of, finding_of}
-use Rattle.figures.specs.View.{growth_at, levels_with, counted_at, changed_at, RoomAt, Figures, FlowOf, OnTable, cause_with, PathChecked, ChangeChecked}
+use Rattle.causes.specs.View.{cause_of}
+use Rattle.figures.specs.View.{growth_at, counted_at, changed_at, RoomAt, Figures, FlowOf, OnTable, cause_with, PathChecked, ChangeChecked}
 use Rattle.figures.proofs.EntryLaws.{growth-named}
-use Rattle.figures.proofs.LinkLaws.{eight_of, hop-cause, own-level, levels-counted, levels-changed}
-
--- The levels of each link on the path, with the figures `own` at the path's queue, are those of the flows. `own` takes the queue and S over the hops before.
-pub record Met (own : (e sum : ℕ) → Aggregate) (table figures entries : List ℕ) (gs : List Flow) : Type 0 where
-  pub well : WellFormed table
-  pub path : OnTable table entries
-  pub on : All (λ g. All (Named (table_of table)) g.path) gs
-  pub levels : (i : ℕ) → i < length entries → let e : ℕ = get_or entries i 0 in
-      eight_of table gs (link_in e) ≡ levels_with figures e (own e (growth_sum (table_of table) (map hop_at (take i entries))))
-
--- The first of 21 to 23 along the path with those flows.
-abbrev Answered : (own : (e sum : ℕ) → Aggregate) (table figures entries : List ℕ) (r : Result (Unit {0}) code.Cause) → Type 0
-Answered own table figures entries r =
-    (gs : List Flow) → Met own table figures entries gs → finding_of r ≡ first_cause (link_findings (table_of table) gs (map hop_at entries))
+use Rattle.units.specs.declared.Aggregate as units
+use Rattle.units.specs.declared.Micros.{Micros}
+use Rattle.units.specs.View.{aggregate_of}
+use Rattle.figures.specs.Checks.{SumAt, Met, Answered}
+use Rattle.figures.proofs.LinkLaws.{hop-cause, own-level, levels-counted, levels-changed}
 
 -- The links before hop `i` pass, and `sum` is S over the hops before it.
-pub record Checking (own : (e sum : ℕ) → Aggregate) (table figures entries : List ℕ) (sum i : ℕ) : Type 0 where
+pub record Checking (gives : ℕ → Micros → units.Aggregate → Type 0) (table figures entries : List ℕ) (sum i : ℕ) : Type 0 where
   pub sum_below : sum ≤ i * 100000
   pub sum_is : OnTable table entries → sum ≡ growth_sum (table_of table) (map hop_at (take i entries))
-  pub left : (gs : List Flow) → Met own table figures entries gs
+  pub left : (gs : List Flow) → Met gives table figures entries gs
       → first_cause (link_findings (table_of table) gs (drop i (map hop_at entries))) ≡ first_cause (link_findings (table_of table) gs (map hop_at entries))
 
 hop-named : {table entries : List ℕ} {i : ℕ} → OnTable table entries → i < length entries → is_queue table (get_or entries i 0) ≡ true
 hop-named {table} {entries} {i} path more = all_get_d (λ e. is_queue table e ≡ true) entries i 0 path.named more
 
-module _ (own : (e sum : ℕ) → Aggregate) (table figures entries : List ℕ) where
+module _ (gives : ℕ → Micros → units.Aggregate → Type 0) (table figures entries : List ℕ) where
   abbrev t : Table
   t = table_of table
 
-  pub checking-none : Checking own table figures entries 0 0
+  pub checking-none : Checking gives table figures entries 0 0
   unfolding growth_sum total
   checking-none = record { sum_below = omega arith; sum_is = λ path. refl; left = λ gs met. refl }
 
-  module _ {sum i : ℕ} (so_far : Checking own table figures entries sum i) where
-    pub checking-all : length entries ≤ i → Answered own table figures entries (Ok tt)
+  module _ {sum i : ℕ} (so_far : Checking gives table figures entries sum i) where
+    pub checking-all : length entries ≤ i → Answered gives table figures entries (Ok tt)
     unfolding link_findings first_cause
     checking-all end gs met = sym (ap (λ l. first_cause (link_findings t gs l)) (mapped_end hop_at entries i end)) ∙ so_far.left gs met
 
     -- What the check of the hop at `i` found, with the figures there.
-    module _ (more : i < length entries) {o : Option Cause} {there : Aggregate} (own_is : there ≡ own (get_or entries i 0) sum)
-        (found : o ≡ cause_with table figures (get_or entries i 0) there) where
+    module _ (more : i < length entries) {o : Option Cause} {there : units.Aggregate} (given : gives (get_or entries i 0) (record { 0 = sum }) there)
+        (found : o ≡ cause_with table figures (get_or entries i 0) (aggregate_of there)) where
       abbrev e : ℕ
       e = get_or entries i 0
 
-      step : (gs : List Flow) → Met own table figures entries gs
+      sum-at : SumAt table entries i sum
+      sum-at = record { inside = more; below = so_far.sum_below; is = so_far.sum_is }
+
+      step : (gs : List Flow) → Met gives table figures entries gs
           → first_cause (o ∷ link_findings t gs (drop (i + 1) (map hop_at entries))) ≡ first_cause (link_findings t gs (map hop_at entries))
       unfolding link_findings
       step gs met =
           let at-hop : cause_at t gs (hop_at e).link (model.link_at t (hop_at e).link) ≡ o
-          = hop-cause table e (hop-named met.path more) figures met.well gs met.on _ (met.levels i more)
-          ∙ ap (λ (s : ℕ). cause_with table figures e (own e s)) (sym (so_far.sum_is met.path))
-          ∙ ap (cause_with table figures e) (sym own_is)
+          = hop-cause table e (hop-named met.path more) figures met.well gs met.on _ (met.levels i (record { 0 = sum }) there sum-at given)
           ∙ sym found in
           ap (λ o. first_cause (o ∷ link_findings t gs (drop (i + 1) (map hop_at entries)))) (sym at-hop)
           ∙ ap (λ l. first_cause (link_findings t gs l)) (sym (mapped_next hop_at entries i 0 more))
           ∙ so_far.left gs met
 
-      pub checking-found : (cause : code.Cause) → some (cause_of cause) ≡ o → Answered own table figures entries (Err cause)
+      pub checking-found : (cause : code.Cause) → some (cause_of cause) ≡ o → Answered gives table figures entries (Err cause)
       unfolding first_cause
       checking-found cause fault gs met = ap (λ o. first_cause (o ∷ link_findings t gs (drop (i + 1) (map hop_at entries)))) fault ∙ step gs met
 
@@ -106,7 +98,7 @@ module _ (own : (e sum : ℕ) → Aggregate) (table figures entries : List ℕ) 
           ))
 
       pub checking-next : none ≡ o → growth_at table e ≤ 100000 → {past : ℕ} → past ≡ sum + growth_at table e
-          → Checking own table figures entries past (i + 1)
+          → Checking gives table figures entries past (i + 1)
       unfolding first_cause
       checking-next fits low past_is =
           rw past_is
@@ -143,10 +135,15 @@ module _ {table entries : List ℕ} (path : OnTable table entries) {share : Aggr
       let own = own-level table e (hop-named path more) figures f fs (hop-crossed i more) low exact in
       rw (sum_is, sym is.is) (omega (arith, ap (λ (a : Aggregate). a.rate) own), omega (arith, ap (λ (a : Aggregate). a.burst) own))
 
-module _ {share : Aggregate} {table figures entries : List ℕ} {r : Result (Unit {0}) code.Cause} where
+-- Whatever the step gives at a hop is `own` of the queue and S there.
+abbrev Gives : (own : (e sum : ℕ) → Aggregate) (gives : ℕ → Micros → units.Aggregate → Type 0) (table entries : List ℕ) → Type 0
+Gives own gives table entries =
+    (i : ℕ) (sum : Micros) (there : units.Aggregate) → SumAt table entries i sum.0 → gives (get_or entries i 0) sum there → aggregate_of there ≡ own (get_or entries i 0) sum.0
+
+module _ {share : Aggregate} (gives : ℕ → Micros → units.Aggregate → Type 0) (table figures entries : List ℕ) {r : Result (Unit {0}) code.Cause} where
   -- With the flow beside those of the figures.
-  pub path-checked : Answered (counted_at share figures) table figures entries r → PathChecked share table figures entries r
-  path-checked answered =
+  pub path-checked : Gives (counted_at share figures) gives table entries → Answered gives table figures entries r → PathChecked share table figures entries r
+  path-checked own answered =
       record {
         first = λ fs f well path is exact on.
             answered (f ∷ fs)
@@ -154,16 +151,17 @@ module _ {share : Aggregate} {table figures entries : List ℕ} {r : Result (Uni
               well = well;
               path = path;
               on = (path-named path is, on);
-              levels = λ i more.
-                  rw (sym is.is)
-                  (levels-counted table (get_or entries i 0) (hop-named path more) figures well fs exact f (hop-crossed path is i more));
+              levels = λ i sum there at given.
+                  rw (own i sum there at given, at.is path, sym is.is)
+                  (levels-counted table (get_or entries i 0) (hop-named path at.inside) figures well fs exact f (hop-crossed path is i at.inside));
             })
             ∙ ap (λ l. first_cause (link_findings (table_of table) (f ∷ fs) l)) (sym is.path-is);
       }
 
   -- With a flow in place of one that the figures hold.
-  pub change-checked : {was : Aggregate} → Answered (changed_at was share figures) table figures entries r → ChangeChecked was share table figures entries r
-  change-checked answered =
+  pub change-checked : {was : Aggregate} → Gives (changed_at was share figures) gives table entries → Answered gives table figures entries r
+      → ChangeChecked was share table figures entries r
+  change-checked own answered =
       record {
         first = λ fs f g well path is is' same exact on.
             answered (g ∷ fs)
@@ -171,11 +169,11 @@ module _ {share : Aggregate} {table figures entries : List ℕ} {r : Result (Uni
               well = well;
               path = path;
               on = (path-named path is', on);
-              levels = λ i more.
-                  rw (sym is.is, sym is'.is)
-                  (levels-changed table (get_or entries i 0) (hop-named path more) figures well fs f exact g
+              levels = λ i sum there at given.
+                  rw (own i sum there at given, at.is path, sym is.is, sym is'.is)
+                  (levels-changed table (get_or entries i 0) (hop-named path at.inside) figures well fs f exact g
                   (ap (λ (a : Aggregate). a.frame) is.is ∙ same ∙ sym (ap (λ (a : Aggregate). a.frame) is'.is))
-                  (hop-crossed path is i more) (hop-crossed path is' i more));
+                  (hop-crossed path is i at.inside) (hop-crossed path is' i at.inside));
             })
             ∙ ap (λ l. first_cause (link_findings (table_of table) (g ∷ fs) l)) (sym is'.path-is);
       }

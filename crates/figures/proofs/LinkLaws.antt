@@ -27,6 +27,7 @@ use Rattle.model.proofs.Laws.Figures.{Crossed, counted, shares-nothing, levels-m
 use Rattle.queue_table.specs.View.{up_to, entry_at, link_in, level_in, link_count, speed_at, best_effort_at, levels_at, queue_at, link_at, table_of, hop_at, is_queue, WellFormed}
 use Rattle.queue_table.proofs.ViewLaws.{length_up, up_same}
 use Rattle.queue_table.proofs.LookupLaws.{link-found, link-missing, queue-no-level}
+use Rattle.figures.specs.Checks.{eight_of}
 use Rattle.figures.specs.View.{figure_at, level_figures, levels_with, counted_at, replaced, changed_at, finding_at, cause_with, code_at, Figures}
 use Rattle.queue_table.proofs.EntryLaws.{queue-within, queue-low}
 use Rattle.figures.proofs.EntryLaws.{entry-hop}
@@ -54,11 +55,7 @@ module _ (table : List ℕ) where
   abbrev t : Table
   t = table_of table
 
-  -- What the flows have at the eight levels of a link, counted from 0.
-  abbrev pub eight_of : (fs : List Flow) (link : ℕ) → List Aggregate
-  eight_of fs i = model.level_aggregates t fs (i + 1) 1 (up_to levels_most (queue_at table i))
-
-  figure-levels : (fs : List Flow) (figures : List ℕ) (i : ℕ) → i < links_most → Figures t fs figures → eight_of fs i ≡ level_figures figures i
+  figure-levels : (fs : List Flow) (figures : List ℕ) (i : ℕ) → i < links_most → Figures t fs figures → eight_of table fs i ≡ level_figures figures i
   unfolding level_figures
   figure-levels fs figures i h exact =
       levels-up t fs (i + 1) levels_most (queue_at table i)
@@ -67,7 +64,7 @@ module _ (table : List ℕ) where
 
   -- Eight levels say what the link's own levels say.
   eight-levels : (fs : List Flow) (i speed best_effort : ℕ) → i < link_count table → levels_at table i ≤ levels_most → All (λ g. All (Named t) g.path) fs
-      → link_finding speed best_effort (up_to levels_most (queue_at table i)) (eight_of fs i)
+      → link_finding speed best_effort (up_to levels_most (queue_at table i)) (eight_of table fs i)
       ≡ link_finding speed best_effort (up_to (levels_at table i) (queue_at table i)) (model.level_aggregates t fs (i + 1) 1 (up_to (levels_at table i) (queue_at table i)))
   eight-levels fs i speed best_effort h shallow on =
       let m : ℕ = levels_at table i in
@@ -91,7 +88,7 @@ module _ (table : List ℕ) where
     i = link_in e
 
     -- The finding there, where the levels with the figures `own` at the queue are those of the flows.
-    pub hop-cause : WellFormed table → (fs : List Flow) → All (λ g. All (Named t) g.path) fs → (own : Aggregate) → eight_of fs i ≡ levels_with figures e own
+    pub hop-cause : WellFormed table → (fs : List Flow) → All (λ g. All (Named t) g.path) fs → (own : Aggregate) → eight_of table fs i ≡ levels_with figures e own
         → cause_at t fs (hop_at e).link (model.link_at t (hop_at e).link) ≡ cause_with table figures e own
     unfolding cause_at link_at hop_at
     hop-cause well fs on own levels =
@@ -107,7 +104,7 @@ module _ (table : List ℕ) where
       abbrev with_flow : Aggregate
       with_flow = together (model.aggregate_at t fs (hop_at e)) (model.grown (model.source f) (growth_sum t before))
 
-      one-level : eight_of (f ∷ fs) i ≡ set (eight_of fs i) (level_in e) with_flow
+      one-level : eight_of table (f ∷ fs) i ≡ set (eight_of table fs i) (level_in e) with_flow
       unfolding counted hop_at
       one-level = levels-more t f fs c 1 (level_in e) (up_to levels_most (queue_at table i)) (omega arith)
 
@@ -122,7 +119,7 @@ module _ (table : List ℕ) where
     module _ (well : WellFormed table) (fs : List Flow) {before after : List Hop} where
       -- A flow more.
       pub levels-counted : Figures t fs figures → (f : Flow) → Crossed f.path before (hop_at e) after
-          → eight_of (f ∷ fs) i ≡ levels_with figures e (counted_at (model.source f) figures e (growth_sum t before))
+          → eight_of table (f ∷ fs) i ≡ levels_with figures e (counted_at (model.source f) figures e (growth_sum t before))
       unfolding levels_with
       levels-counted exact f c =
           one-level f fs c
@@ -132,7 +129,7 @@ module _ (table : List ℕ) where
       pub levels-changed : (f : Flow) → Figures t (f ∷ fs) figures → (g : Flow) → f.frame ≡ g.frame
           → Crossed f.path before (hop_at e) after
           → Crossed g.path before (hop_at e) after
-          → eight_of (g ∷ fs) i ≡ levels_with figures e (changed_at (model.source f) (model.source g) figures e (growth_sum t before))
+          → eight_of table (g ∷ fs) i ≡ levels_with figures e (changed_at (model.source f) (model.source g) figures e (growth_sum t before))
       unfolding levels_with
       levels-changed f exact g same c d =
           let was : Aggregate = model.grown (model.source f) (growth_sum t before) in
@@ -144,7 +141,7 @@ module _ (table : List ℕ) where
           ∙ shares-nothing (hop_at e) (together others (kept_frame was share))
           ∙ ap (together others) (kept_same was share same) in
           one-level g fs d
-          ∙ sym (set-set (eight_of fs i) (level_in e) (with_flow f fs c) (with_flow g fs d))
+          ∙ sym (set-set (eight_of table fs i) (level_in e) (with_flow f fs c) (with_flow g fs d))
           ∙ ap₂ (λ (l : List Aggregate) (a : Aggregate). set l (level_in e) a) (sym (one-level f fs c) ∙ figure-levels (f ∷ fs) figures i (few well) exact) (sym own)
 
   -- The finding at a link as the flows are.

@@ -1,6 +1,6 @@
 // The check of links (document 01, codes 21 to 23): those of a path with its flow counted in or by another share, and all of
 // a table with the figures as they are.
-ghost use Rattle.std.specs.Prelude.{◌≡◌, ◌+◌, ◌≤◌, ◌<◌, length, eqb};
+ghost use Rattle.std.specs.Prelude.{◌≡◌, ℕ, ◌+◌, ◌≤◌, ◌<◌, length, get_or, eqb};
 ghost use Rattle.model.specs.Words.{All};
 ghost use Rattle.model.specs.Sizes.{links_most, levels_most, queues_most};
 ghost use Rattle.model.specs.Reference.{link_cause};
@@ -9,6 +9,7 @@ ghost use Rattle.queue_table.specs.View.{up_to, table_numbers, link_in, speed_at
 ghost use Rattle.causes.specs.View.{finding_of};
 ghost use Rattle.link_check.specs.View.{aggregates_of, queues_of, Narrow};
 ghost use Rattle.figures.specs.View.{Summable, LimitedLevel, Hops, Limited, Speeds, OnTable, PathCounted, finding_at, cause_with, PathChecked, ChangeChecked, code_at, LinkSpeeds, LinksMet};
+ghost use Rattle.figures.specs.Checks.{SumAt, Answered};
 
 use crate::link_levels;
 use crate::shares::{changed_at, counted_at, sum_past};
@@ -64,9 +65,31 @@ fn check_hop(e: usize, own: Aggregate, table: &[u32], figures: &[u64]) -> Result
     find_on(link, levels, table)
 }
 
-// The links of a path one by one, with the flow counted in at its level and with its share there: 21 for the link, then
-// level by level 22 before 23. The answer is free where the path meets a link twice or leaves the table, or where the
-// figures are no flows' on the table.
+// The links of a path one by one, each with the figures that `own_at` gives for the path's queue, with S over the hops before:
+// 21 for the link, then level by level 22 before 23.
+fn check_path<F: Fn(usize, Micros) -> Aggregate>(
+    own_at: F,
+    table: &[u32],
+    figures: &[u64],
+    entries: &[u32],
+) -> Result<(), Cause>
+    requires hops { Hops table.now entries.now }
+    requires speeds { Speeds table.now entries.now × Limited figures.now }
+    requires callable { (i : ℕ) (sum : Micros) → SumAt table.now entries.now i sum.0 → F.pre own_at (get_or entries.now i 0) sum }
+    requires limited { (i : ℕ) (sum : Micros) (own : Aggregate) → SumAt table.now entries.now i sum.0 → F.post own_at (get_or entries.now i 0) sum own → LimitedLevel (aggregate_of own) }
+    ensures { Answered (F.post own_at) table.now figures.now entries.now result }
+{
+    let mut sum = Micros(0);
+    for &entry in entries {
+        let e = entry as usize;
+        check_hop(e, own_at(e, sum), table, figures)?;
+        sum = sum_past(sum, e, table);
+    }
+    Ok(())
+}
+
+// The links of a path with the flow counted in at its levels, with its share at each. The answer is free where the path
+// meets a link twice or leaves the table, or where the figures are no flows' on the table.
 pub fn check_links(
     share: Aggregate,
     table: &[u32],
@@ -78,13 +101,12 @@ pub fn check_links(
     requires speeds { Speeds table.now entries.now × Limited figures.now }
     ensures { PathChecked (aggregate_of share) table.now figures.now entries.now result }
 {
-    let mut sum = Micros(0);
-    for &entry in entries {
-        let e = entry as usize;
-        check_hop(e, counted_at(share, sum, e, figures), table, figures)?;
-        sum = sum_past(sum, e, table);
-    }
-    Ok(())
+    check_path(
+        |e, sum| counted_at(share, sum, e, figures),
+        table,
+        figures,
+        entries,
+    )
 }
 
 // The same with a flow that the figures hold: it is counted by `share` in place of `was`, whose largest frame it keeps.
@@ -101,13 +123,12 @@ pub fn check_change(
     requires on_table { OnTable table.now entries.now × PathCounted (aggregate_of was) table.now entries.now figures.now }
     ensures { ChangeChecked (aggregate_of was) (aggregate_of share) table.now figures.now entries.now result }
 {
-    let mut sum = Micros(0);
-    for &entry in entries {
-        let e = entry as usize;
-        check_hop(e, changed_at(was, share, sum, e, figures), table, figures)?;
-        sum = sum_past(sum, e, table);
-    }
-    Ok(())
+    check_path(
+        |e, sum| changed_at(was, share, sum, e, figures),
+        table,
+        figures,
+        entries,
+    )
 }
 
 // Whether a link, counted from 0, meets 21 to 23 with these figures.

@@ -1,31 +1,20 @@
--- `figures::checking::check_links` meets its contract. The invariant: what the hops left say is what the whole path says.
-use mathlib.Core.Path.{refl, sym, subst}
-use Rattle.std.proofs.lemmas.Result.{err_from_is_err_and}
-use Rattle.figures.specs.View.{LimitedLevel}
+-- `figures::checking::check_links` meets its contract: at each hop the figures are those with the flow counted in there.
+use borrow.Author.Rules.{rules}
+use mathlib.Core.Path.{◌≡◌, sym, subst}
+use lib.ListN.{get_or}
+use Rattle.units.specs.View.{aggregate_of}
+use Rattle.figures.specs.View.{LimitedLevel, counted_at}
 use Rattle.figures.proofs.EntryLaws.{hop-at, share-limited}
 use Rattle.figures.proofs.FigureLaws.{at_most}
 use Rattle.figures.proofs.SizeLaws.{level-limited}
-use Rattle.figures.proofs.CheckLaws.{checking-none, checking-found, checking-next, checking-all, path-checked}
+use Rattle.figures.proofs.CheckLaws.{path-checked}
 use Rattle.figures.proofs.checking.check_links.Goals as goal
 
-pub loop-entry-init : goal.loop-entry-init
-loop-entry-init c = checking-none _ _ _ _
-
-pub check_hop-requires-clause-limited_level : goal.check_hop-requires-clause-limited_level
-check_hop-requires-clause-limited_level c =
-    let hop = hop-at c.requires.hops c.loop-entry.invariant.sum_below c.loop-entry-test.true in
-    subst LimitedLevel (sym c.counted_at.ensures) (level-limited _ c.requires.speeds.1 _ hop.0 (share-limited c.requires.at_source hop.2) (at_most _))
-
-pub returns-in_err-check_hop : goal.returns-in_err-check_hop
-returns-in_err-check_hop c =
-    let cause = err_from_is_err_and c.from_residual.result c.from_residual.ensures.1 in
-    rw (cause.1, cause.2)
-    (path-checked (checking-found _ _ _ _ c.loop-entry.invariant c.loop-entry-test.true c.counted_at.ensures c.in_err-check_hop.ensures c.in_err-check_hop.field-0.0 refl))
-
-pub loop-entry-preserved : goal.loop-entry-preserved
-loop-entry-preserved c =
-    let hop = hop-at c.requires.hops c.loop-entry.invariant.sum_below c.loop-entry-test.true in
-    checking-next _ _ _ _ c.loop-entry.invariant c.loop-entry-test.true c.counted_at.ensures c.in_ok-check_hop.ensures refl hop.1 c.sum_past-sum.ensures
+pub check_path-requires-clause-limited : goal.check_path-requires-clause-limited
+check_path-requires-clause-limited c = λ i sum own at given.
+    let hop = hop-at c.requires.hops at.below at.inside in
+    let counted : aggregate_of own ≡ counted_at (aggregate_of c.args.share) c.args.figures.now (get_or c.args.entries.now i 0) sum.0 = search rules in
+    subst LimitedLevel (sym counted) (level-limited _ c.requires.speeds.1 _ hop.0 (share-limited c.requires.at_source hop.2) (at_most _))
 
 pub returns : goal.returns
-returns c = path-checked (checking-all _ _ _ _ c.loop-entry.invariant c.loop-entry-test.false)
+returns c = path-checked _ _ _ _ (λ i sum own at given. search rules) c.check_path.ensures
