@@ -9,6 +9,7 @@ use native.Mathlib.Numerals.{add-one}
 use lib.ListN.{length, get_or, take, drop, set, length-append, length-drop, length-map, drop_of_length-le}
 use lib.Seq.{take_at, drop-cons, drop-append-add, drop-drop}
 use lib.Dec.{ltb}
+use Rattle.std.specs.Prelude.{Result}
 use borrow.Author.Tests.{ltb-false}
 use borrow.Rule.Slice.PartMut.{put_mid}
 use Rattle.model.specs.Words.{joined}
@@ -26,8 +27,8 @@ use Rattle.queue_table.specs.View.{hop_at}
 use Rattle.flow_store.specs.View.{hops_at, head_at, flow_at, flow_in, slot_of, slots_of, entries_in, Readable}
 use Rattle.flow_store.specs.Laws.{slot_at, held-slot}
 use Rattle.flow_store.proofs.ViewLaws.{entries-long}
-use Rattle.order_text.specs.declared.Written.{Written}
-use Rattle.order_text.specs.View.{slot_text, text_in, WritesArrays, consistent, inconsistent}
+use Rattle.causes.specs.declared.Cause.{Cause}
+use Rattle.order_text.specs.View.{slot_text, text_in, bytes_of, WritesArrays, consistent, inconsistent}
 
 module _ {A : Type 0} (text : A → List ℕ) where
   -- What is left before an element, and past the last.
@@ -164,7 +165,7 @@ writing-within text area = go (ltb (length area) (length text)) refl
     go true e = omega arith
     go false e = ltb-false _ _ e
 
-pub bytes-within : {table bits store figures area area' : List ℕ} {r : Written} → WritesArrays table bits store figures area area' r → r.bytes ≤ length area
+pub bytes-within : {table bits store figures area area' : List ℕ} {r : Result ℕ Cause} → WritesArrays table bits store figures area area' r → bytes_of r ≤ length area
 unfolding refused_writing
 bytes-within {bits = bits} {store} {area = area} (consistent kept e) =
     omega (arith, ap (λ (m : Writing). m.bytes) e, writing-within (text_in bits store) area)

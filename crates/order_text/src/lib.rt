@@ -5,15 +5,14 @@ ghost use Rattle.std.specs.Prelude.{◌≡◌, List, ◌++◌, map, ℕ, ◌+◌
 ghost use Rattle.model.specs.Words.{joined};
 ghost use Rattle.model.specs.Sizes.{head_columns, hop_columns, slot_count};
 ghost use Rattle.model.specs.Orders.{flow_of};
-ghost use Rattle.model.specs.Handover.{head_text, hop_text, flow_line, refused_writing};
-ghost use Rattle.causes.specs.View.{cause_of};
+ghost use Rattle.model.specs.Handover.{head_text, hop_text, flow_line};
 ghost use Rattle.queue_table.specs.View.{hop_at};
 ghost use Rattle.orders.specs.View.{fields_of};
 ghost use Rattle.flow_store.specs.View.{Readable};
 ghost use Rattle.registry.specs.View.{Sized};
-ghost use Rattle.order_text.specs.View.{line_at, text_in, written_of, WritesArrays, Writes};
+ghost use Rattle.order_text.specs.View.{line_at, text_in, WritesArrays, Writes};
 
-use causes::{Cause, Finding};
+use causes::Cause;
 use columns::LF;
 use flow_store::{POOL, SLOTS};
 use orders::{Flow, HEAD_COLUMNS, HOP_COLUMNS, Kind};
@@ -22,31 +21,18 @@ use registry::Registry;
 // An area of so many bytes is always long enough: a line for each slot with its LF, and the columns of all hop entries.
 pub const TEXT: usize = SLOTS * (HEAD_COLUMNS + 1) + HOP_COLUMNS * POOL;
 
-// What a writer of texts says: a cause where it refused, and how many bytes of the area it filled, 0 where it refused.
-#[derive(Clone, Copy)]
-pub struct Written {
-    pub finding: Finding,
-    pub bytes: usize,
-}
-
 // The columns of a registration before its hops, at the front of `part`.
 fn write_head(flow: Flow, part: &mut [u8])
     requires { head_columns ≤ length part.old }
     ensures { part.new ≡ head_text (fields_of flow) ++ drop head_columns part.old }
 {
-    let share = flow.share;
-    columns::write_at(
-        part,
-        1,
-        2,
-        columns::wide(orders::kind_number(Kind::Register)),
-    );
-    columns::write_at(part, 3, 8, columns::wide(flow.number));
-    columns::write_at(part, 9, 17, share.rate.0);
-    columns::write_at(part, 18, 25, share.burst.0);
-    columns::write_at(part, 26, 30, share.frame.0);
+    columns::write_at(part, 1, 2, u64::from(u32::from(Kind::Register)));
+    columns::write_at(part, 3, 8, u64::from(flow.number));
+    columns::write_at(part, 9, 17, flow.share.rate.0);
+    columns::write_at(part, 18, 25, flow.share.burst.0);
+    columns::write_at(part, 26, 30, flow.share.frame.0);
     columns::write_at(part, 31, 38, flow.deadline.0);
-    columns::write_at(part, 39, 41, columns::wide(flow.hops));
+    columns::write_at(part, 39, 41, u64::from(flow.hops));
 }
 
 // The columns of the hop that an entry names, at the front of `part`.
@@ -55,8 +41,8 @@ fn write_hop(entry: u32, part: &mut [u8])
     ensures { part.new ≡ hop_text (hop_at entry) ++ drop hop_columns part.old }
 {
     let hop = queue_table::hop_at(entry);
-    columns::write_at(part, 1, 4, columns::wide(hop.link));
-    columns::write_at(part, 5, 6, columns::wide(hop.level));
+    columns::write_at(part, 1, 4, u64::from(hop.link));
+    columns::write_at(part, 5, 6, u64::from(hop.level));
 }
 
 // Hop after hop.
@@ -65,11 +51,9 @@ fn write_path(entries: &[u32], part: &mut [u8])
     ensures { part.new ≡ joined hop_text (map hop_at entries.now) ++ drop (hop_columns * length entries.now) part.old }
 {
     let mut at = 0;
-    let mut k = 0;
-    while k < entries.len() {
-        write_hop(entries[k], &mut part[at..]);
+    for entry in entries {
+        write_hop(*entry, &mut part[at..]);
         at += HOP_COLUMNS;
-        k += 1;
     }
 }
 
@@ -105,10 +89,8 @@ fn text_bytes(bits: &[u64], store: &[u32]) -> usize
     ensures { result ≡ length (text_in bits.now store.now) }
 {
     let mut bytes = 0;
-    let mut slot = 0;
-    while slot < SLOTS {
+    for slot in 0..SLOTS {
         bytes += slot_bytes(slot, bits, store);
-        slot += 1;
     }
     bytes
 }
@@ -132,55 +114,43 @@ fn write_slots(bits: &[u64], store: &[u32], area: &mut [u8])
     ensures { area.new ≡ text_in bits.now store.now ++ drop (length (text_in bits.now store.now)) area.old }
 {
     let mut at = 0;
-    let mut slot = 0;
-    while slot < SLOTS {
+    for slot in 0..SLOTS {
         at += write_slot(slot, bits, store, &mut area[at..]);
-        slot += 1;
     }
 }
 
-// Nothing written.
-fn refused(cause: Cause) -> Written
-    ensures { (area : List ℕ) → written_of result area ≡ refused_writing (cause_of cause).code area }
-{
-    Written {
-        finding: Finding::Against(cause),
-        bytes: 0,
-    }
-}
-
-// The text of arrays of any content: 42, then 43.
+// The text of arrays of any content: how many bytes it has; 42, then 43.
 fn write_arrays(
     table: &[u32],
     bits: &[u64],
     store: &[u32],
     figures: &[u64],
     area: &mut [u8],
-) -> Written
+) -> Result<usize, Cause>
     requires { Sized table.now bits.now store.now figures.now }
     ensures { WritesArrays table.now bits.now store.now figures.now area.old area.new result }
 {
     if !registry::is_consistent(table, bits, store, figures) {
-        return refused(Cause::Inconsistent);
+        return Err(Cause::Inconsistent);
     }
     let bytes = text_bytes(bits, store);
     if area.len() < bytes {
-        return refused(Cause::AreaTooShort);
+        return Err(Cause::AreaTooShort);
     }
     write_slots(bits, store, area);
-    Written {
-        finding: Finding::Nothing,
-        bytes,
-    }
+    Ok(bytes)
 }
 
-// Writes the held flows of any registry whatever to the front of the area. The registry is only read.
-pub fn write(registry: Registry, area: &mut [u8]) -> Written
+// Writes the held flows of any registry whatever to the front of the area: how many bytes it filled, or why it wrote nothing.
+// The registry is only read.
+pub fn write(registry: Registry, area: &mut [u8]) -> Result<usize, Cause>
     ensures { Writes registry area.old area.new result }
 {
-    let table = registry.table;
-    let bits = registry.bits;
-    let store = registry.store;
-    let figures = registry.figures;
-    write_arrays(&table, &bits, &store, &figures, area)
+    write_arrays(
+        &registry.table,
+        &registry.bits,
+        &registry.store,
+        &registry.figures,
+        area,
+    )
 }

@@ -11,21 +11,11 @@ use Rattle.order_text.specs.View.{slot_text}
 use Rattle.order_text.proofs.TextLaws.{joined-next, joined-past, slots-text}
 use Rattle.order_text.proofs.text_bytes.Goals as goal
 
-pub loop-slot-init : goal.loop-slot-init
-loop-slot-init c = record { within = omega arith; small = omega arith; counted = omega arith }
-
-pub slot_bytes-bytes-requires : goal.slot_bytes-bytes-requires
-slot_bytes-bytes-requires c = (c.requires, c.loop-slot-test.true)
-
-pub overflow_add-bytes : goal.overflow_add-bytes
-overflow_add-bytes c = omega (arith, c.loop-slot.invariant.small, c.loop-slot-test.true, c.slot_bytes-bytes.ensures.upper_bound)
-
 pub loop-slot-preserved : goal.loop-slot-preserved
 loop-slot-preserved c =
     let now = c.loop-slot in
     let args = c.args in
     record {
-      within = omega (arith, c.loop-slot-test.true);
       small = omega (arith, now.invariant.small, c.slot_bytes-bytes.ensures.upper_bound);
       counted =
           let all = slots_of args.bits.now args.store.now in

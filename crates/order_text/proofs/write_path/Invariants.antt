@@ -1,5 +1,5 @@
 -- `order_text::write_path` meets its contract: what is left of the path goes to `at`, hop by hop.
-use Prim.Native.Nat.{ℕ, ◌-◌}
+use Prim.Native.Nat.{ℕ}
 use mathlib.Core.List.{List, ◌++◌}
 use lib.ListN.{length, drop}
 use Rattle.model.specs.Words.{joined}
@@ -12,8 +12,5 @@ use Rattle.order_text.proofs.write_path.Given as goal
 abbrev pub entry_text : ℕ → List ℕ
 entry_text e = hop_text (hop_at e)
 
-abbrev pub invariant-loop-k : goal.invariant-loop-k
-invariant-loop-k l = Filling (joined entry_text l.entries ++ drop (length (joined entry_text l.entries)) l.initial.part) (joined entry_text (drop l.k l.entries)) l.part (length l.initial.part) l.at
-
-abbrev pub decreases-loop-k : goal.decreases-loop-k
-decreases-loop-k l = length l.entries - l.k
+abbrev pub invariant-loop-entry : goal.invariant-loop-entry
+invariant-loop-entry l = Filling (joined entry_text l.entries ++ drop (length (joined entry_text l.entries)) l.initial.part) (joined entry_text (drop l.entry-index l.entries)) l.part (length l.initial.part) l.at

@@ -1,9 +1,7 @@
 -- `order_text::write_slots` meets its contract: the lines of the slots that are left go to `at`, slot by slot.
-use Prim.Native.Nat.{◌-◌}
 use mathlib.Core.List.{◌++◌}
 use lib.ListN.{length, drop}
 use Rattle.model.specs.Words.{joined}
-use Rattle.model.specs.Sizes.{slot_count}
 use Rattle.flow_store.specs.View.{slots_of}
 use Rattle.columns.proofs.PartLaws.{Filling}
 use Rattle.order_text.specs.View.{slot_text}
@@ -13,6 +11,3 @@ abbrev pub invariant-loop-slot : goal.invariant-loop-slot
 invariant-loop-slot l =
     let all = slots_of l.bits l.store in
     Filling (joined slot_text all ++ drop (length (joined slot_text all)) l.initial.area) (joined slot_text (drop l.slot all)) l.area (length l.initial.area) l.at
-
-abbrev pub decreases-loop-slot : goal.decreases-loop-slot
-decreases-loop-slot l = slot_count - l.slot
