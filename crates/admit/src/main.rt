@@ -4,8 +4,9 @@
 // what went wrong with a file, the batch or the output.
 #![tactic(auto)]
 
-use batch::{ANSWER_BYTES, ORDER_BYTES, ORDER_LINES};
-use queue_table::TABLE_BYTES;
+use batch::{ANSWER_BYTES, BatchResult, ORDER_BYTES, ORDER_LINES, Refusal};
+use queue_table::{Fault, TABLE_BYTES};
+use std::io;
 
 const TABLE: usize = TABLE_BYTES + 1;
 
@@ -14,59 +15,47 @@ const ORDERS: usize = ORDER_BYTES + 1;
 // Room for as many answers as a batch can have.
 const ANSWERS: usize = ANSWER_BYTES * ORDER_LINES;
 
+fn words(refusal: Refusal) -> &'static str {
+    match refusal {
+        Refusal::Table(of_table) => match of_table.fault {
+            Fault::Malformed => "its columns are wrong, or the last line has no LF",
+            Fault::OutOfRange => "a number is out of range",
+            Fault::OutOfTurn => "link or level is out of turn",
+            Fault::Disagrees => {
+                "from equals to, or from, to, speed, fixed delay or best-effort frame differ within the link"
+            }
+            Fault::TooLong => "the table is too long",
+        },
+        // The answer area is always long enough.
+        Refusal::OrdersTooLong | Refusal::AreaTooShort => "the orders are too long, or too many",
+    }
+}
+
 // What standard error doesn't take is lost.
-fn tell(err: &impl Print, words: &[u8]) {
-    let _ = err.write_all(words);
+fn tell_refusal(err: &impl Print, refusal: Refusal, line: u32) {
+    let words = words(refusal);
+    let _ = match line {
+        0 => println!(err; "admit: refused: {words}"),
+        _ => println!(err; "admit: refused: table.txt, line {line}: {words}"),
+    };
 }
 
-fn print(rt: &impl Print, err: &impl Print, text: &[u8]) {
-    if rt.write_all(text).is_err() {
-        tell(err, b"admit: the output can't be written\n");
+fn tell_unwritten(err: &impl Print, printed: io::Result<()>) {
+    if printed.is_err() {
+        let _ = println!(err; "admit: the output can't be written");
     }
-}
-
-// What a batch can be refused for here: the answer area is always long enough.
-fn tell_cause(err: &impl Print, code: u32) {
-    match code {
-        1 => tell(err, b"its columns are wrong, or the last line has no LF\n"),
-        2 => tell(err, b"a number is out of range\n"),
-        3 => tell(err, b"link or level is out of turn\n"),
-        4 => tell(
-            err,
-            b"from equals to, or from, to, speed, fixed delay or best-effort frame differ within the link\n",
-        ),
-        5 => tell(err, b"the table is too long\n"),
-        _ => tell(err, b"the orders are too long, or too many\n"),
-    }
-}
-
-fn tell_refusal(err: &impl Print, code: u32, line: u32) {
-    tell(err, b"admit: refused: ");
-    if line != 0 {
-        tell(err, b"table.txt, line ");
-        let _ = err.print(line);
-        tell(err, b": ");
-    }
-    tell_cause(err, code);
-}
-
-fn print_refusal(rt: &impl Print, err: &impl Print, code: u32, line: u32) {
-    let mut out = *b"         \n";
-    columns::write_at(&mut out, 1, 3, columns::wide(code));
-    columns::write_at(&mut out, 4, 9, columns::wide(line));
-    print(rt, err, &out);
-    tell_refusal(err, code, line);
 }
 
 fn run(rt: &impl Print, err: &impl Print, table: &[u8], orders: &[u8]) {
     let mut answers = [0u8; ANSWERS];
-    let result = batch::devvonur_batch(table, orders, &mut answers);
-    let code = result.code;
-    let line = result.line;
-    if code != 0 {
-        return print_refusal(rt, err, code, line);
+    match batch::answer(table, orders, &mut answers) {
+        Ok(count) => tell_unwritten(err, rt.write_all(&answers[..ANSWER_BYTES * count as usize])),
+        Err(refusal) => {
+            let BatchResult { code, line } = BatchResult::from(refusal);
+            tell_unwritten(err, println!(rt; "{code:3}{line:6}"));
+            tell_refusal(err, refusal, line);
+        }
     }
-    print(rt, err, &answers[..ANSWER_BYTES * line as usize]);
 }
 
 fn main(rt: HostRuntime) {

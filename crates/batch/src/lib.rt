@@ -4,7 +4,8 @@
 // consistent and 42 isn't looked for.
 #![tactic(auto)]
 
-ghost use Rattle.std.specs.Prelude.{◌≡◌, List, ℕ, ◌≤◌, ◌<◌, length, count_by};
+ghost use Rattle.std.specs.Prelude.{◌≡◌, List, ℕ, ◌≤◌, ◌<◌, length, count_by, IfOk};
+ghost use Rattle.model.specs.Sizes.{order_lines};
 ghost use Rattle.model.specs.Columns.{lines};
 ghost use Rattle.model.specs.Batch.{batch};
 ghost use Rattle.admission.specs.View.{ConsistentArrays};
@@ -174,7 +175,8 @@ fn run(orders: &[u8], table: &[u32], answers: &mut [u8])
 // 41, then 40, then the orders, on a table that was accepted: how many were answered.
 fn judge_orders(orders: &[u8], table: &[u32], answers: &mut [u8]) -> Result<u32, Refusal>
     requires { ConsistentArrays table.now no_bits no_flows no_figures }
-    ensures { OrdersDone table.now orders.now answers.old answers.new result }
+    ensures done { OrdersDone table.now orders.now answers.old answers.new result }
+    ensures few { IfOk result (λ count. count ≤ order_lines) }
 {
     if ORDER_BYTES < orders.len() {
         return Err(Refusal::OrdersTooLong);
@@ -193,7 +195,8 @@ fn judge_orders(orders: &[u8], table: &[u32], answers: &mut [u8]) -> Result<u32,
 // A batch over byte areas: how many order lines were answered, in 20 bytes each, the rest of the area left as it was. Refused, it
 // writes nothing.
 pub fn answer(table: &[u8], orders: &[u8], answers: &mut [u8]) -> Result<u32, Refusal>
-    ensures { batch_of result answers.new ≡ batch table.now orders.now answers.old }
+    ensures done { batch_of result answers.new ≡ batch table.now orders.now answers.old }
+    ensures few { IfOk result (λ count. count ≤ order_lines) }
 {
     let mut numbers = [0u32; TABLE_NUMBERS];
     queue_table::read_into(table, &mut numbers)?;

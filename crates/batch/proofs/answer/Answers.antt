@@ -7,8 +7,8 @@ use Rattle.batch.specs.View.{batch_of}
 use Rattle.batch.proofs.JudgeLaws.{empty-registry, from-table, refused-table}
 use Rattle.batch.proofs.answer.Goals as goal
 
-pub returns-in_err-read_into : goal.returns-in_err-read_into
-returns-in_err-read_into c =
+pub returns-in_err-read_into-clause-done : goal.returns-in_err-read_into-clause-done
+returns-in_err-read_into-clause-done c =
     let args = c.args in
     let refused : c.from_residual.result ≡ Err (Table c.in_err-read_into.field-0.0) = search rules in
     ap (λ (r : Result ℕ Refusal). batch_of r args.answers.now) refused ∙ refused-table args.table.now c.read_into.new.table args.orders.now args.answers.now _ c.in_err-read_into.ensures
@@ -16,5 +16,5 @@ returns-in_err-read_into c =
 pub judge_orders-requires : goal.judge_orders-requires
 judge_orders-requires c = empty-registry _ _ c.in_ok-read_into.ensures
 
-pub returns : goal.returns
-returns c = c.judge_orders.ensures ∙ from-table _ _ c.in_ok-read_into.ensures c.args.orders.now c.args.answers.now
+pub returns-clause-done : goal.returns-clause-done
+returns-clause-done c = c.judge_orders.ensures.done ∙ from-table _ _ c.in_ok-read_into.ensures c.args.orders.now c.args.answers.now
