@@ -1,4 +1,5 @@
 -- The table stays through all calls, so that the registry left behind still holds the one that the verdict speaks of. Assumes nothing.
+use Rattle.std.specs.Prelude.{Result, Ok, Err}
 use Prim.Native.Nat.{ℕ, zero, suc, ◌+◌, ◌*◌, ◌/◌, ◌≤◌}
 use mathlib.Core.Path.{◌≡◌, refl, sym, ap, subst, ◌∙◌}
 use mathlib.Core.List.{List, [], ◌∷◌}
@@ -9,8 +10,7 @@ use Rattle.model.specs.QueueTable.{Table, read_table, accepted}
 use Rattle.model.specs.Reference as model
 use Rattle.model.specs.Reference.{State, Call, call_order, step, opened, after_orders, final}
 use Rattle.model.proofs.Laws.Reference.{same-table}
-use Rattle.queue_table.specs.declared.Verdict.{Verdict}
-use Rattle.queue_table.specs.declared.Verdict.TheVariants.{Accepted, Refused}
+use Rattle.queue_table.specs.declared.Refusal.{Refusal}
 use Rattle.queue_table.specs.View.{table_of, text_of}
 use Rattle.registry.specs.declared.Registry.{Registry}
 use Rattle.registry.specs.View.{state_in}
@@ -24,12 +24,12 @@ final-table s [] = refl
 final-table s (c ∷ calls) = final-table (step s c).next calls ∙ same-table s (call_order c)
 
 -- No call changes the table, so the verdict says of the registry left behind what it said of the one opened.
-pub same-verdict : (text : List ℕ) (calls : List Call) (v : Verdict) (t : Table) (last : Registry)
+pub same-verdict : (text : List ℕ) (calls : List Call) (v : Result (Unit {0}) Refusal) (t : Table) (last : Registry)
     → text_of v t ≡ read_table text → state_in last ≡ final (opened text) calls
     → text_of v (table_of last.table) ≡ read_table text
 unfolding opened model.table_of
-same-verdict text calls (Refused code line) t last read held = read
-same-verdict text calls Accepted t last read held =
+same-verdict text calls (Err refusal) t last read held = read
+same-verdict text calls (Ok nothing) t last read held =
     ap accepted (ap (λ (s : State). s.table) held ∙ final-table (opened text) calls ∙ ap model.table_of (sym read)) ∙ read
 
 -- No more calls are made than the area has room to answer.

@@ -1,5 +1,5 @@
 -- The calls of a list made so far, and those left: one call more, and the end. Assumes nothing.
-use Rattle.std.specs.Prelude.{Some, None}
+use Rattle.std.specs.Prelude.{Some, None, Result}
 use Prim.Native.Nat.{ℕ, suc, ◌+◌, ◌-◌, ◌*◌, ◌/◌, ◌≤◌, ◌<◌}
 use mathlib.Core.Path.{◌≡◌, refl, sym, ap, subst, ◌∙◌}
 use mathlib.Core.List.{List, [], ◌∷◌, ◌++◌, map, append-nil, append_assoc}
@@ -16,7 +16,7 @@ use Rattle.model.specs.Total.{total}
 use Rattle.model.specs.Reference as model
 use Rattle.model.specs.Reference.{Call}
 use Rattle.orders.specs.View.{kind_of}
-use Rattle.admission.specs.declared.Answer.{Answer}
+use Rattle.causes.specs.declared.Cause.{Cause}
 use Rattle.admission.specs.View.{answer_of}
 use Rattle.registry.specs.declared.Registry.{Registry}
 use Rattle.registry.specs.declared.Called.{Called}
@@ -51,7 +51,7 @@ placed lines tail columns k m e short =
 -- So many calls of at most `most` are made.
 pub record Going (first : Registry) (calls area : List ℕ) (most : ℕ) (registry : Registry) (at count : ℕ) (area' : List ℕ) : Type 0 where
   pub done : List Call
-  pub given : List Answer
+  pub given : List (Result ℕ Cause)
   pub chain : Chain first done given registry
   pub counted : count ≡ length done
   pub few : count ≤ most
@@ -82,7 +82,7 @@ unfolding bytes_of total
 bytes_next calls c = omega (arith, total-append (λ (d : Call). header_bytes + length d.bytes) calls (c ∷ []))
 
 -- The area with one answer more.
-module _ (area : List ℕ) (count : ℕ) (given : List Answer) (a : Answer) where
+module _ (area : List ℕ) (count : ℕ) (given : List (Result ℕ Cause)) (a : Result ℕ Cause) where
   lines_long : length (answer_lines (map answer_of given)) ≡ call_answer_bytes * count → length (answer_lines (map answer_of (given ++ (a ∷ [])))) ≡ call_answer_bytes * (count + 1)
   lines_long e =
       ap (λ (l : List model.Answer). length (answer_lines l)) (map_next answer_of given a)

@@ -1,12 +1,12 @@
 -- What a replay of a recorded list promises: the claim, of a run of the code.
-use Rattle.std.specs.Prelude.{ℕ, ◌*◌, ◌/◌, ◌≡◌, List, [], ◌∷◌, ◌++◌, map, length, drop}
+use Rattle.std.specs.Prelude.{ℕ, ◌*◌, ◌/◌, ◌≡◌, List, [], ◌∷◌, ◌++◌, map, length, drop, Result}
 use Rattle.model.specs.Columns.{justified}
 use Rattle.model.specs.Answers.{answer_columns}
 use Rattle.model.specs.QueueTable.{read_table}
 use Rattle.model.specs.Reference as model
 use Rattle.model.specs.Reference.{Call}
 use Rattle.queue_table.specs.View.{table_of, text_of}
-use Rattle.admission.specs.declared.Answer.{Answer}
+use Rattle.causes.specs.declared.Cause.{Cause}
 use Rattle.admission.specs.View.{answer_of}
 use Rattle.registry.specs.declared.Registry.{Registry}
 use Rattle.registry.specs.Claim.{Chain, Claimed}
@@ -36,14 +36,14 @@ unfoldable pub made_calls : (calls area : List ℕ) → List Call
 made_calls calls area = calls_in (length area / call_answer_bytes) calls
 
 -- The area with the answers to so many calls in its first bytes.
-abbrev pub answered : (area : List ℕ) (calls : ℕ) → List Answer → List ℕ
+abbrev pub answered : (area : List ℕ) (calls : ℕ) → List (Result ℕ Cause) → List ℕ
 answered area calls given = answer_lines (map answer_of given) ++ drop (call_answer_bytes * calls) area
 
 -- From any registry: the calls of the list were made one after the other, each on the registry that the one before left.
 pub record Runs (first : Registry) (calls area area' : List ℕ) (r : Ran) : Type 0 where
   pub count : r.count ≡ length (made_calls calls area)
   pub end : r.end ≡ bytes_of (made_calls calls area)
-  pub given : List Answer
+  pub given : List (Result ℕ Cause)
   pub chain : Chain first (made_calls calls area) given r.registry
   pub written : area' ≡ answered area (length (made_calls calls area)) given
 
@@ -52,6 +52,6 @@ pub record Replays (table calls area area' : List ℕ) (r : Replayed) : Type 0 w
   pub verdict : text_of r.verdict (table_of r.registry.table) ≡ read_table table
   pub count : r.count ≡ length (made_calls calls area)
   pub end : r.end ≡ bytes_of (made_calls calls area)
-  pub given : List Answer
+  pub given : List (Result ℕ Cause)
   pub claimed : Claimed table (made_calls calls area) given r.registry
   pub written : area' ≡ answered area (length (made_calls calls area)) given

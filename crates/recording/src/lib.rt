@@ -2,11 +2,9 @@
 #![tactic(auto)]
 
 ghost use Rattle.std.specs.Prelude.{◌≡◌, ◌∷◌, ◌++◌, ◌≤◌, length, drop};
-ghost use Rattle.model.specs.Words.{and_then};
-ghost use Rattle.model.specs.Columns.{field_at, end_line};
-ghost use Rattle.model.specs.Orders.{kind_of_number};
+ghost use Rattle.model.specs.Columns.{end_line};
 ghost use Rattle.model.specs.Answers.{answer_columns};
-ghost use Rattle.orders.specs.View.{kind_of, kind_in};
+ghost use Rattle.orders.specs.View.{kind_of};
 ghost use Rattle.queue_table.specs.View.{fault_code};
 ghost use Rattle.admission.specs.View.{answer_of};
 ghost use Rattle.registry.specs.View.{call_of, Performs};
@@ -14,9 +12,9 @@ ghost use Rattle.recording.specs.Calls.{header};
 ghost use Rattle.recording.specs.View.{header_of, FirstCall, MakesCalls};
 ghost use Rattle.recording.specs.Replay.{call_answer_bytes, refusal_line, Runs, Replays};
 
-use columns::{END, Field, LF};
-use orders::{Kind, KindRead};
-use queue_table::{Fault, TABLE_BYTES, Verdict};
+use columns::{END, LF};
+use orders::Kind;
+use queue_table::{Fault, Refusal, TABLE_BYTES};
 use registry::{Called, Registry};
 
 // The bytes of a header line with its LF.
@@ -50,7 +48,7 @@ struct Ran {
 // What a replay gives: the table's verdict too.
 #[derive(Clone, Copy)]
 pub struct Replayed {
-    pub verdict: Verdict,
+    pub verdict: Result<(), Refusal>,
     pub registry: Registry,
     pub count: usize,
     pub end: usize,
@@ -63,33 +61,21 @@ struct Header {
     size: u32,
 }
 
-// Which call a header line names; malformed is as another call.
-fn read_kind(bytes: &[u8]) -> KindRead
-    ensures { kind_in result ≡ and_then (field_at 1 2 bytes.now) kind_of_number }
-{
-    let Field::Number(number) = columns::read_at(bytes, 1, 2) else {
-        return KindRead::Other;
-    };
-    orders::kind_of_number(number)
-}
-
 // The header line that the bytes start with.
+#[tactic(auto, unfolding(crate::specs::Calls::header))]
 fn read_header(bytes: &[u8]) -> Option<Header>
     ensures { header_of result ≡ header bytes.now }
 {
-    let KindRead::Is(kind) = read_kind(bytes) else {
-        return None;
-    };
-    let Field::Number(size) = columns::read_at(bytes, 3, 8) else {
-        return None;
-    };
-    if bytes.len() < HEADER || bytes[8] != LF {
+    let kind = Kind::try_from(columns::read_at(bytes, 1, 2)?).ok()?;
+    let size = columns::read_at(bytes, 3, 8)?;
+    if bytes.len() < HEADER || bytes[HEADER - 1] != LF {
         return None;
     }
     Some(Header { kind, size })
 }
 
 // The call that the bytes start with, whose bytes are all there.
+#[tactic(auto, unfolding(crate::specs::Calls::first_call))]
 fn first_call(bytes: &[u8]) -> Option<Header>
     ensures { FirstCall bytes.now result }
 {
@@ -115,8 +101,7 @@ fn answer_call<F: Fn(Registry, Kind, &[u8]) -> Called>(
     ensures part_after { part.new ≡ answer_columns (answer_of result.answer) ++ (10 ∷ drop call_answer_bytes part.old) }
 {
     let called = step(registry, kind, bytes);
-    let answer = called.answer;
-    answer_line::write_answer(answer, part);
+    answer_line::write_answer(called.answer, part);
     part[13] = LF;
     called
 }
@@ -200,13 +185,8 @@ pub fn refusal_line(fault: Fault, line: u32) -> [u8; 10]
     ensures { result ≡ refusal_line (fault_code fault) line }
 {
     let mut out = *b"         \n";
-    columns::write_at(
-        &mut out,
-        1,
-        3,
-        columns::wide(queue_table::fault_code(fault)),
-    );
-    columns::write_at(&mut out, 4, 9, columns::wide(line));
+    columns::write_at(&mut out, 1, 3, u64::from(u32::from(fault)));
+    columns::write_at(&mut out, 4, 9, u64::from(line));
     out
 }
 

@@ -15,11 +15,11 @@ begun = 32 ∷ 32 ∷ 32 ∷ 32 ∷ 32 ∷ 32 ∷ 32 ∷ 32 ∷ 32 ∷ 10 ∷ []
 pub returns : goal.returns
 unfolding refusal_line
 returns c =
-    let code = c.fault_code.result in
+    let code = c.from.result in
     let line = c.args.line in
     c.write_at-2.ensures
-    ∙ ap₂ (written_at 4 9) c.wide-2.ensures
-    (c.write_at.ensures ∙ ap (λ (n : ℕ). written_at 1 3 n begun) c.wide.ensures ∙ field_next [] begun 0 3 code refl)
+    ∙ ap₂ (written_at 4 9) c.from-3.ensures
+    (c.write_at.ensures ∙ ap (λ (n : ℕ). written_at 1 3 n begun) c.from-2.ensures ∙ field_next [] begun 0 3 code refl)
     ∙ field_next (justified 3 code) begun 3 6 line (justified-length 3 code)
     ∙ append_assoc (justified 3 code) (justified 6 line) (10 ∷ [])
-    ∙ ap (λ (n : ℕ). refusal_line n line) c.fault_code.ensures
+    ∙ ap (λ (n : ℕ). refusal_line n line) c.from.ensures
