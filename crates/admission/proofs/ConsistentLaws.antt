@@ -32,6 +32,7 @@ use Rattle.model.proofs.Laws.Schedulable.{schedulable}
 use Rattle.model.proofs.Laws.Bounds.{threshold-below, speed-below, figures-bounded}
 use Rattle.causes.specs.declared.Cause.{Cause}
 use Rattle.causes.specs.View.{cause_of}
+use Rattle.queue_table.specs.declared.access.Hop as queues
 use Rattle.orders.specs.declared.Flow.{Flow}
 use Rattle.units.specs.View.{aggregate_of, AtSource}
 use Rattle.orders.specs.View.{fields_of, line_flow}
@@ -151,7 +152,7 @@ module _ (table bits store figures : List ℕ) (k : ConsistentArrays table bits 
             speed-below (table_of table) rules.table (link_in e + 1) _ (link-found table (link_in e) (queue-within table e q).0)
 
   -- The flow of a line that was read, with nothing against its path.
-  module _ (flow : Flow) (hops entries : List ℕ) (read : LineRead flow hops) (long : length entries ≡ hops_most)
+  module _ (flow : Flow) (hops : List queues.Hop) (entries : List ℕ) (read : LineRead flow hops) (long : length entries ≡ hops_most)
       (named : judged.PathNamed flow hops table entries) where
     abbrev f : line.Flow
     f = line_flow flow hops

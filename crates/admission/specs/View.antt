@@ -6,11 +6,12 @@ use Rattle.model.specs.Reference as model
 use Rattle.model.specs.Consistent.{flow_in_range, consistent}
 use Rattle.causes.specs.declared.Cause.{Cause}
 use Rattle.causes.specs.View.{cause_of}
+use Rattle.queue_table.specs.declared.access.Hop.{Hop}
 use Rattle.orders.specs.declared.Flow.{Flow}
 use Rattle.orders.specs.declared.Order.{Order}
 use Rattle.orders.specs.declared.Order.TheVariants.{Register, Release, Change}
 use Rattle.orders.specs.declared.Unread.{Unread}
-use Rattle.orders.specs.View.{hop_numbers, change_of, line_flow}
+use Rattle.orders.specs.View.{change_of, line_flow}
 use Rattle.queue_table.specs.View.{WellFormed, table_of}
 use Rattle.flow_store.specs.View.{PackedStore, slots_of}
 use Rattle.figures.specs.View.{Figures}
@@ -29,13 +30,13 @@ answer_of (Ok slot) = record { code = 0; slot = slot; link = 0; level = 0 }
 answer_of (Err cause) = refusal_of (cause_of cause)
 
 -- A registration as it was read from a line: its numbers are in their ranges (11).
-pub record LineRead (f : Flow) (hops : List ℕ) : Type 0 where
-  pub long : length hops ≡ hop_numbers
+pub record LineRead (f : Flow) (hops : List Hop) : Type 0 where
+  pub long : length hops ≡ hops_most
   pub few : f.hops ≤ hops_most
   pub range : flow_in_range (line_flow f hops) ≡ true
 
 -- An order as it was read from a line.
-abbrev pub OrderRead : Result Order Unread → (hops : List ℕ) → Type 0
+abbrev pub OrderRead : Result Order Unread → (hops : List Hop) → Type 0
 OrderRead (Ok (Register f)) hops = LineRead f hops
 OrderRead (Ok (Release number)) hops = Unit {0}
 OrderRead (Ok (Change c)) hops = model-orders.change_in_range (change_of c) ≡ true

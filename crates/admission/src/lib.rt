@@ -16,6 +16,7 @@ ghost use Rattle.admission.specs.View.{LineRead, OrderRead, ConsistentArrays, St
 
 use causes::Cause;
 use orders::{Change, Flow, MOST_HOPS, Order, Unread};
+use queue_table::Hop;
 use units::Aggregate;
 
 // What an order is answered: the slot, counted from 1, or why it is refused.
@@ -24,7 +25,7 @@ pub type Answer = Result<u32, Cause>;
 // Registers the flow of an order line.
 fn register_flow(
     flow: Flow,
-    hops: &[u32],
+    hops: &[Hop],
     table: &[u32],
     bits: &mut [u64],
     store: &mut [u32],
@@ -126,7 +127,7 @@ fn change_flow(
 // Carries out the order of a line.
 pub fn apply(
     order: Result<Order, Unread>,
-    hops: &[u32],
+    hops: &[Hop],
     table: &[u32],
     bits: &mut [u64],
     store: &mut [u32],

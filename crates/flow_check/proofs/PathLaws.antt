@@ -3,6 +3,7 @@ use Prim.Native.Nat.{ℕ, ◌≤◌}
 use mathlib.Core.Path.{◌≡◌, sym, ap, subst, ◌∙◌}
 use mathlib.Core.List.{List, [], map}
 use mathlib.Core.Option.{none}
+use native.Mathlib.Omega.{arith}
 use lib.ListN.{length, take}
 use Rattle.std.specs.Prelude.{Result, Ok, Err, MatchResult, IsErrAnd}
 use Rattle.model.specs.Sizes.{hops_most}
@@ -14,17 +15,18 @@ use Rattle.causes.specs.View.{finding_of}
 use Rattle.causes.specs.declared.Cause.{Cause}
 use Rattle.causes.specs.declared.Cause.TheVariants.{NoQueue}
 use Rattle.orders.specs.declared.Flow.{Flow}
-use Rattle.orders.specs.View.{hop_numbers, hop_in, line_path}
+use Rattle.queue_table.specs.declared.access.Hop as queues
+use Rattle.orders.specs.View.{hop_in, line_path}
 use Rattle.queue_table.specs.View.{table_of, hop_at}
 use Rattle.path_check.specs.View.{PathLocated}
 use Rattle.path_check.proofs.SearchLaws.{line-cause}
 use Rattle.flow_check.specs.View.{entry_findings, path_findings, PathJudged}
 
 -- The entries, or 14 at the hop without a queue.
-abbrev pub Reported : (hops : List ℕ) → Result (List ℕ) ℕ → Result (List ℕ) Cause → Type 0
+abbrev pub Reported : (hops : List queues.Hop) → Result (List ℕ) ℕ → Result (List ℕ) Cause → Type 0
 Reported hops located r = MatchResult located (λ entries. r ≡ Ok entries) (λ i. IsErrAnd r (λ cause. cause ≡ NoQueue (hop_in hops i).link (hop_in hops i).level))
 
-pub reported : {P : ℕ → Cause → Type 0} (hops : List ℕ) (located : Result (List ℕ) ℕ) (r : Result (List ℕ) Cause)
+pub reported : {P : ℕ → Cause → Type 0} (hops : List queues.Hop) (located : Result (List ℕ) ℕ) (r : Result (List ℕ) Cause)
     → ((i : ℕ) (cause : Cause) → P i cause → cause ≡ NoQueue (hop_in hops i).link (hop_in hops i).level)
     → MatchResult located (λ entries. r ≡ Ok entries) (λ i. IsErrAnd r (P i)) → Reported hops located r
 reported hops (Ok entries) r named cases = cases
@@ -35,14 +37,14 @@ first-none : (t : Table) (deadline : ℕ) (path : List Hop) → first_cause (ent
 unfolding entry_findings
 first-none t deadline path e = (none-applies (entry_findings t deadline path) e).0
 
-module _ (f : Flow) (hops table : List ℕ) (long : length hops ≡ hop_numbers) (few : f.hops ≤ hops_most) where
+module _ (f : Flow) (hops : List queues.Hop) (table : List ℕ) (long : length hops ≡ hops_most) (few : f.hops ≤ hops_most) where
   -- 14.
   pub path-missing : (located : Result (List ℕ) ℕ) (cause : Cause) → PathLocated table hops f.hops located → Reported hops located (Err cause)
       → PathJudged f hops table (Err cause)
   unfolding first_cause
   path-missing (Ok entries) cause at told = absurd (cc)
   path-missing (Err i) cause at told =
-      record { first = rw told (sym (simp (at.first ∙ line-cause hops f.hops long few 14 i at.within))); named = tt }
+      record { first = rw told (sym (simp (at.first ∙ line-cause hops f.hops (omega arith) 14 i at.within))); named = tt }
 
   -- 16, 15 and 20, or nothing.
   module _ (located : Result (List ℕ) ℕ) (entries : List ℕ) (at : PathLocated table hops f.hops located) (told : Reported hops located (Ok entries)) where

@@ -11,6 +11,7 @@ use Rattle.model.specs.Consistent.{flow_in_range}
 use Rattle.causes.specs.View.{cause_of}
 use Rattle.causes.specs.declared.Cause.{Cause}
 use Rattle.orders.specs.declared.Flow.{Flow}
+use Rattle.queue_table.specs.declared.access.Hop.{Hop}
 use Rattle.orders.specs.View.{line_path, line_flow}
 use Rattle.queue_table.specs.View.{table_of, hop_at, AllQueues}
 use Rattle.bit_words.specs.View.{word_bits, is_set, LeastClear}
@@ -29,7 +30,7 @@ abbrev pub path_findings : Table → (deadline : ℕ) → List model.Hop → Lis
 path_findings t deadline path = model-causes.at_hop 14 (model-causes.no_queue t) [] path ∷ entry_findings t deadline path
 
 -- The entries name the path, queue by queue, and no link comes twice.
-pub record PathNamed (f : Flow) (hops table entries : List ℕ) : Type 0 where
+pub record PathNamed (f : Flow) (hops : List Hop) (table entries : List ℕ) : Type 0 where
   pub path : map hop_at (take f.hops entries) ≡ line_path hops f.hops
   pub queues : AllQueues table (take f.hops entries)
   pub once : model-causes.at_hop 16 model-causes.met_earlier [] (line_path hops f.hops) ≡ none
@@ -40,13 +41,13 @@ finding_in (Ok _) = none
 finding_in (Err cause) = some (cause_of cause)
 
 -- 14, 16, 15 and 20 of the line's flow.
-pub record PathJudged (f : Flow) (hops table : List ℕ) (r : Result (List ℕ) Cause) : Type 0 where
+pub record PathJudged (f : Flow) (hops : List Hop) (table : List ℕ) (r : Result (List ℕ) Cause) : Type 0 where
   pub first : finding_in r
       ≡ model-causes.first_cause (path_findings (table_of table) f.deadline.0 (line_path hops f.hops))
   pub named : IfOk r (PathNamed f hops table)
 
 -- The causes before 30 against the line's flow, beside the flows in the slots.
-pub record FlowJudged (f : Flow) (hops table bits store : List ℕ) (r : Result (List ℕ) Cause) : Type 0 where
+pub record FlowJudged (f : Flow) (hops : List Hop) (table bits store : List ℕ) (r : Result (List ℕ) Cause) : Type 0 where
   pub first : finding_in r
       ≡ model-causes.first_cause (early_findings (record { table = table_of table; slots = slots_of bits store }) (line_flow f hops))
   pub named : IfOk r (PathNamed f hops table)

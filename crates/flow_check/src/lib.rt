@@ -12,13 +12,14 @@ ghost use Rattle.model.specs.Reference.{first_cause, held_flows};
 ghost use Rattle.queue_table.specs.View.{WellFormed, hop_at, table_of, AllQueues};
 ghost use Rattle.bit_words.specs.View.{is_set, BitChanged};
 ghost use Rattle.flow_store.specs.View.{PackedStore, slot_words, store_numbers, slots_of};
-ghost use Rattle.orders.specs.View.{hop_numbers, fields_of};
+ghost use Rattle.orders.specs.View.{fields_of};
 ghost use Rattle.causes.specs.View.{finding_of};
 ghost use Rattle.flow_check.specs.View.{entry_findings, PathJudged, FlowJudged, RoomJudged, flow_alone, slot_alone, path_findings, number_words, Marked};
 
 use causes::Cause;
 use flow_store::{POOL, SLOTS};
 use orders::{Flow, MOST_HOPS, MOST_NUMBER};
+use queue_table::Hop;
 use units::Micros;
 
 // How many words mark flow numbers: number n at bit n % 64 of word n / 64.
@@ -45,14 +46,14 @@ fn judge_entries(deadline: Micros, table: &[u32], entries: &[u32]) -> Result<(),
 }
 
 // 14, then 16, 15 and 20, over the hops of an order line.
-fn judge_path(flow: Flow, hops: &[u32], table: &[u32]) -> Result<[u32; MOST_HOPS], Cause>
-    requires { WellFormed table.now × (length hops.now ≡ hop_numbers) × (flow.hops ≤ hops_most) }
+fn judge_path(flow: Flow, hops: &[Hop], table: &[u32]) -> Result<[u32; MOST_HOPS], Cause>
+    requires { WellFormed table.now × (length hops.now ≡ hops_most) × (flow.hops ≤ hops_most) }
     ensures { PathJudged flow hops.now table.now result }
 {
     let count = flow.hops as usize;
     let entries = path_check::locate(table, hops, count).map_err(|at| Cause::NoQueue(
-        orders::hop_link(hops, at),
-        orders::hop_level(hops, at),
+        hops[at].link,
+        hops[at].level,
     ))?;
     judge_entries(flow.deadline, table, &entries[..count])?;
     Ok(entries)
@@ -61,12 +62,12 @@ fn judge_path(flow: Flow, hops: &[u32], table: &[u32]) -> Result<[u32; MOST_HOPS
 // 12, 17, 14, 16, 15 and 20: what is against a flow by itself, or the entries of its path.
 pub fn judge_flow(
     flow: Flow,
-    hops: &[u32],
+    hops: &[Hop],
     table: &[u32],
     bits: &[u64],
     store: &[u32],
 ) -> Result<[u32; MOST_HOPS], Cause>
-    requires { WellFormed table.now × (length hops.now ≡ hop_numbers) × (flow.hops ≤ hops_most) × (length bits.now ≡ slot_words) × (length store.now ≡ store_numbers) }
+    requires { WellFormed table.now × (length hops.now ≡ hops_most) × (flow.hops ≤ hops_most) × (length bits.now ≡ slot_words) × (length store.now ≡ store_numbers) }
     ensures { FlowJudged flow hops.now table.now bits.now store.now result }
 {
     if flow_store::find(flow.number, bits, store).is_some() {

@@ -44,9 +44,8 @@ fn judge(rt: &impl Print, line: &[u8]) {
         Ok(Order::Register(flow)) => {
             let n = flow.hops as usize;
             if 1 <= n && n <= MOST_HOPS {
-                let link = orders::hop_link(&read.hops, n - 1);
-                let level = orders::hop_level(&read.hops, n - 1);
-                show(rt, 0, flow, link, level);
+                let last = read.hops[n - 1];
+                show(rt, 0, flow, last.link, last.level);
             }
         }
         Ok(Order::Release(number)) => bare(rt, 0, number, Rate(0), Bytes(0)),

@@ -1,10 +1,11 @@
 -- What the answers of this crate say in the terms of the model.
-use Rattle.std.specs.Prelude.{ℕ, ◌+◌, ◌*◌, ◌≤◌, List, [], ◌∷◌, take, get_or}
+use Rattle.std.specs.Prelude.{ℕ, ◌≤◌, List, map, take, get_or}
 use Rattle.std.specs.Prelude.{Some, None, Result, Ok, Err}
 use Rattle.std.specs.Prelude as code
 use Rattle.std.proofs.Math.Option.{Option, none, some}
 use Rattle.model.specs.Sizes.{hops_most}
 use Rattle.model.specs.Orders as model
+use Rattle.queue_table.specs.declared.access.Hop.{Hop}
 use Rattle.orders.specs.declared.Flow.{Flow}
 use Rattle.orders.specs.declared.Change as declared
 use Rattle.orders.specs.declared.Kind.{Kind}
@@ -16,22 +17,24 @@ use Rattle.orders.specs.declared.Unread.{Unread}
 use Rattle.orders.specs.declared.Unread.TheVariants.{Malformed, OutOfRange}
 use Rattle.orders.specs.declared.OrderLine.{OrderLine}
 
--- The numbers of a path: link and level of each hop in turn.
-abbrev pub hop_numbers : ℕ
-hop_numbers = 2 * hops_most
+-- A hop as the model has it.
+abbrev pub hop_named : Hop → model.Hop
+hop_named h = record { link = h.link; level = h.level }
 
--- The hops of such an array.
-abbrev pub hops_in : List ℕ → List model.Hop
-hops_in (l ∷ p ∷ more) = record { link = l; level = p } ∷ hops_in more
-hops_in (l ∷ []) = []
-hops_in [] = []
+-- What stands past the hops of an array.
+abbrev pub no_hop : Hop
+no_hop = record { link = 0; level = 0 }
+
+-- The hops of an order line's array.
+abbrev pub hops_in : List Hop → List model.Hop
+hops_in = map hop_named
 
 -- Hop i of them, counted from 0.
-abbrev pub hop_in : (hops : List ℕ) (i : ℕ) → model.Hop
-hop_in hops i = record { link = get_or hops (2 * i) 0; level = get_or hops (2 * i + 1) 0 }
+abbrev pub hop_in : (hops : List Hop) (i : ℕ) → model.Hop
+hop_in hops i = hop_named (get_or hops i no_hop)
 
 -- The path of an order line: the first n hops of its array.
-abbrev pub line_path : (hops : List ℕ) (n : ℕ) → List model.Hop
+abbrev pub line_path : (hops : List Hop) (n : ℕ) → List model.Hop
 line_path hops n = take n (hops_in hops)
 
 abbrev pub kind_of : Kind → model.Kind
@@ -56,14 +59,14 @@ fields_of f =
     }
 
 -- The flow of an order line: it has as many of the hops beside it as it says.
-abbrev pub line_flow : Flow → (hops : List ℕ) → model.Flow
+abbrev pub line_flow : Flow → (hops : List Hop) → model.Flow
 line_flow f hops = model.flow_of (fields_of f) (line_path hops f.hops)
 
 abbrev pub change_of : declared.Change → model.Change
 change_of c = record { number = c.number; rate = c.rate.0; burst = c.burst.0 }
 
 -- What an order says with the hops beside it; only a registration has any.
-abbrev pub order_with : Result Order Unread → (hops : List ℕ) → model.Order
+abbrev pub order_with : Result Order Unread → (hops : List Hop) → model.Order
 order_with (Ok (Register f)) hops = model.register (line_flow f hops)
 order_with (Ok (Release n)) hops = model.release n
 order_with (Ok (Change c)) hops = model.change (change_of c)
@@ -88,11 +91,11 @@ abbrev pub head_of : code.Option Flow → Option model.Head
 head_of (Some f) = some (fields_of f)
 head_of None = none
 
-abbrev pub hop_of : code.Option (ℕ × ℕ) → Option model.Hop
-hop_of (Some (link, level)) = some (record { link = link; level = level })
+abbrev pub hop_of : code.Option Hop → Option model.Hop
+hop_of (Some h) = some (hop_named h)
 hop_of None = none
 
 -- The first n hops of what was read, none where a field is malformed.
-abbrev pub path_of : code.Option (List ℕ) → (n : ℕ) → Option (List model.Hop)
+abbrev pub path_of : code.Option (List Hop) → (n : ℕ) → Option (List model.Hop)
 path_of (Some hops) n = some (line_path hops n)
 path_of None n = none

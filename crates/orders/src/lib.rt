@@ -1,14 +1,16 @@
 // What an order line says (document 01, "Columns", order lines).
 #![tactic(auto)]
 
-ghost use Rattle.std.specs.Prelude.{◌≡◌, ℕ, List, ◌≤◌, ◌<◌, length};
+ghost use Rattle.std.specs.Prelude.{◌≡◌, List, ◌≤◌};
 ghost use Rattle.model.specs.Sizes.{hops_most};
 ghost use Rattle.model.specs.Columns.{field_at, lines};
 ghost use Rattle.model.specs.Orders.{kind_number, kind_of_number, read_order, release_line, change_line, registration, change_fields, number_in_range, rate_in_range, burst_in_range, frame_in_range, change_in_range, head_fields, head_in_range, hop_field, path_fields};
 ghost use Rattle.model.specs.Reference.{line_of_kind, only_line};
+ghost use Rattle.queue_table.specs.declared.access.Hop.{Hop};
 ghost use Rattle.orders.specs.declared.Unread.TheVariants.{OutOfRange};
-ghost use Rattle.orders.specs.View.{hop_numbers, hop_in, kind_of, kind_in, change_of, order_with, order_of, hops_fit, fields_of, source_of, head_of, hop_of, path_of};
+ghost use Rattle.orders.specs.View.{kind_of, kind_in, change_of, order_with, order_of, hops_fit, fields_of, source_of, head_of, hop_of, path_of};
 
+use queue_table::Hop;
 use units::{Aggregate, Bytes, Micros, Rate};
 
 // The bytes of the smallest frame.
@@ -19,9 +21,6 @@ pub const MOST_NUMBER: usize = 65535;
 
 // How many hops a path has at the most.
 pub const MOST_HOPS: usize = 12;
-
-// A path's numbers: link and level of each hop in turn, as a line gives them.
-pub const HOP_NUMBERS: usize = 2 * MOST_HOPS;
 
 // Columns of a registration before its hops, and of each hop.
 pub const HEAD_COLUMNS: usize = 41;
@@ -78,16 +77,19 @@ pub struct Change {
     pub burst: Bytes,
 }
 
+// What stands where no hop was read: no queue has this link or level.
+const NO_HOP: Hop = Hop { link: 0, level: 0 };
+
 // What a line gives, and the hops of its path where that is a registration: the first `hops` of them. The rest is free.
 #[derive(Clone, Copy)]
 pub struct OrderLine {
     pub order: Result<Order, Unread>,
-    pub hops: [u32; HOP_NUMBERS],
+    pub hops: [Hop; MOST_HOPS],
 }
 
 #[tactic(auto, unfolding(model::specs::Orders::release_line, model::specs::Orders::release_of))]
 fn read_release(line: &[u8]) -> Result<Order, Unread>
-    ensures result_value { (hops : List ℕ) → order_with result hops ≡ release_line line.now }
+    ensures result_value { (hops : List Hop) → order_with result hops ≡ release_line line.now }
     ensures hops_fit { hops_fit result }
 {
     if line.len() != 8 {
@@ -188,17 +190,17 @@ pub fn in_range(flow: Flow) -> bool
 
 // The link and level of the hop that these columns begin with.
 #[tactic(auto, unfolding(model::specs::Orders::hop_field))]
-fn read_hop(columns: &[u8]) -> Option<(u32, u32)>
+fn read_hop(columns: &[u8]) -> Option<Hop>
     ensures { hop_of result ≡ hop_field columns.now }
 {
     let link = columns::read_at(columns, 1, 4)?;
     let level = columns::read_at(columns, 5, 6)?;
-    Some((link, level))
+    Some(Hop { link, level })
 }
 
 // So many hops after the head's columns.
 #[tactic(auto, using(crate::proofs::PathLaws::path_laws), unfolding(model::specs::Orders::path_fields))]
-fn read_path(line: &[u8], count: u32) -> Option<[u32; HOP_NUMBERS]>
+fn read_path(line: &[u8], count: u32) -> Option<[Hop; MOST_HOPS]>
     requires { count ≤ hops_most }
     ensures { path_of result count ≡ path_fields count line.now }
 {
@@ -206,33 +208,15 @@ fn read_path(line: &[u8], count: u32) -> Option<[u32; HOP_NUMBERS]>
     if line.len() != HEAD_COLUMNS + HOP_COLUMNS * n {
         return None;
     }
-    let mut hops = [0; HOP_NUMBERS];
+    let mut hops = [NO_HOP; MOST_HOPS];
     for i in 0..n {
-        let (link, level) = read_hop(&line[HEAD_COLUMNS + HOP_COLUMNS * i..])?;
-        hops[2 * i] = link;
-        hops[2 * i + 1] = level;
+        hops[i] = read_hop(&line[HEAD_COLUMNS + HOP_COLUMNS * i..])?;
     }
     Some(hops)
 }
 
-// The link of hop `i`, counted from 0.
-pub fn hop_link(hops: &[u32], i: usize) -> u32
-    requires { (length hops.now ≡ hop_numbers) × (i < hops_most) }
-    ensures { result ≡ (hop_in hops.now i).link }
-{
-    hops[2 * i]
-}
-
-// The level of hop `i`, counted from 0.
-pub fn hop_level(hops: &[u32], i: usize) -> u32
-    requires { (length hops.now ≡ hop_numbers) × (i < hops_most) }
-    ensures { result ≡ (hop_in hops.now i).level }
-{
-    hops[2 * i + 1]
-}
-
 #[tactic(auto, unfolding(model::specs::Orders::registration, model::specs::Orders::registration_of, model::specs::Orders::with_path, model::specs::Orders::hops_in_range, model::specs::Columns::between))]
-fn read_registration(line: &[u8], hops: &mut [u32; HOP_NUMBERS]) -> Result<Order, Unread>
+fn read_registration(line: &[u8], hops: &mut [Hop; MOST_HOPS]) -> Result<Order, Unread>
     ensures result_value { order_with result hops.new ≡ registration line.now }
     ensures hops_fit { hops_fit result }
 {
@@ -249,7 +233,7 @@ fn read_registration(line: &[u8], hops: &mut [u32; HOP_NUMBERS]) -> Result<Order
 
 #[tactic(auto, unfolding(model::specs::Orders::change_line, model::specs::Orders::change_of))]
 fn read_change(line: &[u8]) -> Result<Order, Unread>
-    ensures result_value { (hops : List ℕ) → order_with result hops ≡ change_line line.now }
+    ensures result_value { (hops : List Hop) → order_with result hops ≡ change_line line.now }
     ensures hops_fit { hops_fit result }
 {
     if line.len() != 25 {
@@ -303,7 +287,7 @@ impl From<OtherKind> for Unread {
 
 // The order of a line, without its LF. The hops of a registration are put into `hops`.
 #[tactic(auto, unfolding(model::specs::Orders::read_order, model::specs::Orders::order_of_kind, model::specs::Orders::kind_order))]
-fn read_line(line: &[u8], hops: &mut [u32; HOP_NUMBERS]) -> Result<Order, Unread>
+fn read_line(line: &[u8], hops: &mut [Hop; MOST_HOPS]) -> Result<Order, Unread>
     ensures result_value { order_with result hops.new ≡ read_order line.now }
     ensures hops_fit { hops_fit result }
 {
@@ -317,7 +301,7 @@ fn read_line(line: &[u8], hops: &mut [u32; HOP_NUMBERS]) -> Result<Order, Unread
 
 // The order of a line that has to be of this kind.
 #[tactic(auto, unfolding(model::specs::Reference::line_of_kind))]
-fn read_own_kind(kind: Kind, line: &[u8], hops: &mut [u32; HOP_NUMBERS]) -> Result<Order, Unread>
+fn read_own_kind(kind: Kind, line: &[u8], hops: &mut [Hop; MOST_HOPS]) -> Result<Order, Unread>
     ensures result_value { order_with result hops.new ≡ line_of_kind (kind_number (kind_of kind)) line.now (field_at 1 2 line.now) }
     ensures hops_fit { hops_fit result }
 {
@@ -330,7 +314,7 @@ fn read_own_kind(kind: Kind, line: &[u8], hops: &mut [u32; HOP_NUMBERS]) -> Resu
 
 // The order of the one line that these bytes have to be.
 #[tactic(auto, using(crate::proofs::CallLaws::call_laws), unfolding(model::specs::Reference::only_line))]
-fn read_only_line(kind: Kind, bytes: &[u8], hops: &mut [u32; HOP_NUMBERS]) -> Result<Order, Unread>
+fn read_only_line(kind: Kind, bytes: &[u8], hops: &mut [Hop; MOST_HOPS]) -> Result<Order, Unread>
     ensures result_value { order_with result hops.new ≡ only_line (kind_number (kind_of kind)) (lines bytes.now) }
     ensures hops_fit { hops_fit result }
 {
@@ -349,7 +333,7 @@ pub fn read_order(line: &[u8]) -> OrderLine
     ensures result_value { order_of result ≡ read_order line.now }
     ensures hops_fit { hops_fit result.order }
 {
-    let mut hops = [0; HOP_NUMBERS];
+    let mut hops = [NO_HOP; MOST_HOPS];
     let order = read_line(line, &mut hops);
     OrderLine { order, hops }
 }
@@ -359,7 +343,7 @@ pub fn read_call(kind: Kind, bytes: &[u8]) -> OrderLine
     ensures result_value { order_of result ≡ only_line (kind_number (kind_of kind)) (lines bytes.now) }
     ensures hops_fit { hops_fit result.order }
 {
-    let mut hops = [0; HOP_NUMBERS];
+    let mut hops = [NO_HOP; MOST_HOPS];
     let order = read_only_line(kind, bytes, &mut hops);
     OrderLine { order, hops }
 }

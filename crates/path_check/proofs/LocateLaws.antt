@@ -17,7 +17,8 @@ use Rattle.model.proofs.Laws.All.{all_append}
 use Rattle.model.specs.Aggregates as model
 use Rattle.model.specs.Reference.{at_hop, no_queue}
 use Rattle.model.proofs.Laws.Path.{search_from, search-on, search-ended}
-use Rattle.orders.specs.View.{hop_numbers, hops_in, hop_in, line_path}
+use Rattle.queue_table.specs.declared.access.Hop as queues
+use Rattle.orders.specs.View.{hops_in, hop_in, line_path}
 use Rattle.orders.proofs.PathLaws.{hops-long, hops-at}
 use Rattle.queue_table.specs.View.{table_of, hop_at, is_queue, AllQueues}
 use Rattle.path_check.specs.View.{PathLocated}
@@ -25,7 +26,7 @@ use Rattle.path_check.proofs.EntryLaws.{no-queue}
 use Rattle.path_check.proofs.SearchLaws.{found_at, path-long, path-hop}
 
 -- What holds before hop i.
-pub record Locating (table hops : List ℕ) (count : ℕ) (entries : List ℕ) (i : ℕ) : Type 0 where
+pub record Locating (table : List ℕ) (hops : List queues.Hop) (count : ℕ) (entries : List ℕ) (i : ℕ) : Type 0 where
   pub size : length entries ≡ hops_most
   pub within : i ≤ count
   pub named : map hop_at (take i entries) ≡ take i (hops_in hops)
@@ -33,15 +34,18 @@ pub record Locating (table hops : List ℕ) (count : ℕ) (entries : List ℕ) (
   pub left : at_hop 14 (no_queue (table_of table)) [] (line_path hops count)
       ≡ search_from 14 (no_queue (table_of table)) (line_path hops count) i
 
-module _ (table hops : List ℕ) (count : ℕ) (long : length hops ≡ hop_numbers) (few : count ≤ hops_most) where
+module _ (table : List ℕ) (hops : List queues.Hop) (count : ℕ) (long : length hops ≡ hops_most) (few : count ≤ hops_most) where
+  within-hops : count ≤ length hops
+  within-hops = omega arith
+
   module _ (entries : List ℕ) (i : ℕ) (at : Locating table hops count entries i) where
     named-next : (e : ℕ) → i < count → hop_at e ≡ hop_in hops i → map hop_at (take (i + 1) (set entries i e)) ≡ take (i + 1) (hops_in hops)
     named-next e h names =
         rw (add-one i)
         (ap (λ (m : List ℕ). map hop_at m) (take-suc-set entries i e (omega (arith, at.size)))
         ∙ map-append hop_at (take i entries) (e ∷ [])
-        ∙ ap₂ (λ (m : List Hop) (x : Hop). m ++ (x ∷ [])) at.named (names ∙ sym (hops-at hops i hops_most (hop_in hops i) long (omega arith)))
-        ∙ sym (take-suc (hops_in hops) i (hop_in hops i) (omega (arith, hops-long hops hops_most long))))
+        ∙ ap₂ (λ (m : List Hop) (x : Hop). m ++ (x ∷ [])) at.named (names ∙ sym (hops-at hops i (hop_in hops i) (omega arith)))
+        ∙ sym (take-suc (hops_in hops) i (hop_in hops i) (omega (arith, hops-long hops))))
 
     -- One hop more.
     pub locating-next : (e : ℕ) → i < count → hop_at e ≡ hop_in hops i → is_queue table e ≡ true
@@ -57,8 +61,8 @@ module _ (table hops : List ℕ) (count : ℕ) (long : length hops ≡ hop_numbe
               (all_append (λ x. is_queue table x ≡ true) (take i entries) (e ∷ []) at.queues (queue, tt)));
           left =
               at.left
-              ∙ search-on 14 (no_queue (table_of table)) (line_path hops count) i (hop_in hops i) (omega (arith, path-long hops count long few))
-              (ap (no_queue (table_of table) _) (path-hop hops count long few i (hop_in hops i) h ∙ sym names) ∙ no-queue table _ e ∙ ap not queue);
+              ∙ search-on 14 (no_queue (table_of table)) (line_path hops count) i (hop_in hops i) (omega (arith, path-long hops count within-hops))
+              (ap (no_queue (table_of table) _) (path-hop hops count within-hops i (hop_in hops i) h ∙ sym names) ∙ no-queue table _ e ∙ ap not queue);
         }
 
     -- A hop without a queue.
@@ -68,8 +72,8 @@ module _ (table hops : List ℕ) (count : ℕ) (long : length hops ≡ hop_numbe
         record {
           first =
               at.left
-              ∙ found_at 14 (no_queue (table_of table)) (line_path hops count) i (hop_in hops i) (omega (arith, path-long hops count long few))
-              (ap (λ (x : Hop). is_none (model.queue_at (table_of table) x)) (path-hop hops count long few i (hop_in hops i) h) ∙ ap is_none (none-there));
+              ∙ found_at 14 (no_queue (table_of table)) (line_path hops count) i (hop_in hops i) (omega (arith, path-long hops count within-hops))
+              (ap (λ (x : Hop). is_none (model.queue_at (table_of table) x)) (path-hop hops count within-hops i (hop_in hops i) h) ∙ ap is_none (none-there));
           within = h;
           named = tt;
           queues = tt;
@@ -78,7 +82,7 @@ module _ (table hops : List ℕ) (count : ℕ) (long : length hops ≡ hop_numbe
     pub located-all : i ≡ count → PathLocated table hops count (Ok entries)
     located-all e =
         record {
-          first = at.left ∙ search-ended 14 (no_queue (table_of table)) (line_path hops count) i (omega (arith, path-long hops count long few));
+          first = at.left ∙ search-ended 14 (no_queue (table_of table)) (line_path hops count) i (omega (arith, path-long hops count within-hops));
           within = tt;
           named = rw e at at.named;
           queues = rw e at at.queues;

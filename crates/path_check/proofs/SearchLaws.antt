@@ -9,11 +9,11 @@ use native.Mathlib.Omega.{arith}
 use lib.ListN.{length, get_or, take, length-map, get_or-map}
 use lib.Seq.{get_or-take, length-take-le}
 use lib.Dec.{eqb}
-use Rattle.model.specs.Sizes.{hops_most}
 use Rattle.model.specs.Orders.{Hop}
 use Rattle.model.specs.Reference.{at_hop, crosses, starts_elsewhere}
 use Rattle.model.proofs.Laws.Path.{reverse-take, search_from, search-on, search-found, search-ended}
-use Rattle.orders.specs.View.{hop_numbers, hops_in, hop_in, line_path}
+use Rattle.queue_table.specs.declared.access.Hop as queues
+use Rattle.orders.specs.View.{hops_in, hop_in, line_path}
 use Rattle.orders.proofs.PathLaws.{hops-long, hops-at}
 use Rattle.queue_table.specs.View.{table_of, link_in, level_in, hop_at}
 use Rattle.path_check.specs.View.{hop_cause, earlier_than}
@@ -89,12 +89,12 @@ starts-first table [] = refl
 starts-first table (e ∷ entries) = refl
 
 -- The path of an order line.
-module _ (hops : List ℕ) (count : ℕ) (long : length hops ≡ hop_numbers) (few : count ≤ hops_most) where
+module _ (hops : List queues.Hop) (count : ℕ) (few : count ≤ length hops) where
   pub path-long : length (line_path hops count) ≡ count
-  path-long = length-take-le count (hops_in hops) (omega (arith, hops-long hops hops_most long))
+  path-long = length-take-le count (hops_in hops) (omega (arith, hops-long hops))
 
   pub path-hop : (i : ℕ) (d : Hop) → i < count → get_or (line_path hops count) i d ≡ hop_in hops i
-  path-hop i d h = get_or-take count (hops_in hops) i d h ∙ hops-at hops i hops_most d long (omega arith)
+  path-hop i d h = get_or-take count (hops_in hops) i d h ∙ hops-at hops i d (omega arith)
 
   pub line-cause : (code i : ℕ) → i < count
       → hop_cause code (line_path hops count) i ≡ some (record { code = code; link = (hop_in hops i).link; level = (hop_in hops i).level })

@@ -6,6 +6,7 @@ use Rattle.std.proofs.Math.Option.{Option, none, some}
 use Rattle.model.specs.Orders.{Hop}
 use Rattle.model.specs.Aggregates.{queue_at}
 use Rattle.model.specs.Reference.{Cause, at_hop, no_queue}
+use Rattle.queue_table.specs.declared.access.Hop as queues
 use Rattle.orders.specs.View.{line_path}
 use Rattle.queue_table.specs.View.{threshold_at, fixed_delay_at, link_in, table_of, hop_at, is_queue, AllQueues}
 
@@ -34,7 +35,7 @@ abbrev pub earlier_than : (entries : List ℕ) (i : ℕ) → List Hop
 earlier_than entries i = reverse (take i (map hop_at entries))
 
 -- `Ok` where each hop has a queue, with the entries that name the path, and those behind it free; else the index of the first hop without one.
-pub record PathLocated (table hops : List ℕ) (count : ℕ) (r : Result (List ℕ) ℕ) : Type 0 where
+pub record PathLocated (table : List ℕ) (hops : List queues.Hop) (count : ℕ) (r : Result (List ℕ) ℕ) : Type 0 where
   pub first : at_hop 14 (no_queue (table_of table)) [] (line_path hops count) ≡ found_cause 14 (line_path hops count) (result_err r)
   pub within : IfErr r (λ i. i < count)
   pub named : IfOk r (λ entries. map hop_at (take count entries) ≡ line_path hops count)

@@ -10,22 +10,23 @@ ghost use Rattle.model.specs.Words.{All, is_none};
 ghost use Rattle.model.specs.Sizes.{queues_most, hops_most};
 ghost use Rattle.model.specs.Reference.{at_hop, no_queue, met_earlier, starts_elsewhere, path_delay};
 ghost use Rattle.queue_table.specs.View.{table_numbers, table_of, hop_at, is_queue, AllQueues, WellFormed};
-ghost use Rattle.orders.specs.View.{hop_numbers};
+ghost use Rattle.orders.specs.View.{hop_named};
 ghost use Rattle.path_check.specs.View.{delay_at, found_cause, EntryOf, PathLocated};
 
 use orders::MOST_HOPS;
+use queue_table::Hop;
 use units::Micros;
 
-// The entry of a link and a level, both counted from 1 and of any value; none where the table has no such queue.
-fn entry_of(table: &[u32], link: u32, level: u32) -> Option<u32>
+// The entry of a hop, whose link and level can have any value; none where the table has no such queue.
+fn entry_of(table: &[u32], hop: Hop) -> Option<u32>
     requires { WellFormed table.now }
-    ensures { EntryOf table.now (record { link = link; level = level }) result }
+    ensures { EntryOf table.now (hop_named hop) result }
 {
-    let i = link.checked_sub(1)? as usize;
+    let i = hop.link.checked_sub(1)? as usize;
     if queue_table::link_count(table) <= i {
         return None;
     }
-    let j = level.checked_sub(1)?;
+    let j = hop.level.checked_sub(1)?;
     let found = queue_table::link_at(i, table);
     if found.levels <= j {
         return None;
@@ -34,15 +35,13 @@ fn entry_of(table: &[u32], link: u32, level: u32) -> Option<u32>
 }
 
 // 14 no such queue, over the hops of an order line: the entries of the path, or the index of the first hop without a queue.
-pub fn locate(table: &[u32], hops: &[u32], count: usize) -> Result<[u32; MOST_HOPS], usize>
-    requires { WellFormed table.now × (length hops.now ≡ hop_numbers) × (count ≤ hops_most) }
+pub fn locate(table: &[u32], hops: &[Hop], count: usize) -> Result<[u32; MOST_HOPS], usize>
+    requires { WellFormed table.now × (length hops.now ≡ hops_most) × (count ≤ hops_most) }
     ensures { PathLocated table.now hops.now count result }
 {
     let mut entries = [0u32; MOST_HOPS];
     for i in 0..count {
-        let link = orders::hop_link(hops, i);
-        let level = orders::hop_level(hops, i);
-        entries[i] = entry_of(table, link, level).ok_or(i)?;
+        entries[i] = entry_of(table, hops[i]).ok_or(i)?;
     }
     Ok(entries)
 }

@@ -26,7 +26,7 @@ pub struct Queue {
 }
 
 // A queue as an order line names it: its link and level, both counted from 1.
-#[derive(Clone, Copy)]
+#[derive(Clone, Copy, Debug, PartialEq, Eq)]
 pub struct Hop {
     pub link: u32,
     pub level: u32,

@@ -10,8 +10,8 @@ pub loop-i-preserved : goal.loop-i-preserved
 loop-i-preserved c =
     let line = c.args.line.now in
     let l = c.loop-i in
-    let hop = c.in_ok-link in
+    let hop = c.in_ok-hops in
     record {
       whole = simp length-set l.invariant.whole;
-      read = path-step line l.hops c.args.count l.i hop.link hop.level l.invariant.whole c.requires (omega arith) (ap hop_field (sym (rest line (start l.i))) ∙ sym hop.ensures) ∙ l.invariant.read;
+      read = path-step line l.hops c.args.count l.i hop.field-0 (omega (arith, l.invariant.whole)) (omega arith) (ap hop_field (sym (rest line (start l.i))) ∙ sym hop.ensures) ∙ l.invariant.read;
     }

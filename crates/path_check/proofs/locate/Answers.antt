@@ -14,10 +14,9 @@ returns-in_err-entries c =
     let args = c.args in
     let l = c.loop-i in
     let none-there : c.entry_of.result ≡ None = cc c.in_err-entries.ensures.ok_part in
-    let told : EntryOf args.table.now (hop_in args.hops.now l.i) c.entry_of.result = rw (c.hop_link-link.ensures, c.hop_level-level.ensures) at c.entry_of.ensures in
     let answer : c.from_residual.result ≡ Err l.i = grind (arith, common_steps) in
     rw answer (located-missing args.table.now args.hops.now args.count c.requires.1 c.requires.2 l.entries l.i l.invariant (omega arith)
-    (subst (EntryOf args.table.now (hop_in args.hops.now l.i)) none-there told))
+    (subst (EntryOf args.table.now (hop_in args.hops.now l.i)) none-there c.entry_of.ensures))
 
 pub loop-i-preserved : goal.loop-i-preserved
 loop-i-preserved c =
@@ -25,8 +24,7 @@ loop-i-preserved c =
     let l = c.loop-i in
     let e = c.in_ok-entries.field-0 in
     let found : c.entry_of.result ≡ Some e = cc c.in_ok-entries.ensures.ok_part in
-    let told : EntryOf args.table.now (hop_in args.hops.now l.i) c.entry_of.result = rw (c.hop_link-link.ensures, c.hop_level-level.ensures) at c.entry_of.ensures in
-    let named = subst (EntryOf args.table.now (hop_in args.hops.now l.i)) found told in
+    let named = subst (EntryOf args.table.now (hop_in args.hops.now l.i)) found c.entry_of.ensures in
     locating-next args.table.now args.hops.now args.count c.requires.1 c.requires.2 l.entries l.i l.invariant e (omega arith) named.0 named.1
 
 pub returns : goal.returns
