@@ -42,14 +42,14 @@ fn find_on(link: usize, levels: [Aggregate; LEVELS], table: &[u32]) -> Result<()
 {
     let queues = link_queues(link, table);
     let own = link_at(link, table);
-    let checked = check_link(
+    check_link(
         link as u32 + 1,
         u64::from(own.speed),
         own.besteffort,
         queues,
         levels,
-    );
-    checked.finding
+    )
+    .finding
 }
 
 // The check of the link of queue e, with these figures there.

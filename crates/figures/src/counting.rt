@@ -71,6 +71,7 @@ pub fn change_path(
 }
 
 // Takes a flow out at queue e, with its share there. Answers whether the largest frame, 0 then, must be worked out anew.
+#[tactic(auto, unfolding(crate::specs::View::figure_at))]
 fn remove_hop(e: usize, share: Aggregate, figures: &mut [u64]) -> bool
     requires e_lt_queues_most { (e < queues_most) × (length figures.old ≡ figure_numbers) }
     requires rate_bound { (share.rate.0 ≤ (figure_at figures.old e).rate) × (share.burst.0 ≤ (figure_at figures.old e).burst) }
@@ -113,7 +114,7 @@ fn frame_index(entry: u32) -> usize
     requires { entry < queues_most }
     ensures { (result ≡ frame_position entry) × (result < figure_numbers) }
 {
-    OWN_NUMBERS * entry as usize + FRAME
+    OWN_NUMBERS * (entry as usize) + FRAME
 }
 
 // Whether a queue of the path may have a smaller largest frame. It only reads, which is faster than a loop that may store.

@@ -59,6 +59,7 @@ fn blockings(besteffort: Bytes, levels: [Aggregate; LEVELS]) -> [Bytes; LEVELS]
 }
 
 // One level: eq. 15, if it carries a flow. `above` has the sums of the levels above, `blocked` the frame that may block it.
+#[tactic(auto, unfolding(model::specs::Formula::residual, model::specs::Laws::LinkSteps::level_finding, model::specs::LinkCheck::level_code, model::specs::LinkCheck::is_empty, model::specs::LinkCheck::or_else))]
 fn check_level(
     speed: u64,
     level: u32,

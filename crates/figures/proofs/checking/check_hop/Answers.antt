@@ -2,10 +2,7 @@
 use Prim.Native.Nat.{ℕ, ◌+◌}
 use mathlib.Core.Path.{◌≡◌, ap, ap₂, ◌∙◌}
 use mathlib.Core.List.{List}
-use native.Mathlib.Omega.{arith}
-use native.Mathlib.Nat.{div-add-mod}
 use lib.ListN.{set}
-use Rattle.model.specs.Sizes.{levels_most}
 use Rattle.model.specs.Formula as model
 use Rattle.model.specs.Reference.{link_cause}
 use Rattle.units.specs.declared.Aggregate.{Aggregate}
@@ -25,18 +22,11 @@ put figures e own levels {link} {level} link_is level_is loaded =
     map-set aggregate_of levels level own
     ∙ ap₂ (λ (l : List model.Aggregate) (k : ℕ). set l k (aggregate_of own)) (loaded ∙ ap (level_figures figures) link_is) level_is
 
-pub link_levels-levels-requires : goal.link_levels-levels-requires
-link_levels-levels-requires c =
-    (omega (arith, c.link_of-link.ensures, div-add-mod c.args.e levels_most), c.requires.e_lt_queues_most.1.1.long)
-
-pub find_on-requires : goal.find_on-requires
-find_on-requires c =
+pub find_on-requires-clause-summable : goal.find_on-requires-clause-summable
+find_on-requires-clause-summable c =
     let pre = c.requires.e_lt_queues_most in
-    let levels = put c.args.figures.now c.args.e c.args.own c.link_levels-levels.result c.link_of-link.ensures c.level_of.ensures.0 c.link_levels-levels.ensures in record {
-      link_lt_links_most = (omega (arith, c.link_of-link.ensures, div-add-mod c.args.e levels_most), pre.1.0);
-      link_bound = rw c.link_of-link.ensures c.requires.e_bound;
-      summable = rw levels (summable c.args.figures.now pre.1.1 c.args.e pre.0 (aggregate_of c.args.own) c.requires.limited_level);
-    }
+    rw (put c.args.figures.now c.args.e c.args.own c.link_levels-levels.result c.link_of-link.ensures c.level_of.ensures.0 c.link_levels-levels.ensures)
+    (summable c.args.figures.now pre.1.1 c.args.e pre.0 (aggregate_of c.args.own) c.requires.limited_level)
 
 pub returns : goal.returns
 returns c =

@@ -1,11 +1,8 @@
 -- `figures::checking::link_queues` meets its contract. The invariant: the queues before `p` are loaded.
-use mathlib.Core.Path.{◌≡◌, refl, sym, ap, subst, ◌∙◌}
+use mathlib.Core.Path.{refl, ap, ◌∙◌}
 use native.Mathlib.Omega.{arith}
-use lib.ListN.{take, length-set}
-use lib.Seq.{take_all}
-use Rattle.model.specs.Words.{All}
-use Rattle.model.specs.Sizes.{levels_most}
-use Rattle.link_check.specs.View.{queue_of, queues_of, Narrow}
+use lib.ListN.{length-set}
+use Rattle.link_check.specs.View.{queue_of, Narrow}
 use Rattle.queue_table.specs.View.{up_to, threshold_at, buffer_at, queue_at}
 use Rattle.figures.proofs.LoadLaws.{loaded-next, loaded-all}
 use Rattle.figures.proofs.checking.link_queues.Goals as goal
@@ -27,10 +24,3 @@ loop-p-preserved c =
           (λ t. record { threshold = (read.0 ∙ ap (threshold_at table) entry) t; buffer = (read.1 ∙ ap (buffer_at table) entry) t }),
       loaded-all Narrow at.queues at.p c.queue_at.result (omega (arith, at.invariant.0)) at.invariant.2 c.queue_at.ensures.threshold_bound,
     )
-
-pub returns : goal.returns
-returns c =
-    let at = c.loop-p in
-    let end : at.p ≡ levels_most = omega arith in
-    let whole : take at.p at.queues ≡ at.queues = take_all at.p at.queues (omega (arith, at.invariant.0)) in
-    (ap queues_of (sym whole) ∙ at.invariant.1 ∙ rw end, subst (All Narrow) whole at.invariant.2)

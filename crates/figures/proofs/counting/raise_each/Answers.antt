@@ -1,9 +1,6 @@
 -- `figures::counting::raise_each` meets its contract. The invariant: the figures so far, raised by what the hops left have, are the whole.
-use Rattle.figures.proofs.RaiseLaws.{raising-none, raising-max, raising-all}
+use Rattle.figures.proofs.RaiseLaws.{raising-max, raising-all}
 use Rattle.figures.proofs.counting.raise_each.Goals as goal
-
-pub loop-entry-init : goal.loop-entry-init
-loop-entry-init c = raising-none _ _ _ c.requires.1
 
 pub loop-entry-preserved : goal.loop-entry-preserved
 loop-entry-preserved c =

@@ -1,16 +1,8 @@
 -- `figures::counting::remove_hop` meets its contract: its stores are the definition's, one after the other.
 use native.Mathlib.Omega.{arith}
 use Rattle.units.specs.View.{aggregate_of}
-use Rattle.figures.specs.View.{figure_at}
-use Rattle.figures.proofs.RemoveLaws.{burst-room, less_none, less-own, less-kept}
+use Rattle.figures.proofs.RemoveLaws.{less_none, less-own, less-kept}
 use Rattle.figures.proofs.counting.remove_hop.Goals as goal
-
-pub overflow_sub-figures : goal.overflow_sub-figures
-unfolding figure_at
-overflow_sub-figures c = c.requires.rate_bound.0
-
-pub overflow_sub-figures-2 : goal.overflow_sub-figures-2
-overflow_sub-figures-2 c = burst-room c.args.figures.now c.args.e (aggregate_of c.args.share) (omega arith) c.requires.rate_bound
 
 pub returns-then-figures-first-eq0 : goal.returns-then-figures-first-eq0
 returns-then-figures-first-eq0 c =

