@@ -1,5 +1,5 @@
 -- The promises of `Gates`, from the contracts and the facts of the model. Assumes nothing.
-use Rattle.std.specs.Prelude.{ℕ, ◌≤◌, ◌≡◌, refl, false, ◌↔◌}
+use Rattle.std.specs.Prelude.{ℕ, ◌≤◌, ◌≡◌, refl, false, ◌↔◌, Result}
 use Rattle.std.proofs.Common.{sym, subst}
 use mathlib.Core.List.{List, [], ◌∷◌, Memᴰ}
 use Rattle.std.proofs.Math.Option.{Option, none, some}
@@ -16,7 +16,7 @@ use Rattle.model.specs.Gate.{gate_in_range, length_in_range, no_gate, full_gate,
 use Rattle.model.specs.Offers.{Offer, reading_at, answer_to, offer_codes, after_offers, passed, NotRefused, flow_gate, frames_at, BehindGates}
 use Rattle.model.proofs.Laws.Gate as gate
 use Rattle.model.proofs.Results.{gates-conform}
-use Rattle.admission.specs.declared.Answer.{Answer}
+use Rattle.causes.specs.declared.Cause.{Cause}
 use Rattle.registry.specs.declared.Registry.{Registry}
 use Rattle.registry.specs.declared.Opened.{Opened}
 use Rattle.registry.specs.View.{OpensOn}
@@ -105,7 +105,7 @@ sources-gated fs sent b =
     }
 
 -- Mission, line 3, with gates in place of its condition on sources: after any list of calls on any table text no frame is late and no buffer exceeded.
-pub late-never : (text : List ℕ) (o : Opened) → OpensOn text o → (calls : List Call) (answers : List Answer) (last : Registry) → Chain o.registry calls answers last
+pub late-never : (text : List ℕ) (o : Opened) → OpensOn text o → (calls : List Call) (answers : List (Result ℕ Cause)) (last : Registry) → Chain o.registry calls answers last
     → (r : Run (after text calls).table (flows_after text calls)) → SourcesGated (flows_after text calls) r.sent
     → (x : ℕ) (h : Hop) (q : Queue) → queue_at (after text calls).table h ≡ some q → Punctual (after text calls).table (flows_after text calls) r x h q
 late-never text o opens calls answers last chain r s =

@@ -1,6 +1,6 @@
 -- W-204 over what the contracts promise: a registry of any content written as order lines, and the text read again, as a batch or line by line by direct calls.
 -- That it holds is `writing-listed`, `handed-over` and `whole-admitted` in `HandoverLaws`.
-use Rattle.std.specs.Prelude.{ℕ, ◌*◌, ◌≤◌, ◌<◌, ◌≡◌, true, ◌↔◌, length, drop}
+use Rattle.std.specs.Prelude.{ℕ, ◌*◌, ◌≤◌, ◌<◌, ◌≡◌, true, ◌↔◌, length, drop, Result}
 use mathlib.Core.List.{List, [], ◌∷◌, ◌++◌, map, Memᴰ}
 use Rattle.model.specs.Sizes.{queues_most, answer_bytes, handover_most}
 use Rattle.model.specs.Columns.{Line, ended, unended, lines}
@@ -14,7 +14,7 @@ use Rattle.model.specs.Handover.{handover_text, handover_bytes, done_writing}
 use Rattle.model.specs.WholeThresholds as before-growth
 use Rattle.queue_table.specs.View.{table_of, hop_at}
 use Rattle.figures.specs.View.{figure_at}
-use Rattle.admission.specs.declared.Answer.{Answer}
+use Rattle.causes.specs.declared.Cause.{Cause}
 use Rattle.admission.specs.View.{answer_of}
 use Rattle.batch.specs.declared.BatchResult.{BatchResult}
 use Rattle.batch.specs.View.{Batched}
@@ -23,28 +23,27 @@ use Rattle.registry.specs.declared.Registry.{Registry}
 use Rattle.registry.specs.declared.Opened.{Opened}
 use Rattle.registry.specs.View.{state_in, Consistent, OpensOn, call_of}
 use Rattle.registry.specs.Claim.{Chain}
-use Rattle.order_text.specs.declared.Written.{Written}
-use Rattle.order_text.specs.View.{code_of, written_of, Writes}
+use Rattle.order_text.specs.View.{code_of, bytes_of, written_of, Writes}
 
 -- The flows of a registry, lowest slot first.
 abbrev pub flows_in : Registry → List Flow
 flows_in r = held_flows (state_in r).slots
 
 -- Mission, line 1: what the writer says of any registry, in any area.
-pub record WritingListed (before : Registry) (area area' : List ℕ) (w : Written) : Type 0 where
-  pub code : Memᴰ (code_of w.finding) writer_codes
+pub record WritingListed (before : Registry) (area area' : List ℕ) (w : Result ℕ Cause) : Type 0 where
+  pub code : Memᴰ (code_of w) writer_codes
   -- 42 first, just where the registry isn't consistent; then 43, just where the area is too short, which one of 16,896 bytes never is.
-  pub spoilt : (code_of w.finding ≡ 42) ↔ (Consistent before → ⊥)
-  pub short : Consistent before → (code_of w.finding ≡ 43) ↔ (length area < handover_bytes (flows_in before))
+  pub spoilt : (code_of w ≡ 42) ↔ (Consistent before → ⊥)
+  pub short : Consistent before → (code_of w ≡ 43) ↔ (length area < handover_bytes (flows_in before))
   pub most : Consistent before → handover_bytes (flows_in before) ≤ handover_most
   -- Refused: 0 bytes, and the area as it was.
-  pub unwritten : (code_of w.finding ≡ 0 → ⊥) → (w.bytes ≡ 0) × (area' ≡ area)
+  pub unwritten : (code_of w ≡ 0 → ⊥) → (bytes_of w ≡ 0) × (area' ≡ area)
   -- Done: 42 + 6 × hops, summed over the held flows; every byte past them as it was.
-  pub written : code_of w.finding ≡ 0 → (w.bytes ≡ handover_bytes (flows_in before)) × (drop w.bytes area' ≡ drop w.bytes area)
+  pub written : code_of w ≡ 0 → (bytes_of w ≡ handover_bytes (flows_in before)) × (drop (bytes_of w) area' ≡ drop (bytes_of w) area)
 
 -- Written, the registry gives this text, wherever that has room.
 abbrev pub WrittenAs : (text : List ℕ) → Registry → Type 0
-WrittenAs text r = (area area' : List ℕ) (w : Written) → Writes r area area' w → length text ≤ length area → written_of w area' ≡ done_writing text area
+WrittenAs text r = (area area' : List ℕ) (w : Result ℕ Cause) → Writes r area area' w → length text ≤ length area → written_of w area' ≡ done_writing text area
 
 -- The state after the last line of a batch over the table text `table`.
 abbrev pub after_text : (table text : List ℕ) → State
@@ -79,7 +78,7 @@ abbrev pub line_calls : (text : List ℕ) → List Call
 line_calls text = map line_call (lines text)
 
 -- The text given line by line to a registry just opened; `last` is what the calls left.
-pub record ReadByCalls (before : Registry) (text : List ℕ) (answers : List Answer) (last : Registry) : Type 0 where
+pub record ReadByCalls (before : Registry) (text : List ℕ) (answers : List (Result ℕ Cause)) (last : Registry) : Type 0 where
   pub answered : map answer_of answers ≡ slots_from 1 (length (lines text))
   pub slots : (state_in last).slots ≡ in_turn (flows_in before)
   pub flows : flows_in last ≡ flows_in before
@@ -90,5 +89,5 @@ pub record ReadByCalls (before : Registry) (text : List ℕ) (answers : List Ans
 pub record HandedOver (before : Registry) (text : List ℕ) : Type 0 where
   pub batch : (table : List ℕ) → read_table table ≡ accepted (table_of before.table) → ReadAsBatch before text table
   pub calls : (table : List ℕ) → read_table table ≡ accepted (table_of before.table) → (o : Opened) → OpensOn table o
-      → (answers : List Answer) (last : Registry) → Chain o.registry (line_calls text) answers last
+      → (answers : List (Result ℕ Cause)) (last : Registry) → Chain o.registry (line_calls text) answers last
       → ReadByCalls before text answers last

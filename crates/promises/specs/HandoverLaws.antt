@@ -1,6 +1,6 @@
 -- What W-204 promises holds: the model says it of the flows of every consistent state (`handover-state`), and the contracts tie text, batch and calls to it.
 -- Assumes nothing.
-use Rattle.std.specs.Prelude.{ℕ, ◌*◌, ◌≤◌, ◌<◌, ◌≡◌, Bool, true, false, take, ltb}
+use Rattle.std.specs.Prelude.{ℕ, ◌*◌, ◌≤◌, ◌<◌, ◌≡◌, Bool, true, false, take, ltb, Result}
 use Rattle.std.proofs.Math.Path.{refl, ap, ap₂, sym}
 use Rattle.std.proofs.Common.{subst, ◌∙◌, arith, take_at, drop_at}
 use mathlib.Core.List.Memᴰ
@@ -29,7 +29,7 @@ use Rattle.model.proofs.Laws.Handover.{text-long, text-lines, writing-short, wri
 use Rattle.model.proofs.Results.{handover-state, handover-most, handover-whole, handover-call}
 use Rattle.queue_table.specs.View.{table_of, hop_at}
 use Rattle.figures.specs.View.{figure_at}
-use Rattle.admission.specs.declared.Answer.{Answer}
+use Rattle.causes.specs.declared.Cause.{Cause}
 use Rattle.batch.specs.declared.BatchResult.{BatchResult}
 use Rattle.batch.specs.View.{Batched}
 use Rattle.batch.specs.Claim.{AnsweredInTurn}
@@ -38,8 +38,7 @@ use Rattle.registry.specs.declared.Opened.{Opened}
 use Rattle.registry.specs.View.{state_in, Consistent, OpensOn}
 use Rattle.registry.specs.Claim.{Chain}
 use Rattle.registry.specs.ClaimLaws.{claim}
-use Rattle.order_text.specs.declared.Written.{Written}
-use Rattle.order_text.specs.View.{code_of, written_of, Writes, consistent, inconsistent}
+use Rattle.order_text.specs.View.{code_of, bytes_of, written_of, Writes, consistent, inconsistent}
 use Rattle.promises.specs.Handover.{flows_in, WritingListed, WrittenAs, after_text, ReadAsBatch, WholeAdmitted, line_call, line_calls, ReadByCalls, HandedOver}
 
 counted : (fs : List Flow) → length (lines (handover_text fs)) ≡ length fs
@@ -122,7 +121,7 @@ module _ (before : Registry) (kept : Consistent before) where
         each [] a = refl
         each (f ∷ fs) a = ap₂ (λ (o : Order) (os : List Order). o ∷ os) a.0 (each fs a.1)
 
-    by-calls : (o : Opened) → OpensOn table o → (answers : List Answer) (last : Registry) → Chain o.registry (line_calls (handover_text held)) answers last
+    by-calls : (o : Opened) → OpensOn table o → (answers : List (Result ℕ Cause)) (last : Registry) → Chain o.registry (line_calls (handover_text held)) answers last
         → ReadByCalls before (handover_text held) answers last
     unfolding model.answers final line_answers
     by-calls o opens answers last chain =
@@ -149,10 +148,10 @@ judged text area m e = go (ltb (length area) (length text)) refl
     go true q = short (ltb-true _ _ q) (e ∙ writing-short text area (ltb-true _ _ q))
     go false q = done (ltb-false _ _ q) (e ∙ writing-done text area (ltb-false _ _ q))
 
-pub writing-listed : (before : Registry) (area area' : List ℕ) (w : Written) → Writes before area area' w → WritingListed before area area' w
+pub writing-listed : (before : Registry) (area area' : List ℕ) (w : Result ℕ Cause) → Writes before area area' w → WritingListed before area area' w
 unfolding refused_writing done_writing
 writing-listed before area area' w (inconsistent spoilt e) =
-    let code : code_of w.finding ≡ 42 = ap (λ (m : Writing). m.code) e in
+    let code : code_of w ≡ 42 = ap (λ (m : Writing). m.code) e in
     record {
       code = Memᴰ.tail (Memᴰ.head code);
       spoilt = (λ z. spoilt, λ z. code);
@@ -165,7 +164,7 @@ writing-listed before area area' w (consistent kept e) = go (judged (handover_te
   where
     go : Judged (handover_text (flows_in before)) area (written_of w area') → WritingListed before area area' w
     go (short few e) =
-        let code : code_of w.finding ≡ 43 = ap (λ (m : Writing). m.code) e in
+        let code : code_of w ≡ 43 = ap (λ (m : Writing). m.code) e in
         record {
           code = Memᴰ.tail (Memᴰ.tail (Memᴰ.head code));
           spoilt = (λ z. absurd (omega (arith, code, z)), λ spoilt. absurd (spoilt kept));
@@ -176,8 +175,8 @@ writing-listed before area area' w (consistent kept e) = go (judged (handover_te
         }
     go (done room e) =
         let text = handover_text (flows_in before) in
-        let code : code_of w.finding ≡ 0 = ap (λ (m : Writing). m.code) e in
-        let bytes : w.bytes ≡ length text = ap (λ (m : Writing). m.bytes) e in
+        let code : code_of w ≡ 0 = ap (λ (m : Writing). m.code) e in
+        let bytes : bytes_of w ≡ length text = ap (λ (m : Writing). m.bytes) e in
         record {
           code = Memᴰ.head code;
           spoilt = (λ z. absurd (omega (arith, code, z)), λ spoilt. absurd (spoilt kept));
@@ -187,15 +186,15 @@ writing-listed before area area' w (consistent kept e) = go (judged (handover_te
           written = λ z. (bytes ∙ text-long (flows_in before), ap₂ drop bytes (ap (λ (m : Writing). m.area) e) ∙ drop_at text (drop (length text) area) (length text) refl ∙ ap (λ n. drop n area) (sym bytes));
         }
 
-pub handed-over : (before : Registry) (area area' : List ℕ) (w : Written) → Writes before area area' w → code_of w.finding ≡ 0
-    → HandedOver before (take w.bytes area')
+pub handed-over : (before : Registry) (area area' : List ℕ) (w : Result ℕ Cause) → Writes before area area' w → code_of w ≡ 0
+    → HandedOver before (take (bytes_of w) area')
 unfolding refused_writing done_writing
 handed-over before area area' w (inconsistent spoilt e) z = absurd (omega (arith, ap (λ (m : Writing). m.code) e, z))
 handed-over before area area' w (consistent kept e) z = go (judged (handover_text (flows_in before)) area (written_of w area') e)
   where
-    go : Judged (handover_text (flows_in before)) area (written_of w area') → HandedOver before (take w.bytes area')
+    go : Judged (handover_text (flows_in before)) area (written_of w area') → HandedOver before (take (bytes_of w) area')
     go (short few e) = absurd (omega (arith, ap (λ (m : Writing). m.code) e, z))
     go (done room e) =
         let text = handover_text (flows_in before) in
-        let same : take w.bytes area' ≡ text = ap₂ take (ap (λ (m : Writing). m.bytes) e) (ap (λ (m : Writing). m.area) e) ∙ take_at text (drop (length text) area) (length text) refl in
+        let same : take (bytes_of w) area' ≡ text = ap₂ take (ap (λ (m : Writing). m.bytes) e) (ap (λ (m : Writing). m.area) e) ∙ take_at text (drop (length text) area) (length text) refl in
         subst (HandedOver before) (sym same) (record { batch = as-batch before kept; calls = by-calls before kept })
