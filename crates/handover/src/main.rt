@@ -5,7 +5,7 @@
 #![tactic(auto)]
 
 use order_text::TEXT;
-use queue_table::Verdict;
+use queue_table::Refusal;
 use recording::{ANSWERS, Form, TABLE};
 use registry::Registry;
 use text_files::LIST_AREA;
@@ -15,39 +15,37 @@ fn tell(err: &impl Print, words: &[u8]) {
     let _ = err.write_all(words);
 }
 
-fn tell_verdict(err: &impl Print, verdict: Verdict) {
-    if let Verdict::Refused(fault, line) = verdict {
-        let out = recording::refusal_line(fault, line);
-        tell(err, &out);
+fn tell_verdict(err: &impl Print, verdict: Result<(), Refusal>) {
+    if let Err(refusal) = verdict {
+        tell(err, &recording::refusal_line(refusal.fault, refusal.line));
     }
 }
 
 // Nothing is refused here: what a replay leaves is consistent, and the area always has room.
 fn print_text(rt: &impl Print, err: &impl Print, registry: Registry) {
-    let mut area = [0u8; TEXT];
-    let written = order_text::write(registry, &mut area);
-    if rt.write_all(&area[..written.bytes]).is_err() {
+    let mut area = [0; TEXT];
+    let Ok(bytes) = order_text::write(registry, &mut area) else {
+        return;
+    };
+    if rt.write_all(&area[..bytes]).is_err() {
         tell(err, b"handover: the output can't be written\n");
     }
 }
 
 fn hand_over(rt: &impl Print, err: &impl Print, table: &[u8], calls: &[u8]) {
-    let mut answers = [0u8; ANSWERS];
+    let mut answers = [0; ANSWERS];
     let replayed = recording::replay(Form::ByValue, table, calls, &mut answers);
-    let verdict = replayed.verdict;
-    let registry = replayed.registry;
-    tell_verdict(err, verdict);
+    tell_verdict(err, replayed.verdict);
     if replayed.end < calls.len() {
-        let out = recording::end_line(replayed.end);
-        tell(err, &out);
+        tell(err, &recording::end_line(replayed.end));
     }
-    print_text(rt, err, registry);
+    print_text(rt, err, replayed.registry);
 }
 
 fn main(rt: HostRuntime) {
     let err = rt.stderr();
-    let mut table = [0u8; TABLE];
-    let mut calls = [0u8; LIST_AREA];
+    let mut table = [0; TABLE];
+    let mut calls = [0; LIST_AREA];
     let n = text_files::read_or_tell(&rt, &err, b"handover", b"table.txt", &mut table);
     let m = text_files::read_list(&rt, &err, b"handover", b"calls.txt", &mut calls);
     hand_over(&rt, &err, &table[..n], &calls[..m]);

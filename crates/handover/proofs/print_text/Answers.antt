@@ -8,10 +8,10 @@ use Rattle.handover.proofs.print_text.Goals as goal
 
 pub slice_bounds-area-end : goal.slice_bounds-area-end
 slice_bounds-area-end g c =
-    let few = under-zeros handover_most c.write-written.result.bytes (bytes-within c.write-written.ensures) in
-    omega (arith, few, c.write-written.auto.area)
+    let few = under-zeros handover_most c.in-Ok.bytes (bytes-within c.in-Ok.ensures) in
+    omega (arith, few, c.write.auto.area)
 
 pub slice_bounds-write_all-end : goal.slice_bounds-write_all-end
 slice_bounds-write_all-end g c =
-    let few = under-zeros handover_most c.write-written.result.bytes (bytes-within c.write-written.ensures) in
-    sym (length-take-le c.write-written.result.bytes c.write-written.new.area (omega (arith, few, c.write-written.auto.area)))
+    let few = under-zeros handover_most c.in-Ok.bytes (bytes-within c.in-Ok.ensures) in
+    sym (length-take-le c.in-Ok.bytes c.write.new.area (omega (arith, few, c.write.auto.area)))
