@@ -6,7 +6,7 @@ ghost use Rattle.model.specs.WithFlow.{together};
 ghost use Rattle.units.specs.View.{aggregate_of, AtSource};
 ghost use Rattle.figures.specs.View.{frame_position, figure_numbers, figure_at, Below, LimitedShare, figure_stored, Hops, PathAdded, PathCounted, PathChanged, HopRemoved, PathRemoved, FrameRaised};
 
-use crate::shares::{changed_at, sum_past};
+use crate::shares::{changed_at, share_at, sum_past};
 use crate::{BURST, FRAME, OWN_NUMBERS};
 use units::{Aggregate, Bytes, Micros};
 
@@ -32,7 +32,7 @@ pub fn add_path(share: Aggregate, table: &[u32], entries: &[u32], figures: &mut 
     let mut sum = Micros(0);
     for &entry in entries {
         let e = entry as usize;
-        add_hop(e, share.grown(sum), figures);
+        add_hop(e, share_at(share, sum), figures);
         sum = sum_past(sum, e, table);
     }
 }
@@ -103,7 +103,7 @@ pub fn remove_path(share: Aggregate, table: &[u32], entries: &[u32], figures: &m
     let mut again = false;
     for &entry in entries {
         let e = entry as usize;
-        again |= remove_hop(e, share.grown(sum), figures);
+        again |= remove_hop(e, share_at(share, sum), figures);
         sum = sum_past(sum, e, table);
     }
     again

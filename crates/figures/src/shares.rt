@@ -21,13 +21,21 @@ pub(crate) fn sum_past(sum: Micros, e: usize, table: &[u32]) -> Micros
     Micros(sum.0 + hop_growth(queue.threshold, link.speed).0)
 }
 
+// A flow's share at a hop, of which `share` is the one at its source. S over the hops before is `sum`.
+pub(crate) fn share_at(share: Aggregate, sum: Micros) -> Aggregate
+    requires { AtSource (aggregate_of share) × (sum.0 ≤ thresholds_most) }
+    ensures { aggregate_of result ≡ grown (aggregate_of share) sum.0 }
+{
+    share.grown(sum)
+}
+
 // The figures of queue e with a flow counted in there, whose share at its source is `share`. S over the hops before is `sum`.
 pub(crate) fn counted_at(share: Aggregate, sum: Micros, e: usize, figures: &[u64]) -> Aggregate
     requires at_source { AtSource (aggregate_of share) × (sum.0 ≤ thresholds_most) }
     requires e_lt_queues_most { (e < queues_most) × Limited figures.now }
     ensures { aggregate_of result ≡ counted_at (aggregate_of share) figures.now e sum.0 }
 {
-    figure(e, figures).with_flow(share.grown(sum))
+    figure(e, figures).with_flow(share_at(share, sum))
 }
 
 // Figures with a flow counted by `share` in place of `was`. The largest frame stays.
@@ -57,5 +65,5 @@ pub(crate) fn changed_at(
     requires room_at { RoomAt (aggregate_of was) figures.now e sum.0 }
     ensures { aggregate_of result ≡ changed_at (aggregate_of was) (aggregate_of share) figures.now e sum.0 }
 {
-    replaced(figure(e, figures), was.grown(sum), share.grown(sum))
+    replaced(figure(e, figures), share_at(was, sum), share_at(share, sum))
 }
