@@ -7,9 +7,10 @@
 // of order lines: code in 3 columns, bytes in 6, then the whole area and LF.
 #![tactic(auto)]
 
+ghost use Rattle.std.specs.Prelude.{◌+◌, ◌≤◌, ◌<◌};
+
 use admission::Answer;
-use causes::Finding;
-use columns::{Field, NextLine};
+use causes::Numbers;
 use orders::Kind;
 use queue_table::TABLE_BYTES;
 use registry::Registry;
@@ -28,23 +29,16 @@ fn show(rt: &impl Print, answer: Answer) {
     let _ = rt.write_all(&out);
 }
 
-// A number of an x line, 0 where there is none.
-fn number(field: Field) -> u32 {
-    match field {
-        Field::Number(n) => n,
-        Field::Malformed => 0,
-    }
+// The number in these columns of an x or w line, 0 where there is none.
+fn number(line: &[u8], first: usize, last: usize) -> u32
+    requires { (1 ≤ first) × ((first ≤ last) × (last < first + 9)) }
+{
+    columns::read_at(line, first, last).unwrap_or(0)
 }
 
-fn set(numbers: &mut [u32], index: usize, n: u32) {
+fn set<T: Copy>(numbers: &mut [T], index: usize, n: T) {
     if index < numbers.len() {
         numbers[index] = n;
-    }
-}
-
-fn set_figure(figures: &mut [u64], index: usize, n: u32) {
-    if index < figures.len() {
-        figures[index] = n as u64;
     }
 }
 
@@ -58,122 +52,85 @@ fn set_bit(bits: &mut [u64], index: usize, n: u32) {
     }
 }
 
-fn change(registry: Registry, array: u32, index: usize, n: u32) -> Registry {
-    let mut table = registry.table;
-    let mut bits = registry.bits;
-    let mut store = registry.store;
-    let mut figures = registry.figures;
+fn change(mut registry: Registry, array: u32, index: usize, n: u32) -> Registry {
     match array {
-        0 => set(&mut table, index, n),
-        1 => set_bit(&mut bits, index, n),
-        2 => set(&mut store, index, n),
-        _ => set_figure(&mut figures, index, n),
+        0 => set(&mut registry.table, index, n),
+        1 => set_bit(&mut registry.bits, index, n),
+        2 => set(&mut registry.store, index, n),
+        _ => set(&mut registry.figures, index, u64::from(n)),
     }
-    Registry {
-        table,
-        bits,
-        store,
-        figures,
-    }
+    registry
 }
 
 fn call(rt: &impl Print, registry: Registry, kind: Kind, line: &[u8]) -> Registry {
     let called = registry::step(registry, kind, line);
-    let answer = called.answer;
-    show(rt, answer);
+    show(rt, called.answer);
     called.registry
-}
-
-fn code_of(finding: Finding) -> u32 {
-    match finding {
-        Finding::Nothing => 0,
-        Finding::Against(cause) => causes::numbers_of(cause).code,
-    }
 }
 
 // What the writer says of an area, and what stands in the area then.
 fn show_text(rt: &impl Print, registry: Registry, area: &mut [u8]) {
-    let written = order_text::write(registry, area);
-    let finding = written.finding;
-    let mut out = *b"         \n";
-    columns::write_at(&mut out, 1, 3, columns::wide(code_of(finding)));
-    columns::write_at(&mut out, 4, 9, written.bytes as u64);
-    let _ = rt.write_all(&out);
-    let _ = rt.write_all(&area[..]);
+    let (code, bytes) = match order_text::write(registry, area) {
+        Ok(bytes) => (0, bytes),
+        Err(cause) => (Numbers::from(cause).code, 0),
+    };
+    let _ = println!(rt; "{code:3}{bytes:6}");
+    let _ = rt.write_all(area);
     let _ = rt.write_all(b"\n");
 }
 
 // An area of at most AREA bytes.
 fn hand_over(rt: &impl Print, registry: Registry, size: usize) {
     let mut area = [b'.'; AREA];
-    if AREA < size {
-        return;
+    if size <= AREA {
+        show_text(rt, registry, &mut area[AREA - size..]);
     }
-    let start = AREA - size;
-    show_text(rt, registry, &mut area[start..]);
 }
 
 fn step(rt: &impl Print, registry: Registry, line: &[u8]) -> Registry {
-    if line.len() == 0 {
-        return call(rt, registry, Kind::Register, line);
+    match line {
+        [b'r', rest @ ..] => call(rt, registry, Kind::Release, rest),
+        [b'c', rest @ ..] => call(rt, registry, Kind::Change, rest),
+        [b'w', ..] => {
+            hand_over(rt, registry, number(line, 2, 5) as usize);
+            registry
+        }
+        [b'x', ..] => {
+            let index = number(line, 4, 8) as usize;
+            change(registry, number(line, 2, 3), index, number(line, 9, 17))
+        }
+        _ => call(rt, registry, Kind::Register, line),
     }
-    if line[0] == b'r' {
-        return call(rt, registry, Kind::Release, &line[1..]);
-    }
-    if line[0] == b'c' {
-        return call(rt, registry, Kind::Change, &line[1..]);
-    }
-    if line[0] == b'w' {
-        hand_over(rt, registry, number(columns::read_at(line, 2, 5)) as usize);
-        return registry;
-    }
-    if line[0] != b'x' {
-        return call(rt, registry, Kind::Register, line);
-    }
-    let array = number(columns::read_at(line, 2, 3));
-    let index = number(columns::read_at(line, 4, 8)) as usize;
-    let n = number(columns::read_at(line, 9, 17));
-    change(registry, array, index, n)
 }
 
-fn walk(rt: &impl Print, text: &[u8], empty: Registry) {
-    let mut registry = empty;
+fn walk(rt: &impl Print, text: &[u8], mut registry: Registry) {
     let mut at = 0;
     while at < text.len() {
-        let NextLine::Ended(end) = columns::next_line(text, at) else {
-            step(rt, registry, &text[at..]);
-            return;
-        };
-        let next = end + 1;
+        let next = columns::next_line(text, at).map_or(text.len(), |end| end + 1);
         registry = step(rt, registry, &text[at..next]);
         at = next;
     }
 }
 
 fn judge(rt: &impl Print, table: &[u8], orders: &[u8]) {
-    let opened = registry::open(table);
-    walk(rt, orders, opened.registry);
+    walk(rt, orders, registry::open(table).registry);
 }
 
-// Whether there are such files.
-fn judge_files(rt: &(impl Files + Print), table_name: &[u8], orders_name: &[u8]) -> bool {
-    let mut table = [0u8; TABLE];
-    let Some(n) = text_files::try_read(rt, table_name, &mut table) else {
-        return false;
-    };
-    let mut orders = [0u8; 16384];
-    let Some(m) = text_files::try_read(rt, orders_name, &mut orders) else {
-        return false;
-    };
+// None where there are no such files.
+fn judge_files(rt: &(impl Files + Print), table_name: &[u8], orders_name: &[u8]) -> Option<()> {
+    let mut table = [0; TABLE];
+    let n = text_files::try_read(rt, table_name, &mut table)?;
+    let mut orders = [0; 16384];
+    let m = text_files::try_read(rt, orders_name, &mut orders)?;
     judge(rt, &table[..n], &orders[..m]);
-    true
+    Some(())
 }
 
 fn main(rt: HostRuntime) {
     for k in 0..100u8 {
-        let table_name = [b't', 48 + k / 10, 48 + k % 10];
-        let orders_name = [b'o', 48 + k / 10, 48 + k % 10];
-        if !judge_files(&rt, &table_name, &orders_name) {
+        let table_name = [b't', b'0' + k / 10, b'0' + k % 10];
+        let orders_name = [b'o', b'0' + k / 10, b'0' + k % 10];
+        if judge_files(&rt, &table_name, &orders_name).is_none() {
             return;
         }
     }
