@@ -7,7 +7,7 @@ use mathlib.Core.Bool.{true, ◌&&◌}
 use mathlib.Core.List.{List, ◌∷◌}
 use mathlib.Core.Option.{Option, none, some}
 use native.Mathlib.Omega.{arith}
-use lib.ListN.{get_or, set, get_or-eq_default, take}
+use lib.ListN.{get_or, set, get_or-eq_default}
 use lib.Dec.{ltb}
 use borrow.Author.Tests.{lt-ltb, le-ltb}
 use Rattle.model.specs.Words.{All}
@@ -134,23 +134,23 @@ module _ (table bits store figures : List ℕ) (k : ConsistentArrays table bits 
       ∙ sym (past-burst le)
 
   -- The flow's share and path, read out.
-  module _ (own : Aggregate) (hops : ℕ) (copied : List ℕ) (share-is : own ≡ share_at store slot) (path : take hops copied ≡ entries) where
+  module _ (own : Aggregate) (copied : List ℕ) (share-is : own ≡ share_at store slot) (path : copied ≡ entries) where
     abbrev pub own-share : Aggregate
     own-share = record { rate = given.rate.0; burst = given.burst.0; frame = own.frame }
 
     own-is : own-share ≡ share
     own-is = ap (λ (a : Aggregate). record { rate = given.rate.0; burst = given.burst.0; frame = a.frame }) share-is
 
-    pub path-on-table : OnTable table (take hops copied)
+    pub path-on-table : OnTable table copied
     path-on-table = rw path on-table
 
-    pub found-cause : own.frame ≤ given.burst.0 → (r : Result (Unit {0}) causes.Cause) → ChangeChecked own own-share table figures (take hops copied) r
+    pub found-cause : own.frame ≤ given.burst.0 → (r : Result (Unit {0}) causes.Cause) → ChangeChecked own own-share table figures copied r
         → first_cause (findings s (change c)) ≡ finding_of r
     found-cause le r found_at =
         let frame : own.frame ≡ frame_at store slot = ap (λ (a : Aggregate). a.frame) share-is in
         sym (checked (omega arith) (rw (share-is, path) at found_at))
 
-    pub path-moved : (figures' : List ℕ) → PathChanged own own-share table (take hops copied) figures figures' → PathChanged (share_at store slot) share table entries figures figures'
+    pub path-moved : (figures' : List ℕ) → PathChanged own own-share table copied figures figures' → PathChanged (share_at store slot) share table entries figures figures'
     path-moved figures' moved = rw (share-is, path) at moved
 
     pub own-at-source : change_in_range c ≡ true → AtSource own-share

@@ -8,8 +8,7 @@ use mathlib.Core.List.{List, [], map}
 use mathlib.Core.Option.{none, some}
 use native.Mathlib.Nat.{le_trans}
 use native.Mathlib.Omega.{arith}
-use lib.ListN.{length, set, take, length-map}
-use lib.Seq.{length-take-le}
+use lib.ListN.{length, set, length-map}
 use Rattle.model.specs.Words.{All, every, first_index, is_none}
 use Rattle.model.specs.Sizes.{queues_most, hops_most, slot_count}
 use Rattle.model.specs.Columns.{between}
@@ -43,6 +42,7 @@ use Rattle.flow_store.specs.View.{slots_of, Placeable, Placed}
 use Rattle.flow_store.specs.Laws.{length-slots}
 use Rattle.flow_store.proofs.ViewLaws.{held-hops}
 use Rattle.flow_store.proofs.ScanLaws.{lowest-free}
+use Rattle.path_check.proofs.SearchLaws.{path-long}
 use Rattle.flow_check.specs.View as judged
 use Rattle.figures.specs.View.{Figures, Limited, Hops, Speeds, OnTable, FlowOf, PathAdded, growth_at}
 use Rattle.queue_table.proofs.EntryLaws.{queue-within, queue-low, queue-named}
@@ -152,16 +152,17 @@ module _ (table bits store figures : List ℕ) (k : ConsistentArrays table bits 
             speed-below (table_of table) rules.table (link_in e + 1) _ (link-found table (link_in e) (queue-within table e q).0)
 
   -- The flow of a line that was read, with nothing against its path.
-  module _ (flow : Flow) (hops : List queues.Hop) (entries : List ℕ) (read : LineRead flow hops) (long : length entries ≡ hops_most)
-      (named : judged.PathNamed flow hops table entries) where
+  module _ (flow : Flow) (hops : List queues.Hop) (path : List ℕ) (read : LineRead flow hops) (named : judged.PathNamed flow hops table path) where
     abbrev f : line.Flow
     f = line_flow flow hops
 
-    abbrev path : List ℕ
-    path = take flow.hops entries
+    pub hops-long : length f.path ≡ flow.hops
+    unfolding flow_of
+    hops-long = path-long hops flow.hops (omega (arith, read.long, read.few))
 
     pub path-length : length path ≡ flow.hops
-    path-length = length-take-le flow.hops entries (omega (arith, long, read.few))
+    unfolding flow_of
+    path-length = sym (length-map path hop_at) ∙ ap length named.path ∙ hops-long
 
     range : Ranges f
     range = ranges f read.range
@@ -176,10 +177,6 @@ module _ (table bits store figures : List ℕ) (k : ConsistentArrays table bits 
     pub numbers : AtSource (aggregate_of flow.share)
     unfolding flow_of
     numbers = (range.rate, range.burst, range.frame)
-
-    pub hops-long : length f.path ≡ flow.hops
-    unfolding flow_of
-    hops-long = ap length (sym named.path) ∙ length-map path hop_at ∙ path-length
 
     module _ (room : first_cause (room_findings (slots_of bits store) f) ≡ none) (slot : ℕ) (least : LeastClear bits slot) where
       lowest : slot ≡ first_index is_none (slots_of bits store)

@@ -7,11 +7,11 @@ use mathlib.Core.Bool.{Bool, true, false, false≢true}
 use mathlib.Core.List.{List, ◌∷◌}
 use mathlib.Core.Option.{none, some}
 use native.Mathlib.Omega.{arith}
-use lib.ListN.{length, get_or, set, take}
+use lib.ListN.{length, get_or, set}
 use lib.Dec.{leb}
 use borrow.Author.Tests.{leb-true, leb-false, lt-ltb, le-ltb, eq-eqb, ne_eqb}
 use Rattle.model.specs.Words.{All, first_index}
-use Rattle.model.specs.Sizes.{queues_most, hops_most, slot_count}
+use Rattle.model.specs.Sizes.{queues_most, slot_count}
 use Rattle.model.specs.Formula.{Aggregate}
 use Rattle.model.specs.QueueTable.{Table}
 use Rattle.model.specs.Orders.{Flow, release}
@@ -25,7 +25,7 @@ use Rattle.model.proofs.Laws.Reached.{StateRules, state-rules, rules-state, clea
 use Rattle.units.specs.View.{AtSource}
 use Rattle.queue_table.specs.View.{table_of, hop_at}
 use Rattle.bit_words.specs.View.{is_set}
-use Rattle.flow_store.specs.View.{PackedStore, slots_of, slot_of, rate_at, hops_at, share_at, flow_at, entries_in, flow_in}
+use Rattle.flow_store.specs.View.{PackedStore, slots_of, slot_of, rate_at, share_at, flow_at, entries_in, flow_in}
 use Rattle.flow_store.specs.Laws.{length-slots, slot_at, held-slot}
 use Rattle.figures.specs.View.{Figures, Hops, FlowOf, PathCounted, Carried, Near, PathRemoved, figure_at, raised}
 use Rattle.queue_table.proofs.EntryLaws.{queue-low}
@@ -92,20 +92,17 @@ module _ (table bits store figures : List ℕ) (k : ConsistentArrays table bits 
         record { f = flow; fs = left; named = on slot inside held; is = is; exact = with-flow }
 
     -- Its share and its path, read out.
-    module _ (own : Aggregate) (hops : ℕ) (copied : List ℕ) (share-is : own ≡ share_at store slot) (count : hops ≡ hops_at store slot) (path : take hops copied ≡ entries) where
-      pub few : hops ≤ hops_most
-      few = omega (arith, count, ranged.few)
-
+    module _ (own : Aggregate) (copied : List ℕ) (share-is : own ≡ share_at store slot) (path : copied ≡ entries) where
       pub share-ranged : AtSource own
       share-ranged = subst AtSource (sym share-is) ranged.share
 
-      pub path-ranged : Hops table (take hops copied)
+      pub path-ranged : Hops table copied
       path-ranged = rw path ranged.hops
 
-      pub path-counted : PathCounted own table (take hops copied) figures
+      pub path-counted : PathCounted own table copied figures
       path-counted = rw (share-is, path) counted
 
-      pub path-removed : (figures' : List ℕ) (again : Bool) → PathRemoved own table (take hops copied) figures figures' again → PathRemoved (share_at store slot) table entries figures figures' again
+      pub path-removed : (figures' : List ℕ) (again : Bool) → PathRemoved own table copied figures figures' again → PathRemoved (share_at store slot) table entries figures figures' again
       path-removed figures' again left = rw (share-is, path) at left
 
     -- The slot is empty.

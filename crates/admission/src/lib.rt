@@ -15,7 +15,7 @@ ghost use Rattle.flow_store.specs.View.{slots_of};
 ghost use Rattle.admission.specs.View.{LineRead, OrderRead, ConsistentArrays, Stepped};
 
 use causes::Cause;
-use orders::{Change, Flow, MOST_HOPS, Order, Unread};
+use orders::{Change, Flow, Order, Unread};
 use queue_table::Hop;
 use units::Aggregate;
 
@@ -35,12 +35,12 @@ fn register_flow(
     requires consistent_arrays { ConsistentArrays table.now bits.old store.old figures.old }
     ensures { Stepped (register (line_flow flow hops.now)) table.now bits.old store.old bits.new store.new figures.new result }
 {
-    let entries = flow_check::judge_flow(flow, hops, table, &bits[..], &store[..])?;
+    let path = flow_check::judge_flow(flow, hops, table, &bits[..], &store[..])?;
+    let entries = path.entries();
     let slot = flow_check::judge_room(flow.hops, &bits[..], &store[..])?;
-    let path = &entries[..flow.hops as usize];
-    figures::check_links(flow.share, table, &figures[..], path)?;
-    flow_store::insert(slot, flow, path, bits, store);
-    figures::add_path(flow.share, table, path, figures);
+    figures::check_links(flow.share, table, &figures[..], entries)?;
+    flow_store::insert(slot, flow, entries, bits, store);
+    figures::add_path(flow.share, table, entries, figures);
     Ok(slot as u32 + 1)
 }
 
@@ -52,10 +52,9 @@ fn take_out(slot: usize, table: &[u32], bits: &mut [u64], store: &mut [u32], fig
     ensures consistent_arrays_2 { ConsistentArrays table.now bits.new store.new figures.new }
 {
     let flow = flow_store::flow_at(slot, &store[..]);
-    let mut entries = [0; MOST_HOPS];
-    let hops = flow_store::path_into(slot, &store[..], &mut entries);
+    let path = flow_store::path_at(slot, &store[..]);
     flow_store::remove(slot, bits, store);
-    if figures::remove_path(flow.share, table, &entries[..hops], figures) {
+    if figures::remove_path(flow.share, table, path.entries(), figures) {
         recount::raise_frames(&bits[..], &store[..], figures);
     }
 }
@@ -99,12 +98,11 @@ fn change_held(
         burst: given.burst,
         frame: was.frame,
     };
-    let mut entries = [0; MOST_HOPS];
-    let hops = flow_store::path_into(held, &store[..], &mut entries);
-    let path = &entries[..hops];
-    figures::check_change(was, share, table, &figures[..], path)?;
+    let path = flow_store::path_at(held, &store[..]);
+    let entries = path.entries();
+    figures::check_change(was, share, table, &figures[..], entries)?;
     flow_store::change(held, given, store);
-    figures::change_path(was, share, table, path, figures);
+    figures::change_path(was, share, table, entries, figures);
     Ok(held as u32 + 1)
 }
 

@@ -4,7 +4,7 @@ use mathlib.Core.Path.{◌≡◌, sym, ap, subst, ◌∙◌}
 use mathlib.Core.List.{List, [], map}
 use mathlib.Core.Option.{none}
 use native.Mathlib.Omega.{arith}
-use lib.ListN.{length, take}
+use lib.ListN.{length}
 use Rattle.std.specs.Prelude.{Result, Ok, Err, MatchResult, IsErrAnd}
 use Rattle.model.specs.Sizes.{hops_most}
 use Rattle.model.specs.Orders.{Hop}
@@ -55,7 +55,7 @@ module _ (f : Flow) (hops : List queues.Hop) (table : List ℕ) (long : length h
     pub path-found : PathLocated table hops f.hops (Ok entries)
     path-found = subst (PathLocated table hops f.hops) (found located told) at
 
-    module _ (r : Result (Unit {0}) Cause) (judged : finding_of r ≡ first_cause (entry_findings (table_of table) f.deadline.0 (map hop_at (take f.hops entries)))) where
+    module _ (r : Result (Unit {0}) Cause) (judged : finding_of r ≡ first_cause (entry_findings (table_of table) f.deadline.0 (map hop_at entries))) where
       first : finding_of r ≡ first_cause (entry_findings (table_of table) f.deadline.0 (line_path hops f.hops))
       first = judged ∙ ap (λ (p : List Hop). first_cause (entry_findings (table_of table) f.deadline.0 p)) path-found.named
 

@@ -1,5 +1,5 @@
 -- What the answers of this crate say in the terms of the model.
-use Rattle.std.specs.Prelude.{ℕ, ◌+◌, ◌/◌, ◌≤◌, ◌≡◌, Bool, true, ◌&&◌, List, [], ◌∷◌, ◌++◌, map, length, take, leb, ltb, eqb, Result, Ok, Err, IfOk}
+use Rattle.std.specs.Prelude.{ℕ, ◌+◌, ◌/◌, ◌≤◌, ◌≡◌, Bool, true, ◌&&◌, List, [], ◌∷◌, ◌++◌, map, length, leb, ltb, eqb, Result, Ok, Err, IfOk}
 use Rattle.std.proofs.Math.Option.{Option, none, some}
 use Rattle.model.specs.Words.{first_index, is_none}
 use Rattle.model.specs.Sizes.{number_most}
@@ -31,8 +31,8 @@ path_findings t deadline path = model-causes.at_hop 14 (model-causes.no_queue t)
 
 -- The entries name the path, queue by queue, and no link comes twice.
 pub record PathNamed (f : Flow) (hops : List Hop) (table entries : List ℕ) : Type 0 where
-  pub path : map hop_at (take f.hops entries) ≡ line_path hops f.hops
-  pub queues : AllQueues table (take f.hops entries)
+  pub path : map hop_at entries ≡ line_path hops f.hops
+  pub queues : AllQueues table entries
   pub once : model-causes.at_hop 16 model-causes.met_earlier [] (line_path hops f.hops) ≡ none
 
 -- What was found against a flow, none where it stands.

@@ -18,7 +18,7 @@ ghost use Rattle.flow_check.specs.View.{entry_findings, PathJudged, FlowJudged, 
 
 use causes::Cause;
 use flow_store::{POOL, SLOTS};
-use orders::{Flow, MOST_HOPS, MOST_NUMBER};
+use orders::{Flow, MOST_HOPS, MOST_NUMBER, Path};
 use queue_table::Hop;
 use units::Micros;
 
@@ -46,27 +46,26 @@ fn judge_entries(deadline: Micros, table: &[u32], entries: &[u32]) -> Result<(),
 }
 
 // 14, then 16, 15 and 20, over the hops of an order line.
-fn judge_path(flow: Flow, hops: &[Hop], table: &[u32]) -> Result<[u32; MOST_HOPS], Cause>
+fn judge_path(flow: Flow, hops: &[Hop], table: &[u32]) -> Result<Path, Cause>
     requires { WellFormed table.now × (length hops.now ≡ hops_most) × (flow.hops ≤ hops_most) }
     ensures { PathJudged flow hops.now table.now result }
 {
-    let count = flow.hops as usize;
-    let entries = path_check::locate(table, hops, count).map_err(|at| Cause::NoQueue(
+    let path = path_check::locate(table, hops, flow.hops as usize).map_err(|at| Cause::NoQueue(
         hops[at].link,
         hops[at].level,
     ))?;
-    judge_entries(flow.deadline, table, &entries[..count])?;
-    Ok(entries)
+    judge_entries(flow.deadline, table, path.entries())?;
+    Ok(path)
 }
 
-// 12, 17, 14, 16, 15 and 20: what is against a flow by itself, or the entries of its path.
+// 12, 17, 14, 16, 15 and 20: what is against a flow by itself, or its path.
 pub fn judge_flow(
     flow: Flow,
     hops: &[Hop],
     table: &[u32],
     bits: &[u64],
     store: &[u32],
-) -> Result<[u32; MOST_HOPS], Cause>
+) -> Result<Path, Cause>
     requires { WellFormed table.now × (length hops.now ≡ hops_most) × (flow.hops ≤ hops_most) × (length bits.now ≡ slot_words) × (length store.now ≡ store_numbers) }
     ensures { FlowJudged flow hops.now table.now bits.now store.now result }
 {

@@ -18,7 +18,7 @@ ghost use Rattle.orders.specs.View.{change_of, fields_of};
 ghost use Rattle.bit_words.specs.View.{is_set, LeastClear};
 ghost use Rattle.flow_store.specs.View.{store_numbers, slot_words, block_slots, hops_at, start_at, head_at, share_at, entries_in, slots_of, counts_from, Packed, PackedStore, PathInside, end_before, flow_stored, StartsMoved, path_inserted, path_removed, Narrow, ChangeNarrow, Placeable, Placed, FreeFrom, OthersFrom, FoundSlot};
 
-use orders::{Change, Flow};
+use orders::{Change, Flow, Path};
 use units::{Aggregate, Bytes, Micros, Rate};
 
 // How many slots there are, a multiple of BLOCK and of a word's bits, and how many hop entries for all of them together.
@@ -284,15 +284,13 @@ pub fn change(slot: usize, given: Change, store: &mut [u32])
     store[BURSTS + slot] = given.burst.0 as u32;
 }
 
-// Copies the path of a held slot to the front of `entries` and answers its hop count. What stands behind it then is free.
-pub fn path_into(slot: usize, store: &[u32], entries: &mut [u32]) -> usize
-    requires { (length store.now ≡ store_numbers) × (slot < slot_count) × PathInside store.now slot × (hops_at store.now slot ≤ hops_most) × (length entries.old ≡ hops_most) }
-    ensures value { result ≡ hops_at store.now slot }
-    ensures entries_after { take result entries.new ≡ entries_in store.now slot }
+// A copy of the path of a held slot.
+pub fn path_at(slot: usize, store: &[u32]) -> Path
+    requires { (length store.now ≡ store_numbers) × (slot < slot_count) × PathInside store.now slot × (hops_at store.now slot ≤ hops_most) }
+    ensures value { length result ≡ hops_at store.now slot }
+    ensures entries_value { result ≡ entries_in store.now slot }
 {
-    let path = path_of(slot, store);
-    entries[..path.len()].copy_from_slice(path);
-    path.len()
+    Path::from_slice(path_of(slot, store))
 }
 
 // Takes the `hops` entries at position `start` out of a pool that is held up to `end`.

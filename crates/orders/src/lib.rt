@@ -1,6 +1,8 @@
 // What an order line says (document 01, "Columns", order lines).
 #![tactic(auto)]
 
+mod path;
+
 ghost use Rattle.std.specs.Prelude.{◌≡◌, List, ◌≤◌};
 ghost use Rattle.model.specs.Sizes.{hops_most};
 ghost use Rattle.model.specs.Columns.{field_at, lines};
@@ -10,6 +12,7 @@ ghost use Rattle.queue_table.specs.declared.access.Hop.{Hop};
 ghost use Rattle.orders.specs.declared.Unread.TheVariants.{OutOfRange};
 ghost use Rattle.orders.specs.View.{kind_of, kind_in, change_of, order_with, order_of, hops_fit, fields_of, source_of, head_of, hop_of, path_of};
 
+pub use path::Path;
 use queue_table::Hop;
 use units::{Aggregate, Bytes, Micros, Rate};
 

@@ -2,14 +2,14 @@
 -- Assumes nothing.
 use Prim.Native.Nat.{ℕ, ◌+◌, ◌≤◌, ◌<◌}
 use Rattle.std.specs.Prelude.{Ok, Err}
-use mathlib.Core.Path.{◌≡◌, sym, ap, ap₂, subst, ◌∙◌}
+use mathlib.Core.Path.{◌≡◌, sym, ap, ap₂, ◌∙◌}
 use mathlib.Core.Bool.{true, not}
 use mathlib.Core.List.{List, [], ◌∷◌, ◌++◌, map, map-append}
 use mathlib.Core.Option.{none}
 use native.Mathlib.Omega.{arith}
 use native.Mathlib.Numerals.{add-one}
-use lib.ListN.{length, take, set, length-set}
-use lib.Seq.{take-suc, take-suc-set}
+use lib.ListN.{length, take, length-append}
+use lib.Seq.{take-suc}
 use Rattle.model.specs.Words.{is_none}
 use Rattle.model.specs.Sizes.{hops_most}
 use Rattle.model.specs.Orders.{Hop}
@@ -27,10 +27,10 @@ use Rattle.path_check.proofs.SearchLaws.{found_at, path-long, path-hop}
 
 -- What holds before hop i.
 pub record Locating (table : List ℕ) (hops : List queues.Hop) (count : ℕ) (entries : List ℕ) (i : ℕ) : Type 0 where
-  pub size : length entries ≡ hops_most
+  pub size : length entries ≡ i
   pub within : i ≤ count
-  pub named : map hop_at (take i entries) ≡ take i (hops_in hops)
-  pub queues : AllQueues table (take i entries)
+  pub named : map hop_at entries ≡ take i (hops_in hops)
+  pub queues : AllQueues table entries
   pub left : at_hop 14 (no_queue (table_of table)) [] (line_path hops count)
       ≡ search_from 14 (no_queue (table_of table)) (line_path hops count) i
 
@@ -39,26 +39,22 @@ module _ (table : List ℕ) (hops : List queues.Hop) (count : ℕ) (long : lengt
   within-hops = omega arith
 
   module _ (entries : List ℕ) (i : ℕ) (at : Locating table hops count entries i) where
-    named-next : (e : ℕ) → i < count → hop_at e ≡ hop_in hops i → map hop_at (take (i + 1) (set entries i e)) ≡ take (i + 1) (hops_in hops)
+    named-next : (e : ℕ) → i < count → hop_at e ≡ hop_in hops i → map hop_at (entries ++ (e ∷ [])) ≡ take (i + 1) (hops_in hops)
     named-next e h names =
         rw (add-one i)
-        (ap (λ (m : List ℕ). map hop_at m) (take-suc-set entries i e (omega (arith, at.size)))
-        ∙ map-append hop_at (take i entries) (e ∷ [])
+        (map-append hop_at entries (e ∷ [])
         ∙ ap₂ (λ (m : List Hop) (x : Hop). m ++ (x ∷ [])) at.named (names ∙ sym (hops-at hops i (hop_in hops i) (omega arith)))
         ∙ sym (take-suc (hops_in hops) i (hop_in hops i) (omega (arith, hops-long hops))))
 
     -- One hop more.
     pub locating-next : (e : ℕ) → i < count → hop_at e ≡ hop_in hops i → is_queue table e ≡ true
-        → Locating table hops count (set entries i e) (i + 1)
+        → Locating table hops count (entries ++ (e ∷ [])) (i + 1)
     locating-next e h names queue =
         record {
-          size = length-set entries i e ∙ at.size;
+          size = omega (arith, at.size, length-append entries (e ∷ []));
           within = omega arith;
           named = named-next e h names;
-          queues =
-              rw (add-one i)
-              (subst (AllQueues table) (sym (take-suc-set entries i e (omega (arith, at.size))))
-              (all_append (λ x. is_queue table x ≡ true) (take i entries) (e ∷ []) at.queues (queue, tt)));
+          queues = all_append (λ x. is_queue table x ≡ true) entries (e ∷ []) at.queues (queue, tt);
           left =
               at.left
               ∙ search-on 14 (no_queue (table_of table)) (line_path hops count) i (hop_in hops i) (omega (arith, path-long hops count within-hops))
@@ -85,5 +81,5 @@ module _ (table : List ℕ) (hops : List queues.Hop) (count : ℕ) (long : lengt
           first = at.left ∙ search-ended 14 (no_queue (table_of table)) (line_path hops count) i (omega (arith, path-long hops count within-hops));
           within = tt;
           named = rw e at at.named;
-          queues = rw e at at.queues;
+          queues = at.queues;
         }

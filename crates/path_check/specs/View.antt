@@ -34,9 +34,9 @@ EntryOf table h None = queue_at (table_of table) h ≡ none
 abbrev pub earlier_than : (entries : List ℕ) (i : ℕ) → List Hop
 earlier_than entries i = reverse (take i (map hop_at entries))
 
--- `Ok` where each hop has a queue, with the entries that name the path, and those behind it free; else the index of the first hop without one.
+-- `Ok` where each hop has a queue, with the entries that name the path; else the index of the first hop without one.
 pub record PathLocated (table : List ℕ) (hops : List queues.Hop) (count : ℕ) (r : Result (List ℕ) ℕ) : Type 0 where
   pub first : at_hop 14 (no_queue (table_of table)) [] (line_path hops count) ≡ found_cause 14 (line_path hops count) (result_err r)
   pub within : IfErr r (λ i. i < count)
-  pub named : IfOk r (λ entries. map hop_at (take count entries) ≡ line_path hops count)
-  pub queues : IfOk r (λ entries. AllQueues table (take count entries))
+  pub named : IfOk r (λ entries. map hop_at entries ≡ line_path hops count)
+  pub queues : IfOk r (AllQueues table)

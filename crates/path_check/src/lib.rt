@@ -13,7 +13,7 @@ ghost use Rattle.queue_table.specs.View.{table_numbers, table_of, hop_at, is_que
 ghost use Rattle.orders.specs.View.{hop_named};
 ghost use Rattle.path_check.specs.View.{delay_at, found_cause, EntryOf, PathLocated};
 
-use orders::MOST_HOPS;
+use orders::Path;
 use queue_table::Hop;
 use units::Micros;
 
@@ -34,16 +34,17 @@ fn entry_of(table: &[u32], hop: Hop) -> Option<u32>
     Some(queue_table::entry_at(i, j as usize) as u32)
 }
 
-// 14 no such queue, over the hops of an order line: the entries of the path, or the index of the first hop without a queue.
-pub fn locate(table: &[u32], hops: &[Hop], count: usize) -> Result<[u32; MOST_HOPS], usize>
+// 14 no such queue, over the hops of an order line: the path, or the index of the first hop without a queue.
+pub fn locate(table: &[u32], hops: &[Hop], count: usize) -> Result<Path, usize>
     requires { WellFormed table.now × (length hops.now ≡ hops_most) × (count ≤ hops_most) }
     ensures { PathLocated table.now hops.now count result }
 {
-    let mut entries = [0u32; MOST_HOPS];
+    let mut path = Path::new();
     for i in 0..count {
-        entries[i] = entry_of(table, hops[i]).ok_or(i)?;
+        let entry = entry_of(table, hops[i]).ok_or(i)?;
+        path.push(entry);
     }
-    Ok(entries)
+    Ok(path)
 }
 
 // Whether no entry is against 14.

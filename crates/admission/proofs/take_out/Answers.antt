@@ -1,44 +1,25 @@
 -- `admission::take_out` meets its contract: the flow was counted in, so that its path can be taken out, and what is left is right.
-use borrow.Author.Rules.{rules, length_unmapped}
-use mathlib.Core.Path.{◌≡◌, refl, sym}
-use native.Mathlib.Omega.{arith}
-use lib.ListN.{length}
-use lib.Seq.{length-take-le}
-use Rattle.model.specs.Sizes.{hops_most}
+use mathlib.Core.Path.{◌∙◌}
 use Rattle.flow_store.proofs.ViewLaws.{path_inside, readable}
-use Rattle.admission.proofs.ReleaseLaws.{ranged, few, share-ranged, path-ranged, path-counted, path-removed, entries-low-left, kept-left, kept-raised}
+use Rattle.admission.proofs.ReleaseLaws.{ranged, share-ranged, path-ranged, path-counted, path-removed, entries-low-left, kept-left, kept-raised}
 use Rattle.admission.proofs.take_out.Goals as goal
 
-pub path_into-hops-requires : goal.path_into-hops-requires
-path_into-hops-requires c =
+pub path_at-path-requires : goal.path_at-path-requires
+path_at-path-requires c =
     let kept = c.requires.consistent_arrays in
     let (inside, held) = c.requires.slot_lt_slot_count in
-    (kept.stored.store_long, inside, path_inside _ _ kept.stored.packed c.args.slot inside held, (ranged _ _ _ _ kept c.args.slot inside held).few, refl)
-
-pub slice_bounds-entries-end : goal.slice_bounds-entries-end
-slice_bounds-entries-end c =
-    let (inside, held) = c.requires.slot_lt_slot_count in
-    let long : length c.path_into-hops.new.entries ≡ hops_most = search (rules, length_unmapped) in
-    omega (arith, long, few _ _ _ _ c.requires.consistent_arrays c.args.slot inside held _ _ _ c.flow_at-flow.ensures.share_value c.path_into-hops.ensures.value c.path_into-hops.ensures.entries_after)
-
-pub slice_bounds-remove_path-end : goal.slice_bounds-remove_path-end
-slice_bounds-remove_path-end c =
-    let (inside, held) = c.requires.slot_lt_slot_count in
-    let long : length c.path_into-hops.new.entries ≡ hops_most = search (rules, length_unmapped) in
-    let count = few _ _ _ _ c.requires.consistent_arrays c.args.slot inside held _ _ _ c.flow_at-flow.ensures.share_value c.path_into-hops.ensures.value c.path_into-hops.ensures.entries_after in
-    sym (length-take-le c.path_into-hops.result c.path_into-hops.new.entries (omega (arith, long, count)))
+    (kept.stored.store_long, inside, path_inside _ _ kept.stored.packed c.args.slot inside held, (ranged _ _ _ _ kept c.args.slot inside held).few)
 
 pub remove_path-requires : goal.remove_path-requires
 remove_path-requires c =
     let (inside, held) = c.requires.slot_lt_slot_count in
     let kept = c.requires.consistent_arrays in
     let share = c.flow_at-flow.ensures.share_value in
-    let count = c.path_into-hops.ensures.value in
-    let path = c.path_into-hops.ensures.entries_after in
+    let path = c.entries.ensures ∙ c.path_at-path.ensures.entries_value in
     record {
-      at_source = share-ranged _ _ _ _ kept c.args.slot inside held _ _ _ share count path;
-      hops = path-ranged _ _ _ _ kept c.args.slot inside held _ _ _ share count path;
-      path_counted = path-counted _ _ _ _ kept c.args.slot inside held _ _ _ share count path;
+      at_source = share-ranged _ _ _ _ kept c.args.slot inside held _ _ share path;
+      hops = path-ranged _ _ _ _ kept c.args.slot inside held _ _ share path;
+      path_counted = path-counted _ _ _ _ kept c.args.slot inside held _ _ share path;
     }
 
 pub raise_frames-requires : goal.raise_frames-requires
@@ -55,7 +36,7 @@ returns-then-remove_path-clause-consistent_arrays_2 c =
     let (inside, held) = c.requires.slot_lt_slot_count in
     let kept = c.requires.consistent_arrays in
     let gone = c.remove.ensures in
-    let removed = path-removed _ _ _ _ kept c.args.slot inside held _ _ _ c.flow_at-flow.ensures.share_value c.path_into-hops.ensures.value c.path_into-hops.ensures.entries_after _ _ c.remove_path.ensures in
+    let removed = path-removed _ _ _ _ kept c.args.slot inside held _ _ c.flow_at-flow.ensures.share_value (c.entries.ensures ∙ c.path_at-path.ensures.entries_value) _ _ c.remove_path.ensures in
     kept-raised _ _ _ _ kept c.args.slot inside held gone.store_after gone.packed_store removed c.raise_frames.ensures
 
 pub returns-else-remove_path-clause-consistent_arrays_2 : goal.returns-else-remove_path-clause-consistent_arrays_2
@@ -63,5 +44,5 @@ returns-else-remove_path-clause-consistent_arrays_2 c =
     let (inside, held) = c.requires.slot_lt_slot_count in
     let kept = c.requires.consistent_arrays in
     let gone = c.remove.ensures in
-    let removed = path-removed _ _ _ _ kept c.args.slot inside held _ _ _ c.flow_at-flow.ensures.share_value c.path_into-hops.ensures.value c.path_into-hops.ensures.entries_after _ _ c.remove_path.ensures in
+    let removed = path-removed _ _ _ _ kept c.args.slot inside held _ _ c.flow_at-flow.ensures.share_value (c.entries.ensures ∙ c.path_at-path.ensures.entries_value) _ _ c.remove_path.ensures in
     kept-left _ _ _ _ kept c.args.slot inside held gone.store_after gone.packed_store removed c.if-remove_path.false

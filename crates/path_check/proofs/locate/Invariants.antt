@@ -4,4 +4,4 @@ use Rattle.path_check.proofs.LocateLaws.{Locating}
 use Rattle.path_check.proofs.locate.Given as goal
 
 abbrev pub invariant-loop-i : goal.invariant-loop-i
-invariant-loop-i l = Locating l.table l.hops l.count l.entries l.i
+invariant-loop-i l = Locating l.table l.hops l.count l.path l.i
