@@ -17,6 +17,7 @@ use causes::Cause;
 use columns::LF;
 use figures::FIGURE_NUMBERS;
 use flow_store::{SLOT_WORDS, STORE_NUMBERS};
+use orders::OrderLine;
 use queue_table::TABLE_NUMBERS;
 
 // How many bytes and lines an order text has at the most.
@@ -128,9 +129,10 @@ fn answer_next(
             next: orders.len(),
         };
     };
-    let line = orders::read_order(&orders[at..end]);
+    // Taken apart at once: a line kept whole would go through memory.
+    let OrderLine { order, hops } = orders::read_order(&orders[at..end]);
     Advance {
-        answer: admission::apply(line.order, &line.hops, table, bits, store, figures),
+        answer: admission::apply(order, &hops, table, bits, store, figures),
         next: end + 1,
     }
 }

@@ -24,7 +24,7 @@ returns-in_default c =
 
 pub apply-requires-clause-order_read : goal.apply-requires-clause-order_read
 apply-requires-clause-order_read c =
-    let line = c.read_order-line in
+    let line = c.read_order-order in
     order-read line.result.hops line.result.order (search rules) line.ensures.hops_fit
     (subst (λ (o : model.Order). Ranged o) (sym line.ensures.result_value) (line-ranged (take (c.in-Some.end - c.args.at) (drop c.args.at c.args.orders.now))))
 
@@ -34,4 +34,4 @@ returns c =
     let found = c.in-Some.ensures in
     let line = take (c.in-Some.end - c.args.at) (drop c.args.at c.args.orders.now) in
     line-done c.args.orders.now c.args.at _ _ _ _ _ _ _ c.apply.result (ended line)
-    (stepped_same c.read_order-line.ensures.result_value c.apply.ensures) found.same (omega (arith, found.within.0)) (omega (arith, found.within.1))
+    (stepped_same c.read_order-order.ensures.result_value c.apply.ensures) found.same (omega (arith, found.within.0)) (omega (arith, found.within.1))
