@@ -1,14 +1,11 @@
 -- Where paths start and end in the pool, read from a held slot's own start and hop count.
 -- Assumes nothing.
-use Rattle.std.proofs.Common.{◌≡◌, ℕ, zero, suc, ◌+◌, ◌-◌, ◌%◌, ◌^◌, ◌<◌, ◌≤◌, true, false, List, length, get_or, sym, refl, ap, ◌∙◌, subst, true≢false, add-one, arith, take, length-take-le, length-append, length-drop}
+use Rattle.std.proofs.Common.{◌≡◌, ℕ, zero, suc, ◌+◌, ◌-◌, ◌%◌, ◌^◌, ◌<◌, ◌≤◌, true, false, List, length, get_or, set, sym, refl, ap, ◌∙◌, subst, true≢false, add-one, arith, length-set, get_or-set_other, get_or-set_same, drop-set-lt}
+use native.Mathlib.Decide.{dec_lt}
 use Rattle.model.specs.Sizes.{slot_count, hop_entries}
 use Rattle.model.proofs.Laws.List.{before-next}
 use Rattle.bit_words.specs.View.{is_set}
-use Rattle.flow_store.specs.View.{slot_numbers, store_numbers, start_position, start_at, hops_at, counts_from, Packed, StartsMoved, end_before}
-use borrow.Rule.Slice.PartMut.{put_mid}
-use borrow.Author.Rules.{rules}
-use Rattle.std.proofs.lemmas.List.{places}
-use Rattle.std.proofs.lemmas.Slice.{drop-put_mid}
+use Rattle.flow_store.specs.View.{slot_numbers, store_numbers, start_position, pool_of, start_at, hops_at, counts_from, Packed, StartsMoved, end_before}
 use Rattle.flow_store.proofs.PoolLaws.{pooled}
 use Rattle.flow_store.proofs.ViewLaws.{counts-split, counts-one, counts-around, count-free, count_held}
 
@@ -79,26 +76,52 @@ module _ (bits store : List ℕ) where
   path-past {i} {end} p inside held over packed =
       omega (arith, p.counted, count_held bits store i held, counts-around bits store slot_count i inside, packed.fits)
 
--- The starts from slot `from` on, as a part that is lent, have moved by `by`.
-module _ (from by : ℕ) (store starts : List ℕ) (inside : from ≤ slot_count) (long : length store ≡ store_numbers)
-    (same : length starts ≡ slot_numbers - start_position from)
-    (sum : (k : ℕ) → k < length starts → get_or starts k 0 ≡ (get_or store (start_position from + k) 0 + by) % 2 ^ 32) where
-  abbrev store' : List ℕ
-  store' = put_mid (start_position from) (slot_numbers - start_position from) store starts
+-- The starts from slot `from` on, up to position `end`, have moved by `by`, and nothing else has.
+pub record MovedTo (from by : ℕ) (store store' : List ℕ) (end : ℕ) : Type 0 where
+  pub long : length store' ≡ length store
+  pub inside : (start_position from ≤ end) × (end ≤ slot_numbers)
+  pub moved : (j : ℕ) → start_position from ≤ j → j < end → get_or store' j 0 ≡ (get_or store j 0 + by) % 2 ^ 32
+  pub before : (j : ℕ) → j < start_position from → get_or store' j 0 ≡ get_or store j 0
+  pub after : (j : ℕ) → end ≤ j → get_or store' j 0 ≡ get_or store j 0
+  pub behind : pool_of store' ≡ pool_of store
 
-  front : length (take (start_position from) store) ≡ start_position from
-  front = length-take-le (start_position from) store (omega (arith, long))
-
-  pub starts-moved : StartsMoved from by store store'
-  starts-moved =
+module _ (from by : ℕ) (store : List ℕ) where
+  pub moved-first : from ≤ slot_count → MovedTo from by store store (start_position from)
+  moved-first h =
       record {
-        long = omega (arith, length-append {A = ℕ}, length-drop {A = ℕ}, front);
-        moved = λ i low h.
-            let k : start_position i ≡ start_position from + (i - from) = omega arith in
-            let here : get_or store' (start_position from + (i - from)) 0 ≡ get_or starts (i - from) 0 = search (rules, places) in
-            rw k (here ∙ sum (i - from) (omega arith));
-        others = λ j lt. search (rules, places);
-        behind = drop-put_mid (start_position from) (slot_numbers - start_position from) store starts slot_numbers (omega arith) (omega (arith, long)) same;
+        long = refl;
+        inside = (omega arith, omega arith);
+        moved = λ j low lt. absurd (omega arith);
+        before = λ j lt. refl;
+        after = λ j low. refl;
+        behind = refl;
+      }
+
+  pub moved-next : {store' : List ℕ} {i v : ℕ} → MovedTo from by store store' i → i < slot_numbers → length store ≡ store_numbers → v ≡ (get_or store' i 0 + by) % 2 ^ 32
+      → MovedTo from by store (set store' i v) (i + 1)
+  moved-next {store'} {i} {v} m lt long e =
+      record {
+        long = length-set store' i v ∙ m.long;
+        inside = (omega (arith, m.inside.0), omega arith);
+        moved = λ j low h. go j low h (dec_lt j i);
+        before = λ j h. get_or-set_other store' i j v 0 (λ same. omega (arith, m.inside.0)) ∙ m.before j h;
+        after = λ j low. get_or-set_other store' i j v 0 (λ same. omega arith) ∙ m.after j (omega arith);
+        behind = drop-set-lt slot_numbers store' i v lt ∙ m.behind;
+      }
+    where
+      go : (j : ℕ) → start_position from ≤ j → j < i + 1 → Dec (j < i) → get_or (set store' i v) j 0 ≡ (get_or store j 0 + by) % 2 ^ 32
+      go j low h (yes lt') = get_or-set_other store' i j v 0 (λ same. omega arith) ∙ m.moved j low lt'
+      go j low h (no ge) =
+          let same : j ≡ i = omega arith in
+          rw same (get_or-set_same store' i v 0 (omega (arith, m.long)) ∙ e ∙ ap (λ n. (n + by) % 2 ^ 32) (m.after i (omega arith)))
+
+  pub moved_all : {store' : List ℕ} {i : ℕ} → MovedTo from by store store' i → slot_numbers ≤ i → StartsMoved from by store store'
+  moved_all m end =
+      record {
+        long = m.long;
+        moved = λ i low h. m.moved (start_position i) (omega arith) (omega (arith, m.inside.1));
+        others = m.before;
+        behind = m.behind;
       }
 
 -- The same of the array with another pool, whichever way that is put.
