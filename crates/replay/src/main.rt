@@ -17,7 +17,7 @@ ghost use Rattle.registry.specs.View.{Consistent};
 
 use flow_store::SLOTS;
 use orders::{Flow, HEAD_COLUMNS, HOP_COLUMNS, MOST_HOPS};
-use queue_table::{QUEUES, Verdict};
+use queue_table::{QUEUES, Refusal};
 use recording::{ANSWER, ANSWERS, Form, TABLE};
 use registry::Registry;
 use std::env::{Env, FillError};
@@ -29,43 +29,27 @@ const PLACE: usize = 2;
 // The bytes of a slot's line with the most hops, and LF.
 const SLOT_LINE: usize = PLACE + HEAD_COLUMNS + HOP_COLUMNS * MOST_HOPS + 1;
 
-fn put(line: &mut [u8], first: usize, last: usize, n: u32)
-    requires { (1 ≤ first) × ((first ≤ last) × (last ≤ length line.old)) }
-{
-    columns::write_at(line, first, last, columns::wide(n));
+// What standard output doesn't take is lost.
+fn show(rt: &impl Print, line: &[u8]) {
+    let _ = rt.write_all(line);
 }
 
-fn show_verdict(rt: &impl Print, verdict: Verdict) {
-    match verdict {
-        Verdict::Accepted => {}
-        Verdict::Refused(fault, line) => {
-            let out = recording::refusal_line(fault, line);
-            let _ = rt.write_all(&out);
-        }
+fn show_verdict(rt: &impl Print, verdict: Result<(), Refusal>) {
+    if let Err(refusal) = verdict {
+        show(rt, &recording::refusal_line(refusal.fault, refusal.line));
     }
-}
-
-fn show_end(rt: &impl Print, offset: usize) {
-    let out = recording::end_line(offset);
-    let _ = rt.write_all(&out);
 }
 
 // The figures of queue e.
 fn show_queue(rt: &impl Print, e: usize, figures: &[u64])
     requires { (e < queues_most) × (length figures.now ≡ figure_numbers) }
 {
-    let own = figures::figure(e, figures);
-    let rate = own.rate;
-    let burst = own.burst;
-    let frame = own.frame;
-    let mut out = *b"                                      \n";
     let hop = queue_table::hop_at(e as u32);
-    put(&mut out, 1, 4, hop.link);
-    put(&mut out, 5, 6, hop.level);
-    columns::write_at(&mut out, 7, 18, rate.0);
-    columns::write_at(&mut out, 19, 33, burst.0);
-    columns::write_at(&mut out, 34, 38, frame.0);
-    let _ = rt.write_all(&out);
+    let own = figures::figure(e, figures);
+    let _ = println!(rt;
+        "{:4}{:2}{:12}{:15}{:5}",
+        hop.link, hop.level, own.rate.0, own.burst.0, own.frame.0
+    );
 }
 
 // The queues of the table, link by link and level by level.
@@ -94,7 +78,7 @@ fn show_flow(rt: &impl Print, slot: usize, flow: Flow, entries: &[u32])
 {
     let mut out = [b' '; SLOT_LINE];
     let bytes = write_flow(slot, flow, entries, &mut out);
-    let _ = rt.write_all(&out[..bytes]);
+    show(rt, &out[..bytes]);
 }
 
 // A slot's line where it is held: a path has at most MOST_HOPS hops.
@@ -122,12 +106,8 @@ fn show_slots(rt: &impl Print, bits: &[u64], store: &[u32])
 fn show_registry(rt: &impl Print, registry: Registry)
     requires { Consistent registry }
 {
-    let table = registry.table;
-    let bits = registry.bits;
-    let store = registry.store;
-    let figures = registry.figures;
-    show_queues(rt, &table, &figures);
-    show_slots(rt, &bits, &store);
+    show_queues(rt, &registry.table, &registry.figures);
+    show_slots(rt, &registry.bits, &registry.store);
 }
 
 // Any argument asks for the calls in place; the first counted is the program's name.
@@ -139,23 +119,21 @@ fn form_asked(rt: &impl Env) -> Form {
 }
 
 fn replay(rt: &impl Print, form: Form, table: &[u8], calls: &[u8]) {
-    let mut answers = [0u8; ANSWERS];
+    let mut answers = [0; ANSWERS];
     let replayed = recording::replay(form, table, calls, &mut answers);
-    let verdict = replayed.verdict;
-    let registry = replayed.registry;
     let end = ANSWER * replayed.count;
-    show_verdict(rt, verdict);
-    let _ = rt.write_all(&answers[..end]);
+    show_verdict(rt, replayed.verdict);
+    show(rt, &answers[..end]);
     if replayed.end < calls.len() {
-        show_end(rt, replayed.end);
+        show(rt, &recording::end_line(replayed.end));
     }
-    show_registry(rt, registry);
+    show_registry(rt, replayed.registry);
 }
 
 fn main(rt: HostRuntime) {
     let form = form_asked(&rt);
-    let mut table = [0u8; TABLE];
-    let mut calls = [0u8; LIST];
+    let mut table = [0; TABLE];
+    let mut calls = [0; LIST];
     let n = text_files::read(&rt, b"table.txt", &mut table);
     let m = text_files::read(&rt, b"calls.txt", &mut calls);
     replay(&rt, form, &table[..n], &calls[..m]);

@@ -14,7 +14,7 @@ slice_bounds-answers-end g c =
     let few = under-zeros answers_most (call_answer_bytes * c.replay-replayed.result.count) (count_fits c.replay-replayed.ensures) in
     omega (arith, few, c.replay-replayed.auto.answers)
 
-pub slice_bounds-write_all-end : goal.slice_bounds-write_all-end
-slice_bounds-write_all-end g c =
+pub slice_bounds-show-end : goal.slice_bounds-show-end
+slice_bounds-show-end g c =
     let few = under-zeros answers_most (call_answer_bytes * c.replay-replayed.result.count) (count_fits c.replay-replayed.ensures) in
     sym (length-take-le (14 * c.replay-replayed.result.count) c.replay-replayed.new.answers (omega (arith, few, c.replay-replayed.auto.answers)))
