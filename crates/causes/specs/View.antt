@@ -29,7 +29,7 @@ cause_of Inconsistent = bare 42
 cause_of AreaTooShort = bare 43
 
 -- What is against something, none where nothing is.
-abbrev pub finding_of : Result (Unit {0}) Cause → Option model.Cause
+abbrev pub finding_of : {A : Type 0} → Result A Cause → Option model.Cause
 finding_of (Ok _) = none
 finding_of (Err cause) = some (cause_of cause)
 

@@ -1,5 +1,5 @@
 -- What the answers of this crate say in the terms of the model.
-use Rattle.std.specs.Prelude.{ℕ, ◌+◌, ◌/◌, ◌≤◌, ◌≡◌, Bool, true, ◌&&◌, List, [], ◌∷◌, ◌++◌, map, length, leb, ltb, eqb, Result, Ok, Err, IfOk}
+use Rattle.std.specs.Prelude.{ℕ, ◌+◌, ◌/◌, ◌≤◌, ◌≡◌, Bool, true, ◌&&◌, List, [], ◌∷◌, ◌++◌, map, length, leb, ltb, eqb, Result, IfOk}
 use Rattle.std.proofs.Math.Option.{Option, none, some}
 use Rattle.model.specs.Words.{first_index, is_none}
 use Rattle.model.specs.Sizes.{number_most}
@@ -8,7 +8,7 @@ use Rattle.model.specs.Orders as model
 use Rattle.model.specs.Reference as model-causes
 use Rattle.model.specs.Outcomes.{early_findings}
 use Rattle.model.specs.Consistent.{flow_in_range}
-use Rattle.causes.specs.View.{cause_of}
+use Rattle.causes.specs.View.{finding_of}
 use Rattle.causes.specs.declared.Cause.{Cause}
 use Rattle.orders.specs.declared.Flow.{Flow}
 use Rattle.queue_table.specs.declared.access.Hop.{Hop}
@@ -35,27 +35,22 @@ pub record PathNamed (f : Flow) (hops : List Hop) (table entries : List ℕ) : T
   pub queues : AllQueues table entries
   pub once : model-causes.at_hop 16 model-causes.met_earlier [] (line_path hops f.hops) ≡ none
 
--- What was found against a flow, none where it stands.
-abbrev pub finding_in : {A : Type 0} → Result A Cause → Option model-causes.Cause
-finding_in (Ok _) = none
-finding_in (Err cause) = some (cause_of cause)
-
 -- 14, 16, 15 and 20 of the line's flow.
 pub record PathJudged (f : Flow) (hops : List Hop) (table : List ℕ) (r : Result (List ℕ) Cause) : Type 0 where
-  pub first : finding_in r
+  pub first : finding_of r
       ≡ model-causes.first_cause (path_findings (table_of table) f.deadline.0 (line_path hops f.hops))
   pub named : IfOk r (PathNamed f hops table)
 
 -- The causes before 30 against the line's flow, beside the flows in the slots.
 pub record FlowJudged (f : Flow) (hops : List Hop) (table bits store : List ℕ) (r : Result (List ℕ) Cause) : Type 0 where
-  pub first : finding_in r
+  pub first : finding_of r
       ≡ model-causes.first_cause (early_findings (record { table = table_of table; slots = slots_of bits store }) (line_flow f hops))
   pub named : IfOk r (PathNamed f hops table)
 
 -- 30 and 31 against a flow with so many hops; and the lowest free slot.
 pub record RoomJudged (hops : ℕ) (bits store : List ℕ) (r : Result ℕ Cause) : Type 0 where
   pub first : (f : model.Flow) → length f.path ≡ hops
-      → finding_in r ≡ model-causes.first_cause (model-causes.room_findings (slots_of bits store) f)
+      → finding_of r ≡ model-causes.first_cause (model-causes.room_findings (slots_of bits store) f)
   pub slot : IfOk r (LeastClear bits)
 
 -- 11, 12, 17, 14, 16, 15 and 20 of a held flow beside the others: what consistency asks of it but the links.
