@@ -35,10 +35,10 @@ fn register_flow(
     requires consistent_arrays { ConsistentArrays table.now bits.old store.old figures.old }
     ensures { Stepped (register (line_flow flow hops.now)) table.now bits.old store.old bits.new store.new figures.new result }
 {
-    let path = flow_check::judge_flow(flow, hops, table, &bits[..], &store[..])?;
+    let path = flow_check::judge_flow(flow, hops, table, bits, store)?;
     let entries = path.entries();
-    let slot = flow_check::judge_room(flow.hops, &bits[..], &store[..])?;
-    figures::check_links(flow.share, table, &figures[..], entries)?;
+    let slot = flow_check::judge_room(flow.hops, bits, store)?;
+    figures::check_links(flow.share, table, figures, entries)?;
     flow_store::insert(slot, flow, entries, bits, store);
     figures::add_path(flow.share, table, entries, figures);
     Ok(slot as u32 + 1)
@@ -51,11 +51,11 @@ fn take_out(slot: usize, table: &[u32], bits: &mut [u64], store: &mut [u32], fig
     ensures store_after { slots_of bits.new store.new ≡ set (slots_of bits.old store.old) slot none }
     ensures consistent_arrays_2 { ConsistentArrays table.now bits.new store.new figures.new }
 {
-    let flow = flow_store::flow_at(slot, &store[..]);
-    let path = flow_store::path_at(slot, &store[..]);
+    let flow = flow_store::flow_at(slot, store);
+    let path = flow_store::path_at(slot, store);
     flow_store::remove(slot, bits, store);
     if figures::remove_path(flow.share, table, path.entries(), figures) {
-        recount::raise_frames(&bits[..], &store[..], figures);
+        recount::raise_frames(bits, store, figures);
     }
 }
 
@@ -70,7 +70,7 @@ fn release_flow(
     requires { ConsistentArrays table.now bits.old store.old figures.old }
     ensures { Stepped (release number) table.now bits.old store.old bits.new store.new figures.new result }
 {
-    let held = flow_store::find(number, &bits[..], &store[..]).ok_or(Cause::NumberNotHeld)?;
+    let held = flow_store::find(number, bits, store).ok_or(Cause::NumberNotHeld)?;
     take_out(held, table, bits, store, figures);
     Ok(held as u32 + 1)
 }
@@ -89,7 +89,7 @@ fn change_held(
     requires given_value { change_in_range (change_of given) ≡ true }
     ensures { Stepped (change (change_of given)) table.now bits.now store.old bits.now store.new figures.new result }
 {
-    let was = flow_store::flow_at(held, &store[..]).share;
+    let was = flow_store::flow_at(held, store).share;
     if given.burst.0 < was.frame.0 {
         return Err(Cause::FrameAboveBurst);
     }
@@ -98,9 +98,9 @@ fn change_held(
         burst: given.burst,
         frame: was.frame,
     };
-    let path = flow_store::path_at(held, &store[..]);
+    let path = flow_store::path_at(held, store);
     let entries = path.entries();
-    figures::check_change(was, share, table, &figures[..], entries)?;
+    figures::check_change(was, share, table, figures, entries)?;
     flow_store::change(held, given, store);
     figures::change_path(was, share, table, entries, figures);
     Ok(held as u32 + 1)
@@ -118,7 +118,7 @@ fn change_flow(
     requires given_value { change_in_range (change_of given) ≡ true }
     ensures { Stepped (change (change_of given)) table.now bits.now store.old bits.now store.new figures.new result }
 {
-    let held = flow_store::find(given.number, bits, &store[..]).ok_or(Cause::NumberNotHeld)?;
+    let held = flow_store::find(given.number, bits, store).ok_or(Cause::NumberNotHeld)?;
     change_held(held, given, table, bits, store, figures)
 }
 

@@ -91,7 +91,7 @@ fn call_arrays(
     requires { Sized table.now bits.old store.old figures.old }
     ensures { Guarded (only_line (kind_number (kind_of kind)) (lines bytes.now)) table.now bits.old store.old figures.old bits.new store.new figures.new result }
 {
-    if !is_consistent(table, &bits[..], &store[..], &figures[..]) {
+    if !is_consistent(table, bits, store, figures) {
         return Err(Cause::Inconsistent);
     }
     let line = orders::read_call(kind, bytes);

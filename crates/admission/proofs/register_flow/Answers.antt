@@ -1,7 +1,7 @@
 -- `admission::register_flow` meets its contract: each leaf answers its part of the findings, in their order.
 use Rattle.std.specs.Prelude.{Result, Ok}
 use Rattle.std.proofs.lemmas.Result.{err_from_is_err_and}
-use Prim.Native.Nat.{ℕ, ◌<◌}
+use Prim.Native.Nat.{ℕ}
 use mathlib.Core.Path.{◌≡◌, sym, ◌∙◌}
 use mathlib.Core.List.{List}
 use mathlib.Core.Option.{none}
@@ -10,7 +10,6 @@ use lib.ListN.{length}
 use Rattle.causes.specs.declared.Cause.{Cause}
 use Rattle.causes.specs.View.{finding_of}
 use Rattle.units.specs.View.{aggregate_of, AtSource}
-use Rattle.model.specs.Sizes.{slot_count}
 use Rattle.model.specs.Orders as line
 use Rattle.model.specs.Orders.{register}
 use Rattle.model.specs.Reference.{State, held_flows, first_cause, room_findings, findings}
@@ -21,7 +20,7 @@ use Rattle.figures.specs.View.{Hops, PathChecked}
 use Rattle.figures.proofs.SizeLaws.{limited-below}
 use Rattle.admission.specs.View.{state_of, ConsistentArrays}
 use Rattle.admission.proofs.StepLaws.{early-cause, room-cause, links-cause}
-use Rattle.admission.proofs.ConsistentLaws.{stepped-refused, limited, held-named, hops-within, speeds-within, path-length, on-table, flow-of, numbers, hops-long, inside, placeable, stepped-admitted}
+use Rattle.admission.proofs.ConsistentLaws.{stepped-refused, limited, held-named, hops-within, speeds-within, path-length, on-table, flow-of, numbers, hops-long, placeable, stepped-admitted}
 use Rattle.admission.proofs.register_flow.Goals as goal
 use Rattle.admission.proofs.register_flow.Goals.{After-judge_room}
 
@@ -58,9 +57,6 @@ module _ (c : After-judge_room) where
 module _ (c : After-judge_room) (slot : ℕ) (judged : checks.RoomJudged c.args.flow.hops c.args.bits.now c.args.store.now (Ok slot)) where
   room : first_cause (room_findings (s c).slots (f c)) ≡ none
   room = sym (judged.first (f c) (hops c))
-
-  within : slot < slot_count
-  within = inside _ _ _ _ (kept c) _ _ (entries c) c.requires.line_read (named c) room slot judged.slot
 
 -- What the check of the links tells.
 module _ (c : After-judge_room) (slot : ℕ) (judged : checks.RoomJudged c.args.flow.hops c.args.bits.now c.args.store.now (Ok slot)) (r : Result (Unit {0}) Cause)
