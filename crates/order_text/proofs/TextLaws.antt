@@ -24,11 +24,11 @@ use Rattle.model.proofs.Laws.Handover.{head-long, path-long, line-long}
 use Rattle.columns.proofs.PartLaws.{field_next, byte_next, text-put, Filling, filling-room, filling-put}
 use Rattle.bit_words.specs.View.{is_set}
 use Rattle.queue_table.specs.View.{hop_at}
-use Rattle.flow_store.specs.View.{hops_at, head_at, flow_at, flow_in, slot_of, slots_of, entries_in, Readable}
+use Rattle.flow_store.specs.View.{hops_at, head_at, flow_at, flow_in, slot_of, entries_in, Readable}
 use Rattle.flow_store.specs.Laws.{slot_at, held-slot}
 use Rattle.flow_store.proofs.ViewLaws.{entries-long}
 use Rattle.causes.specs.declared.Cause.{Cause}
-use Rattle.order_text.specs.View.{slot_text, text_in, bytes_of, WritesArrays, consistent, inconsistent}
+use Rattle.order_text.specs.View.{slot_text, line_at, text_in, bytes_of, WritesArrays, consistent, inconsistent}
 
 module _ {A : Type 0} (text : A → List ℕ) where
   -- What is left before an element, and past the last.
@@ -137,11 +137,11 @@ module _ (h : Head) (entries : List ℕ) (hops : h.hops ≡ length entries) wher
 
 -- What stands at a slot.
 module _ (bits store : List ℕ) (stored : Readable bits store) (k : ℕ) (inside : k < slot_count) where
-  pub free-text : is_set bits k ≡ false → slot_text (get_or (slots_of bits store) k none) ≡ []
+  pub free-text : is_set bits k ≡ false → line_at bits store k ≡ []
   unfolding slot_text slot_of
   free-text free = ap slot_text (slot_at bits store k inside ∙ ap (λ (b : Bool). slot_of b (flow_in store k)) free)
 
-  pub held-text : is_set bits k ≡ true → slot_text (get_or (slots_of bits store) k none) ≡ flow_line (flow_of (head_at store k) (map hop_at (entries_in store k)))
+  pub held-text : is_set bits k ≡ true → line_at bits store k ≡ flow_line (flow_of (head_at store k) (map hop_at (entries_in store k)))
   unfolding slot_text flow_at flow_of
   held-text held = ap slot_text (held-slot bits store k inside held)
 
@@ -149,7 +149,7 @@ module _ (bits store : List ℕ) (stored : Readable bits store) (k : ℕ) (insid
   pub named-long : is_set bits k ≡ true → length (entries_in store k) ≡ hops_at store k
   named-long held = entries-long store stored.store_long k (stored.inside k inside held)
 
-  pub held-size : is_set bits k ≡ true → length (slot_text (get_or (slots_of bits store) k none)) ≡ head_columns + 1 + hop_columns * hops_at store k
+  pub held-size : is_set bits k ≡ true → length (line_at bits store k) ≡ head_columns + 1 + hop_columns * hops_at store k
   unfolding flow_of
   held-size held =
       ap length (held-text held)

@@ -1,22 +1,25 @@
 // The registry written as order lines (W-204): kind 1, lowest slot first, in the columns that `orders` reads.
 #![tactic(auto)]
 
-ghost use Rattle.std.specs.Prelude.{◌≡◌, List, ◌++◌, map, ℕ, ◌+◌, ◌*◌, ◌^◌, ◌≤◌, ◌<◌, length, drop};
+ghost use Rattle.std.specs.Prelude.{◌≡◌, List, ◌++◌, map, ◌+◌, ◌*◌, ◌^◌, ◌≤◌, ◌<◌, length, drop, slice_index_or};
+ghost use Rattle.std.proofs.Math.Option.{none};
 ghost use Rattle.model.specs.Words.{joined};
 ghost use Rattle.model.specs.Sizes.{head_columns, hop_columns, slot_count};
 ghost use Rattle.model.specs.Orders.{flow_of};
-ghost use Rattle.model.specs.Handover.{head_text, hop_text, flow_line};
+ghost use Rattle.model.specs.Reference.{Slot, held_flows};
+ghost use Rattle.model.specs.Handover.{head_text, hop_text, flow_line, handover_text};
 ghost use Rattle.queue_table.specs.View.{hop_at};
 ghost use Rattle.orders.specs.View.{fields_of};
-ghost use Rattle.flow_store.specs.View.{Readable};
+ghost use Rattle.flow_store.specs.View.{slots_of, Readable};
 ghost use Rattle.registry.specs.View.{Sized};
-ghost use Rattle.order_text.specs.View.{line_at, text_in, WritesArrays, Writes};
+ghost use Rattle.order_text.specs.View.{slot_text, WritesArrays, Writes};
 
 use causes::Cause;
 use columns::LF;
 use flow_store::{POOL, SLOTS};
 use orders::{Flow, HEAD_COLUMNS, HOP_COLUMNS, Kind};
 use registry::Registry;
+use std::marker::Model;
 
 // An area of so many bytes is always long enough: a line for each slot with its LF, and the columns of all hop entries.
 pub const TEXT: usize = SLOTS * (HEAD_COLUMNS + 1) + HOP_COLUMNS * POOL;
@@ -70,52 +73,75 @@ pub fn write_line(flow: Flow, entries: &[u32], part: &mut [u8]) -> usize
     end + 1
 }
 
-// How many bytes a slot's line has, 0 where the slot is free.
-fn slot_bytes(slot: usize, bits: &[u64], store: &[u32]) -> usize
-    requires { Readable bits.now store.now × (slot < slot_count) }
-    ensures value { result ≡ length (line_at bits.now store.now slot) }
-    ensures upper_bound { result < 2 ^ 36 }
-{
-    if !flow_store::is_held(slot, bits) {
-        return 0;
-    }
-    let flow = flow_store::flow_at(slot, store);
-    HEAD_COLUMNS + 1 + HOP_COLUMNS * (flow.hops as usize)
+// The slots of a registry, as they are written.
+#[derive(Drop)]
+struct Held<'a> {
+    bits: &'a [u64],
+    store: &'a [u32],
 }
 
-// How many bytes the text has.
-fn text_bytes(bits: &[u64], store: &[u32]) -> usize
-    requires { Readable bits.now store.now }
-    ensures { result ≡ length (text_in bits.now store.now) }
-{
-    let mut bytes = 0;
-    for slot in 0..SLOTS {
-        bytes += slot_bytes(slot, bits, store);
-    }
-    bytes
+impl<'a> Model for Held<'a> {
+    ghost Value = { List Slot };
+
+    ghost view = { λ held. slots_of held.bits.now held.store.now };
+
+    ghost invariant = { λ held. Readable held.bits.now held.store.now };
 }
 
-// A slot's line at the front of `part`, nothing where the slot is free: how many bytes it has.
-fn write_slot(slot: usize, bits: &[u64], store: &[u32], part: &mut [u8]) -> usize
-    requires { Readable bits.now store.now × (slot < slot_count) × (length (line_at bits.now store.now slot) ≤ length part.old) }
-    ensures part_after { part.new ≡ line_at bits.now store.now slot ++ drop result part.old }
-    ensures value { result ≡ length (line_at bits.now store.now slot) }
-{
-    if !flow_store::is_held(slot, bits) {
-        return 0;
+impl Held<'_> {
+    // How many slots there are: each has a bit.
+    fn len(&self) -> usize
+        ensures { (result ≡ length self.now) × (result ≡ slot_count) }
+    {
+        bit_words::WORD * self.bits.len()
     }
-    let path = flow_store::path_of(slot, store);
-    write_line(flow_store::flow_at(slot, store), path, part)
-}
 
-// Slot after slot.
-fn write_slots(bits: &[u64], store: &[u32], area: &mut [u8])
-    requires { Readable bits.now store.now × (length (text_in bits.now store.now) ≤ length area.old) }
-    ensures { area.new ≡ text_in bits.now store.now ++ drop (length (text_in bits.now store.now)) area.old }
-{
-    let mut at = 0;
-    for slot in 0..SLOTS {
-        at += write_slot(slot, bits, store, &mut area[at..]);
+    // How many bytes a slot's line has, 0 where the slot is free.
+    fn slot_bytes(&self, slot: usize) -> usize
+        requires { slot < slot_count }
+        ensures value { result ≡ length (slot_text (slice_index_or self.now slot none)) }
+        ensures upper_bound { result < 2 ^ 36 }
+    {
+        if !flow_store::is_held(slot, self.bits) {
+            return 0;
+        }
+        let flow = flow_store::flow_at(slot, self.store);
+        HEAD_COLUMNS + 1 + HOP_COLUMNS * (flow.hops as usize)
+    }
+
+    // How many bytes the text has.
+    fn text_bytes(&self) -> usize
+        ensures { result ≡ length (handover_text (held_flows self.now)) }
+    {
+        let mut bytes = 0;
+        for slot in 0..self.len() {
+            bytes += self.slot_bytes(slot);
+        }
+        bytes
+    }
+
+    // A slot's line at the front of `part`, nothing where the slot is free: how many bytes it has.
+    fn write_slot(&self, slot: usize, part: &mut [u8]) -> usize
+        requires { (slot < slot_count) × (length (slot_text (slice_index_or self.now slot none)) ≤ length part.old) }
+        ensures part_after { part.new ≡ slot_text (slice_index_or self.now slot none) ++ drop result part.old }
+        ensures value { result ≡ length (slot_text (slice_index_or self.now slot none)) }
+    {
+        if !flow_store::is_held(slot, self.bits) {
+            return 0;
+        }
+        let path = flow_store::path_of(slot, self.store);
+        write_line(flow_store::flow_at(slot, self.store), path, part)
+    }
+
+    // Slot after slot.
+    fn write_slots(&self, area: &mut [u8])
+        requires { length (handover_text (held_flows self.now)) ≤ length area.old }
+        ensures { area.new ≡ handover_text (held_flows self.now) ++ drop (length (handover_text (held_flows self.now))) area.old }
+    {
+        let mut at = 0;
+        for slot in 0..self.len() {
+            at += self.write_slot(slot, &mut area[at..]);
+        }
     }
 }
 
@@ -133,11 +159,12 @@ fn write_arrays(
     if !registry::is_consistent(table, bits, store, figures) {
         return Err(Cause::Inconsistent);
     }
-    let bytes = text_bytes(bits, store);
+    let held = Held { bits, store };
+    let bytes = held.text_bytes();
     if area.len() < bytes {
         return Err(Cause::AreaTooShort);
     }
-    write_slots(bits, store, area);
+    held.write_slots(area);
     Ok(bytes)
 }
 

@@ -10,18 +10,14 @@ pub returns-then-not-is_consistent : goal.returns-then-not-is_consistent
 unfolding refused_writing
 returns-then-not-is_consistent c = inconsistent (c.is_consistent.ensures.fact c.if-not-is_consistent.true) refl
 
-pub text_bytes-bytes-requires : goal.text_bytes-bytes-requires
-text_bytes-bytes-requires c = readable _ _ (c.is_consistent.ensures.consistent_arrays c.if-not-is_consistent.false).stored
+pub invariant_of-held : goal.invariant_of-held
+invariant_of-held c = readable _ _ (c.is_consistent.ensures.consistent_arrays c.if-not-is_consistent.false).stored
 
 pub returns-then-area-bytes : goal.returns-then-area-bytes
 unfolding refused_writing
 returns-then-area-bytes c =
     let text = text_in c.args.bits.now c.args.store.now in
-    consistent (c.is_consistent.ensures.consistent_arrays c.if-not-is_consistent.false) (sym (writing-short text c.args.area.now (omega (arith, c.text_bytes-bytes.ensures))))
-
-pub write_slots-requires : goal.write_slots-requires
-write_slots-requires c =
-    (readable _ _ (c.is_consistent.ensures.consistent_arrays c.if-not-is_consistent.false).stored, omega (arith, c.text_bytes-bytes.ensures))
+    consistent (c.is_consistent.ensures.consistent_arrays c.if-not-is_consistent.false) (sym (writing-short text c.args.area.now (omega arith)))
 
 pub returns : goal.returns
 unfolding done_writing
@@ -29,4 +25,4 @@ returns c =
     let text = text_in c.args.bits.now c.args.store.now in
     consistent (c.is_consistent.ensures.consistent_arrays c.if-not-is_consistent.false)
     ((λ i. record { code = 0; bytes = c.text_bytes-bytes.ensures i; area = c.write_slots.ensures i })
-    ∙ sym (writing-done text c.args.area.now (omega (arith, c.text_bytes-bytes.ensures))))
+    ∙ sym (writing-done text c.args.area.now (omega arith)))
