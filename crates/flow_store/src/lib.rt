@@ -224,8 +224,7 @@ fn store_flow(slot: usize, start: u32, flow: Flow, store: &mut [u32])
 }
 
 // Adds a number to the starts from slot `from` on, free slots' too, so that several are added at once. The sums wrap, since a
-// free slot's start can be any number. With an index: as a loop over the slice this isn't
-// vectorised where a path is put in, and load a takes 1.09 times as long.
+// free slot's start can be any number. By index: over the slice this isn't vectorised in `put`, and load a takes 1.09 times as long.
 fn move_starts(from: usize, by: u32, store: &mut [u32])
     requires { (from ≤ slot_count) × (length store.old ≡ store_numbers) }
     ensures { StartsMoved from by store.old store.new }

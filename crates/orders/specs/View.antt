@@ -1,5 +1,5 @@
 -- What the answers of this crate say in the terms of the model.
-use Rattle.std.specs.Prelude.{ℕ, ◌≤◌, List, map, take, get_or}
+use Rattle.std.specs.Prelude.{ℕ, ◌≤◌, List, [], map, take, get_or}
 use Rattle.std.specs.Prelude.{Some, None, Result, Ok, Err}
 use Rattle.std.specs.Prelude as code
 use Rattle.std.proofs.Math.Option.{Option, none, some}
@@ -72,6 +72,11 @@ order_with (Ok (Release n)) hops = model.release n
 order_with (Ok (Change c)) hops = model.change (change_of c)
 order_with (Err Malformed) hops = model.rejected 10
 order_with (Err OutOfRange) hops = model.rejected 11
+
+-- The same of an order that was read together with its hops.
+abbrev pub read_as : Result (Order × List Hop) Unread → model.Order
+read_as (Ok read) = order_with (Ok read.0) read.1
+read_as (Err unread) = order_with (Err unread) []
 
 abbrev pub order_of : OrderLine → model.Order
 order_of l = order_with l.order l.hops

@@ -3,14 +3,14 @@
 
 mod path;
 
-ghost use Rattle.std.specs.Prelude.{◌≡◌, List, ◌≤◌};
+ghost use Rattle.std.specs.Prelude.{◌≡◌, List, ◌≤◌, Ok, IfOk};
 ghost use Rattle.model.specs.Sizes.{hops_most};
 ghost use Rattle.model.specs.Columns.{field_at, lines};
 ghost use Rattle.model.specs.Orders.{kind_number, kind_of_number, read_order, release_line, change_line, registration, change_fields, number_in_range, rate_in_range, burst_in_range, frame_in_range, change_in_range, head_fields, head_in_range, hop_field, path_fields};
 ghost use Rattle.model.specs.Reference.{line_of_kind, only_line};
 ghost use Rattle.queue_table.specs.declared.access.Hop.{Hop};
 ghost use Rattle.orders.specs.declared.Unread.TheVariants.{OutOfRange};
-ghost use Rattle.orders.specs.View.{kind_of, kind_in, change_of, order_with, order_of, hops_fit, fields_of, source_of, head_of, hop_of, path_of};
+ghost use Rattle.orders.specs.View.{kind_of, kind_in, change_of, order_with, read_as, order_of, hops_fit, fields_of, source_of, head_of, hop_of, path_of};
 
 pub use path::Path;
 use queue_table::Hop;
@@ -80,8 +80,8 @@ pub struct Change {
     pub burst: Bytes,
 }
 
-// What stands where no hop was read: no queue has this link or level.
-const NO_HOP: Hop = Hop { link: 0, level: 0 };
+// What stands where no hops were read: no queue has this link or level.
+const NO_HOPS: [Hop; MOST_HOPS] = [Hop { link: 0, level: 0 }; MOST_HOPS];
 
 // What a line gives, and the hops of its path where that is a registration: the first `hops` of them. The rest is free.
 #[derive(Clone, Copy)]
@@ -211,7 +211,7 @@ fn read_path(line: &[u8], count: u32) -> Option<[Hop; MOST_HOPS]>
     if line.len() != HEAD_COLUMNS + HOP_COLUMNS * n {
         return None;
     }
-    let mut hops = [NO_HOP; MOST_HOPS];
+    let mut hops = NO_HOPS;
     for i in 0..n {
         hops[i] = read_hop(&line[HEAD_COLUMNS + HOP_COLUMNS * i..])?;
     }
@@ -219,19 +219,19 @@ fn read_path(line: &[u8], count: u32) -> Option<[Hop; MOST_HOPS]>
 }
 
 #[tactic(auto, unfolding(model::specs::Orders::registration, model::specs::Orders::registration_of, model::specs::Orders::with_path, model::specs::Orders::hops_in_range, model::specs::Columns::between))]
-fn read_registration(line: &[u8], hops: &mut [Hop; MOST_HOPS]) -> Result<Order, Unread>
-    ensures result_value { order_with result hops.new ≡ registration line.now }
-    ensures hops_fit { hops_fit result }
+fn read_registration(line: &[u8]) -> Result<(Order, [Hop; MOST_HOPS]), Unread>
+    ensures result_value { read_as result ≡ registration line.now }
+    ensures hops_fit { IfOk result (λ read. hops_fit (Ok read.0)) }
 {
     let flow = read_head(line).ok_or(Unread::Malformed)?;
     if !columns::within(1, MOST_HOPS as u64, u64::from(flow.hops)) {
         return Err(Unread::OutOfRange);
     }
-    *hops = read_path(line, flow.hops).ok_or(Unread::Malformed)?;
+    let hops = read_path(line, flow.hops).ok_or(Unread::Malformed)?;
     if !in_range(flow) {
         return Err(Unread::OutOfRange);
     }
-    Ok(Order::Register(flow))
+    Ok((Order::Register(flow), hops))
 }
 
 #[tactic(auto, unfolding(model::specs::Orders::change_line, model::specs::Orders::change_of))]
@@ -288,38 +288,38 @@ impl From<OtherKind> for Unread {
     }
 }
 
-// The order of a line, without its LF. The hops of a registration are put into `hops`.
+// The order of a line, without its LF, and its hops.
 #[tactic(auto, unfolding(model::specs::Orders::read_order, model::specs::Orders::order_of_kind, model::specs::Orders::kind_order))]
-fn read_line(line: &[u8], hops: &mut [Hop; MOST_HOPS]) -> Result<Order, Unread>
-    ensures result_value { order_with result hops.new ≡ read_order line.now }
-    ensures hops_fit { hops_fit result }
+fn read_line(line: &[u8]) -> Result<(Order, [Hop; MOST_HOPS]), Unread>
+    ensures result_value { read_as result ≡ read_order line.now }
+    ensures hops_fit { IfOk result (λ read. hops_fit (Ok read.0)) }
 {
     let number = columns::read_at(line, 1, 2).ok_or(Unread::Malformed)?;
     match Kind::try_from(number)? {
-        Kind::Register => read_registration(line, hops),
-        Kind::Release => read_release(line),
-        Kind::Change => read_change(line),
+        Kind::Register => read_registration(line),
+        Kind::Release => Ok((read_release(line)?, NO_HOPS)),
+        Kind::Change => Ok((read_change(line)?, NO_HOPS)),
     }
 }
 
 // The order of a line that has to be of this kind.
 #[tactic(auto, unfolding(model::specs::Reference::line_of_kind))]
-fn read_own_kind(kind: Kind, line: &[u8], hops: &mut [Hop; MOST_HOPS]) -> Result<Order, Unread>
-    ensures result_value { order_with result hops.new ≡ line_of_kind (kind_number (kind_of kind)) line.now (field_at 1 2 line.now) }
-    ensures hops_fit { hops_fit result }
+fn read_own_kind(kind: Kind, line: &[u8]) -> Result<(Order, [Hop; MOST_HOPS]), Unread>
+    ensures result_value { read_as result ≡ line_of_kind (kind_number (kind_of kind)) line.now (field_at 1 2 line.now) }
+    ensures hops_fit { IfOk result (λ read. hops_fit (Ok read.0)) }
 {
     let found = columns::read_at(line, 1, 2).ok_or(Unread::Malformed)?;
     if found != u32::from(kind) {
         return Err(Unread::OutOfRange);
     }
-    read_line(line, hops)
+    read_line(line)
 }
 
 // The order of the one line that these bytes have to be.
 #[tactic(auto, using(crate::proofs::CallLaws::call_laws), unfolding(model::specs::Reference::only_line))]
-fn read_only_line(kind: Kind, bytes: &[u8], hops: &mut [Hop; MOST_HOPS]) -> Result<Order, Unread>
-    ensures result_value { order_with result hops.new ≡ only_line (kind_number (kind_of kind)) (lines bytes.now) }
-    ensures hops_fit { hops_fit result }
+fn read_only_line(kind: Kind, bytes: &[u8]) -> Result<(Order, [Hop; MOST_HOPS]), Unread>
+    ensures result_value { read_as result ≡ only_line (kind_number (kind_of kind)) (lines bytes.now) }
+    ensures hops_fit { IfOk result (λ read. hops_fit (Ok read.0)) }
 {
     if bytes.is_empty() {
         return Err(Unread::Malformed);
@@ -328,7 +328,28 @@ fn read_only_line(kind: Kind, bytes: &[u8], hops: &mut [Hop; MOST_HOPS]) -> Resu
     if end + 1 < bytes.len() {
         return Err(Unread::Malformed);
     }
-    read_own_kind(kind, &bytes[..end], hops)
+    read_own_kind(kind, &bytes[..end])
+}
+
+// What was read of a line, as an `OrderLine`.
+fn with_hops(read: Result<(Order, [Hop; MOST_HOPS]), Unread>) -> OrderLine
+    requires { IfOk read (λ read. hops_fit (Ok read.0)) }
+    ensures result_value { order_of result ≡ read_as read }
+    ensures hops_fit { hops_fit result.order }
+{
+    match read {
+        Ok(found) => {
+            let hops = found.1;
+            OrderLine {
+                order: Ok(found.0),
+                hops,
+            }
+        }
+        Err(unread) => OrderLine {
+            order: Err(unread),
+            hops: NO_HOPS,
+        },
+    }
 }
 
 // The order of a line, without its LF.
@@ -336,9 +357,7 @@ pub fn read_order(line: &[u8]) -> OrderLine
     ensures result_value { order_of result ≡ read_order line.now }
     ensures hops_fit { hops_fit result.order }
 {
-    let mut hops = [NO_HOP; MOST_HOPS];
-    let order = read_line(line, &mut hops);
-    OrderLine { order, hops }
+    with_hops(read_line(line))
 }
 
 // The order of a direct call: exactly one line with its LF, of the call's own kind; another kind is 11, its rest unread.
@@ -346,7 +365,5 @@ pub fn read_call(kind: Kind, bytes: &[u8]) -> OrderLine
     ensures result_value { order_of result ≡ only_line (kind_number (kind_of kind)) (lines bytes.now) }
     ensures hops_fit { hops_fit result.order }
 {
-    let mut hops = [NO_HOP; MOST_HOPS];
-    let order = read_only_line(kind, bytes, &mut hops);
-    OrderLine { order, hops }
+    with_hops(read_only_line(kind, bytes))
 }
