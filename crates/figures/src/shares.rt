@@ -65,5 +65,5 @@ pub(crate) fn changed_at(
     requires room_at { RoomAt (aggregate_of was) figures.now e sum.0 }
     ensures { aggregate_of result ≡ changed_at (aggregate_of was) (aggregate_of share) figures.now e sum.0 }
 {
-    replaced(figure(e, figures), share_at(was, sum), share_at(share, sum))
+    replaced(figure(e, figures), share_at(was, sum), share.grown(sum))
 }
