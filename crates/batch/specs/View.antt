@@ -1,14 +1,14 @@
 -- What the parts of a batch say in the terms of the model.
 use Rattle.std.specs.Prelude.{ℕ, suc, ◌*◌, ◌≤◌, ◌<◌, ◌≡◌, List, ◌∷◌, length, drop, replicate, Bool, eqb, Result, Ok, Err}
 use Rattle.model.specs.Sizes.{order_lines, answer_bytes}
-use Rattle.model.specs.Columns.{lines}
+use Rattle.model.specs.Columns.{Line, lines}
 use Rattle.model.specs.QueueTable.{accepted}
 use Rattle.model.specs.Batch as model
 use Rattle.queue_table.specs.View.{table_of, fault_code}
 use Rattle.flow_store.specs.View.{slot_words, store_numbers}
 use Rattle.figures.specs.View.{figure_numbers}
 use Rattle.admission.specs.View.{state_of, answer_of, ConsistentArrays}
-use Rattle.batch.specs.declared.Advance.{Advance}
+use Rattle.causes.specs.declared.Cause.{Cause}
 use Rattle.batch.specs.declared.BatchResult.{BatchResult}
 use Rattle.batch.specs.declared.Refusal.{Refusal}
 use Rattle.batch.specs.declared.Refusal.TheVariants.{Table, OrdersTooLong, AreaTooShort}
@@ -26,15 +26,12 @@ no_flows = replicate store_numbers 0
 unfoldable pub no_figures : List ℕ
 no_figures = replicate figure_numbers 0
 
--- The line at `at` was answered, and the others go on from the registry left behind.
-pub record LineDone (orders : List ℕ) (at : ℕ) (table bits store bits' store' figures' : List ℕ) (r : Advance) : Type 0 where
-  pub same :
-      model.line_answers (state_of table bits store) (lines (drop at orders))
-      ≡ answer_of r.answer ∷ model.line_answers (state_of table bits' store') (lines (drop r.next orders))
-  pub counted : length (lines (drop at orders)) ≡ suc (length (lines (drop r.next orders)))
+-- A line was answered, and the others, whichever they are, go on from the registry left behind.
+pub record LineDone (line : Line) (table bits store bits' store' figures' : List ℕ) (r : Result ℕ Cause) : Type 0 where
+  pub same : (left : List Line)
+      → model.line_answers (state_of table bits store) (line ∷ left)
+      ≡ answer_of r ∷ model.line_answers (state_of table bits' store') left
   pub kept : ConsistentArrays table bits' store' figures'
-  pub on : at < r.next
-  pub within : r.next ≤ length orders
 
 -- Neither 41 for its lines nor 40.
 pub record Answerable (orders area : List ℕ) : Type 0 where

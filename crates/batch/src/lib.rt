@@ -9,6 +9,7 @@ ghost use Rattle.model.specs.Sizes.{order_lines};
 ghost use Rattle.model.specs.Columns.{lines};
 ghost use Rattle.model.specs.Batch.{batch};
 ghost use Rattle.admission.specs.View.{ConsistentArrays};
+ghost use Rattle.columns.specs.View.{line_of};
 ghost use Rattle.batch.specs.View.{no_bits, no_flows, no_figures, LineDone, Answerable, Answered, OrdersDone, result_of, refused_with, batch_of, is_lf, Batched};
 ghost use Rattle.batch.specs.declared.Refusal.TheVariants.{Table};
 
@@ -72,13 +73,6 @@ impl From<Refusal> for BatchResult {
     }
 }
 
-// The answer to a line, and the position after it.
-#[derive(Clone, Copy)]
-struct Advance {
-    answer: Answer,
-    next: usize,
-}
-
 // So many bytes are counted at once: their LFs fit a byte.
 const BLOCK: usize = 128;
 
@@ -111,30 +105,21 @@ fn count_lines(text: &[u8]) -> usize
     count
 }
 
-// Carries out the order of the line that starts at `at`.
-fn answer_next(
-    orders: &[u8],
-    at: usize,
+// Carries out the order of a line.
+fn carry_out(
+    line: Option<&[u8]>,
     table: &[u32],
     bits: &mut [u64],
     store: &mut [u32],
     figures: &mut [u64],
-) -> Advance
-    requires { (at < length orders.now) × ConsistentArrays table.now bits.old store.old figures.old }
-    ensures { LineDone orders.now at table.now bits.old store.old bits.new store.new figures.new result }
+) -> Answer
+    requires { ConsistentArrays table.now bits.old store.old figures.old }
+    ensures { LineDone (line_of line.entry) table.now bits.old store.old bits.new store.new figures.new result }
 {
-    let Some(end) = columns::next_line(orders, at) else {
-        return Advance {
-            answer: Err(Cause::Malformed),
-            next: orders.len(),
-        };
-    };
+    let bytes = line.ok_or(Cause::Malformed)?;
     // Taken apart at once: a line kept whole would go through memory.
-    let OrderLine { order, hops } = orders::read_order(&orders[at..end]);
-    Advance {
-        answer: admission::apply(order, &hops, table, bits, store, figures),
-        next: end + 1,
-    }
+    let OrderLine { order, hops } = orders::read_order(bytes);
+    admission::apply(order, &hops, table, bits, store, figures)
 }
 
 // Answers each order line in 20 bytes, order after order.
@@ -150,15 +135,13 @@ fn answer_all(
     requires answerable { Answerable orders.now answers.old }
     ensures { Answered orders.now table.now bits.old store.old answers.old answers.new }
 {
-    let mut at = 0;
     let mut number: u32 = 0;
     let mut offset = 0;
-    while at < orders.len() {
-        let advance = answer_next(orders, at, table, bits, store, figures);
+    for line in columns::lines(orders) {
+        let answer = carry_out(line, table, bits, store, figures);
         number += 1;
-        answer_line::write_line(number, advance.answer, &mut answers[offset..]);
+        answer_line::write_line(number, answer, &mut answers[offset..]);
         offset += ANSWER_BYTES;
-        at = advance.next;
     }
 }
 

@@ -1,16 +1,37 @@
--- Bytes without an LF stay in their line, one or a block at a time. Assumes nothing.
+-- Bytes without an LF stay in their line, one or a block at a time; a text has no more lines than bytes. Assumes nothing.
 use Prim.Native.Nat.{ℕ, zero, suc, ◌+◌, ◌≤◌, ◌<◌}
 use mathlib.Core.Path.{◌≡◌, refl, ◌∙◌, subst}
-use mathlib.Core.Bool.{true, false}
-use mathlib.Core.List.{List}
+use mathlib.Core.Bool.{Bool, true, false, cond}
+use mathlib.Core.List.{List, [], ◌∷◌}
 use native.Mathlib.Omega.{arith}
 use native.Mathlib.Numerals.{add-one}
 use borrow.Author.Tests.{eq-eqb, ne_eqb, eqb-false}
 use lib.ListN.{length, get_or}
 use lib.Dec.{eqb}
+use Rattle.model.specs.Columns.{Line, ended, unended, prepend, lines}
 use Rattle.model.proofs.Laws.Columns.{line_step, line-start}
 use Rattle.model.proofs.Laws.Test.{or-neither}
-use Rattle.columns.specs.View.{lf_within, SameLine}
+use denote.Ref.{Bor}
+use Rattle.std.specs.Prelude.{Result, Some, None, Ok, Err}
+use Rattle.std.specs.Prelude as code
+use Rattle.std.specs.Option.{ok_or}
+use Rattle.columns.specs.View.{line_of, lf_within, SameLine}
+
+-- A text has no more lines than bytes.
+prepend-long : (b : ℕ) (ls : List Line) → length (prepend b ls) ≤ suc (length ls)
+unfolding prepend
+prepend-long b [] = omega arith
+prepend-long b (ended bs ∷ ls) = omega arith
+prepend-long b (unended ∷ ls) = omega arith
+
+pub few_lines : (text : List ℕ) → length (lines text) ≤ length text
+unfolding lines
+few_lines [] = omega arith
+few_lines (b ∷ bs) = go (eqb b 10) (few_lines bs)
+  where
+    go : (lf : Bool) → length (lines bs) ≤ length bs → length (cond lf (ended [] ∷ lines bs) (prepend b (lines bs))) ≤ suc (length bs)
+    go true h = omega arith
+    go false h = omega (arith, h, prepend-long b (lines bs))
 
 module _ (text : List ℕ) (at : ℕ) where
   pub lf-none : false ≡ lf_within text at 0
@@ -41,3 +62,12 @@ module _ (text : List ℕ) (at : ℕ) where
       let same : i + k + 1 ≡ i + suc k = omega arith in
       subst (SameLine text at) same
       (line_on (i + k) (line-past i k line (omega arith) before) (omega arith) (eqb-false (get_or text (i + k) 0) 10 here))
+
+-- Where the bytes of a line are missed, it has no LF.
+pub missed : {E : Type 0} (line : code.Option (Bor (List ℕ))) (error other : E) → ◌≡◌ {A = Result (Bor (List ℕ)) E} (Err error) (ok_or line other)
+    → (line_of line ≡ unended) × (error ≡ other)
+missed {E} None error other e = (refl, same e)
+  where
+    same : {x y : E} → ◌≡◌ {A = Result (Bor (List ℕ)) E} (Err x) (Err y) → x ≡ y
+    same e = cc
+missed (Some bytes) error other e = absurd (cc)

@@ -2,6 +2,7 @@
 use Rattle.std.specs.Prelude.{ℕ, zero, suc, ◌+◌, ◌-◌, ◌≤◌, ◌<◌, ◌≡◌, Bool, false, ◌||◌, List, [], ◌∷◌, length, get_or, take, drop, eqb}
 use Rattle.std.specs.Prelude.{Some, None}
 use Rattle.std.specs.Prelude as code
+use denote.Ref.{Bor}
 use Rattle.std.proofs.Math.Option.{Option, none, some}
 use Rattle.model.specs.Columns.{Line, ended, unended, lines, field}
 use Rattle.model.specs.Laws.Columns.{prepend_all}
@@ -10,6 +11,11 @@ use Rattle.model.specs.Laws.Columns.{prepend_all}
 abbrev pub value_of : code.Option ℕ → Option ℕ
 value_of (Some n) = some n
 value_of None = none
+
+-- A line as it is handed on: its bytes without the LF, none where it has no LF.
+abbrev pub line_of : code.Option (Bor (List ℕ)) → Line
+line_of (Some bytes) = ended bytes.now
+line_of None = unended
 
 -- Blanks up to `at` don't count, and none stands there.
 pub record AfterBlanks (s : List ℕ) (at : ℕ) : Type 0 where

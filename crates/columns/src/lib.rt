@@ -2,8 +2,12 @@
 #![tactic(auto)]
 
 ghost use Rattle.std.specs.Prelude.{◌≡◌, ◌++◌, cond, ◌+◌, ◌%◌, ◌≤◌, ◌<◌, eqb, length, drop};
-ghost use Rattle.model.specs.Columns.{field, field_at, digits, justified, written_at, end_line, between};
-ghost use Rattle.columns.specs.View.{value_of, AfterBlanks, lf_within, SameLine, FirstLine};
+ghost use Rattle.std.specs.Prelude.{List};
+ghost use Rattle.std.specs.Iterator.{YieldsFirstBy, item_count};
+ghost use Rattle.model.specs.Columns.{Line, lines, field, field_at, digits, justified, written_at, end_line, between};
+ghost use Rattle.columns.specs.View.{value_of, line_of, AfterBlanks, lf_within, SameLine, FirstLine};
+
+use std::marker::Model;
 
 const BLANK: u8 = b' ';
 
@@ -166,4 +170,44 @@ pub fn next_line(text: &[u8], at: usize) -> Option<usize>
         }
     }
     None
+}
+
+// The lines of a text, one after the other: each without its LF, and none for the bytes after the last LF, which are one malformed line.
+#[derive(Drop)]
+pub struct LineIter<'a> {
+    rest: &'a [u8],
+}
+
+impl<'a> Model for LineIter<'a> {
+    ghost Value = { List Line };
+
+    ghost view = { λ it. lines it.rest.now };
+}
+
+impl<'a> Iterator for LineIter<'a> {
+    type Item = Option<&'a [u8]>;
+
+    ghost next_gives = { YieldsFirstBy line_of (λ left. left) };
+
+    ghost remaining = { item_count (λ left. left) };
+
+    #[tactic(auto, unfolding(model::specs::Columns::lines))]
+    fn next(&mut self) -> Option<Option<&'a [u8]>> {
+        let text = self.rest;
+        if text.is_empty() {
+            return None;
+        }
+        let Some(end) = next_line(text, 0) else {
+            self.rest = &[];
+            return Some(None);
+        };
+        self.rest = &text[end + 1..];
+        Some(Some(&text[..end]))
+    }
+}
+
+pub fn lines(text: &[u8]) -> LineIter<'_>
+    ensures { result ≡ lines text.now }
+{
+    LineIter { rest: text }
 }

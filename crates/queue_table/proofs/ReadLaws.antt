@@ -2,7 +2,7 @@
 -- Assumes nothing.
 use Prim.Native.Nat.{ℕ, ◌+◌, ◌≤◌, ◌<◌}
 use mathlib.Core.Path.{◌≡◌, refl, sym, ◌∙◌, ap}
-use mathlib.Core.List.{List, [], reverse}
+use mathlib.Core.List.{List, [], ◌∷◌, reverse}
 use native.Mathlib.Omega.{arith}
 use borrow.Author.Tests.{le-leb, lt-leb}
 use lib.ListN.{length, drop, set}
@@ -15,16 +15,18 @@ use Rattle.model.specs.Reference.{table_of}
 use Rattle.queue_table.specs.declared.Fault.{Fault}
 use Rattle.queue_table.specs.declared.Fault.TheVariants.{TooLong}
 use Rattle.queue_table.specs.declared.Refusal.{Refusal}
-use Rattle.queue_table.specs.View.{count_position, table_numbers, up_to, links_of, fault_code, verdict_of, links_read, Linked, LineTaken, LinesRead, TableFilled}
+use Rattle.queue_table.specs.View.{count_position, table_numbers, up_to, links_of, fault_code, verdict_of, links_read, Linked, LineAdded, LinesRead, TableFilled}
 use Rattle.queue_table.proofs.ViewLaws.{links-none, links-reversed}
+use Rattle.columns.proofs.LineLaws.{few_lines}
+use Rattle.queue_table.proofs.TurnLaws.{read_fault, read_links}
+use native.Mathlib.Numerals.{add-one}
 use Rattle.queue_table.proofs.StoreLaws.{table_counted, counted-formed}
 
--- What holds before each line.
-pub record Reading (text table : List ℕ) (at line n : ℕ) : Type 0 where
+-- What holds before each line: the lines left, after the links read so far, say what the whole text says.
+pub record Reading (text table : List ℕ) (left : List Line) (number n : ℕ) : Type 0 where
   pub linked : Linked n table
-  pub within : at ≤ length text
-  pub counted : line ≤ at + 1
-  pub left : model.read_lines line (links_of n table) (lines (drop at text)) ≡ model.read_lines 1 [] (lines text)
+  pub counted : number + length left ≤ length text + 1
+  pub same : model.read_lines number (links_of n table) left ≡ model.read_lines 1 [] (lines text)
 
 no-links : (table : List ℕ) → length table ≡ table_numbers → Linked 0 table
 no-links table l = record { long = l; few = omega arith; shallow = λ i h. absurd (omega arith) }
@@ -49,29 +51,47 @@ module _ (text table : List ℕ) where
       let said = long-text text h in
       rw e (record { same = said; held = ap table_of said; kept = no-links table long })
 
-  pub reading_begun : length table ≡ table_numbers → Reading text table 0 1 0
-  reading_begun long =
-      record {
+  pub reading_begun : (left : List Line) → left ≡ lines text → length table ≡ table_numbers → Reading text table left 1 0
+  reading_begun left all long =
+      rw all
+      (record {
         linked = no-links table long;
-        within = omega arith;
-        counted = omega arith;
-        left = ap (λ (ls : List model.Link). model.read_lines 1 ls (lines text)) (links-none table 0 refl);
+        counted = omega (arith, few_lines text);
+        same = ap (λ (ls : List model.Link). model.read_lines 1 ls (lines text)) (links-none table 0 refl);
+      })
+
+  pub reading_next : (left left' : List Line) (number n m : ℕ) (table' : List ℕ) (line : Line) → Reading text table left number n → left ≡ line ∷ left'
+      → LineAdded n table table' line (Ok m) → Reading text table' left' (number + 1) m
+  reading_next left left' number n m table' line reading first added =
+      record {
+        linked = added.kept;
+        counted = omega (arith, reading.counted, ap (length {A = Line}) first);
+        same = rw (add-one number)
+        (sym (read_links number (links_of n table) line left' (links_of m table') (sym added.same))
+        ∙ sym (ap (model.read_lines number (links_of n table)) first)
+        ∙ reading.same);
       }
 
-  pub reading_ended : (at line n : ℕ) → Reading text table at line n → length text ≤ at → length text ≤ table_bytes → LinesRead text table (Ok n)
+  pub reading_ended : (left : List Line) (number n : ℕ) → Reading text table left number n → left ≡ [] → length text ≤ table_bytes
+      → LinesRead text table (Ok n)
   unfolding table_of
-  reading_ended at line n reading end short =
+  reading_ended left number n reading none short =
       let said =
-      short-text text _ short (sym (sym reading.left ∙ nothing-left line (links_of n table) (lines-nothing text at end) ∙ ap model.accepted (links-reversed table n))) in
+      short-text text _ short (sym (sym reading.same ∙ nothing-left number (links_of n table) none ∙ ap model.accepted (links-reversed table n))) in
       record { same = said; held = ap table_of said; kept = reading.linked }
 
-  pub line_faulty : (at line n : ℕ) (table' : List ℕ) (fault : Fault) → Reading text table at line n → LineTaken text at n table table' (Err fault)
-      → length text ≤ table_bytes → LinesRead text table' (Err (record { fault = fault; line = line }))
+  pub line_faulty : (left left' : List Line) (number n : ℕ) (table' : List ℕ) (fault : Fault) (line : Line) → Reading text table left number n
+      → left ≡ line ∷ left' → LineAdded n table table' line (Err fault) → length text ≤ table_bytes
+      → LinesRead text table' (Err (record { fault = fault; line = number }))
   unfolding table_of up_to
-  line_faulty at line n table' fault reading taken short =
+  line_faulty left left' number n table' fault line reading first added short =
       let said =
-      short-text text (model.refused (fault_code fault) line) short (sym (sym reading.left ∙ taken.same line)) in
-      record { same = said; held = ap table_of said; kept = no-links table' taken.kept.long }
+      short-text text (model.refused (fault_code fault) number) short
+      (sym
+      (sym reading.same
+      ∙ ap (model.read_lines number (links_of n table)) first
+      ∙ read_fault number (links_of n table) line left' (fault_code fault) (sym added.same))) in
+      record { same = said; held = ap table_of said; kept = no-links table' added.kept.long }
 
   -- The number of links stored behind them makes the array hold them.
   pub links_counted : (r : Result ℕ Refusal) (verdict : Result Unit Refusal) (links : ℕ) → LinesRead text table r → verdict ≡ verdict_of r

@@ -7,8 +7,6 @@ use mathlib.Core.List.{List, [], ◌∷◌, ◌++◌}
 use mathlib.Core.Option.{none, some}
 use Rattle.std.specs.Prelude.{Result, Some, None, Ok, Err}
 use Rattle.std.specs.Prelude as code
-use Rattle.std.specs.Option.{ok_or}
-use Rattle.columns.specs.View.{FirstLine}
 use native.Mathlib.Omega.{arith}
 use native.Mathlib.Decide.{dec_lt}
 use borrow.Author.Tests.{eqb-true}
@@ -21,7 +19,7 @@ use Rattle.model.proofs.Laws.Table.{RowRules, row-rules, row-turn}
 use Rattle.queue_table.specs.declared.Fault.{Fault}
 use Rattle.queue_table.specs.declared.Fault.TheVariants.{Malformed, OutOfRange, OutOfTurn, Disagrees, TooLong}
 use Rattle.queue_table.specs.declared.row.Row.{Row}
-use Rattle.queue_table.specs.View.{numbers_of, up_to, queue_at, from_at, to_at, speed_at, levels_at, fixed_delay_at, best_effort_at, link_at, links_of, fault_code, row_stored, Linked, Placed, LineAdded, LineTaken}
+use Rattle.queue_table.specs.View.{numbers_of, up_to, queue_at, from_at, to_at, speed_at, levels_at, fixed_delay_at, best_effort_at, link_at, links_of, fault_code, row_stored, Linked, Placed, LineAdded}
 use Rattle.queue_table.proofs.ViewLaws.{begins_at, continues_none, continues_at, same_at, links-newest}
 use Rattle.queue_table.proofs.StoreLaws.{link_with, older-links, older-levels, stored, stored-levels, link-stored, stored-long}
 
@@ -200,14 +198,21 @@ module _ (ls : List model.Link) (line : List ℕ) where
   unfolding model.line_step model.row_step
   step_added r e free = simp (e, free)
 
--- A line is refused, and the array stays as it was, or its row is stored.
+step_unended : (ls : List model.Link) → model.line_step ls unended ≡ model.fault 1
+unfolding model.line_step
+step_unended ls = refl
+
+-- A line without its end is malformed; another one is malformed or refused, and the array stays as it was, or its row is stored.
+pub line_unended : (n : ℕ) (table : List ℕ) → Linked n table → LineAdded n table table unended (Err Malformed)
+line_unended n table linked = record { same = sym (step_unended (links_of n table)); kept = linked }
+
 module _ (n : ℕ) (table line : List ℕ) (linked : Linked n table) where
   pub line_refused : (r : model.Row) (fault : Fault) → model.row line ≡ some r → fault_code fault ≡ model.row_cause (links_of n table) r
-      → LineAdded n table table line (Err fault)
+      → LineAdded n table table (ended line) (Err fault)
   line_refused r fault e cause = record { same = sym (step_refused (links_of n table) line r fault e cause); kept = linked }
 
   pub line_added : (r : Row) (table' : List ℕ) → table' ≡ row_stored (numbers_of r) table
-      → model.row line ≡ some (numbers_of r) → 0 ≡ model.row_cause (links_of n table) (numbers_of r) → LineAdded n table table' line (Ok r.link)
+      → model.row line ≡ some (numbers_of r) → 0 ≡ model.row_cause (links_of n table) (numbers_of r) → LineAdded n table table' (ended line) (Ok r.link)
   line_added r table' after e free =
       record {
         same = rw after (ap model.links (stored_row n table (numbers_of r) linked (sym free)) ∙ sym (step_added (links_of n table) line (numbers_of r) e (sym free)));
@@ -223,24 +228,3 @@ module _ (m : ℕ) (ls : List model.Link) (l : Line) (rest : List Line) where
   pub read_links : (next : List model.Link) → model.line_step ls l ≡ model.links next → model.read_lines m ls (l ∷ rest) ≡ model.read_lines (suc m) next rest
   unfolding model.read_lines
   read_links next e = simp e
-
-step_unended : (ls : List model.Link) → model.line_step ls unended ≡ model.fault 1
-unfolding model.line_step
-step_unended ls = refl
-
--- The line at a position ends nowhere, is refused, or is added.
-module _ (n : ℕ) (table text : List ℕ) (at : ℕ) (linked : Linked n table) where
-  pub line_missing : (found : code.Option ℕ) (fault : Fault) → FirstLine text at found → ◌≡◌ {A = Result ℕ Fault} (Err fault) (ok_or found Malformed)
-      → LineTaken text at n table table (Err fault)
-  line_missing None fault found e =
-      rw (fault_is e)
-      (record {
-        same = λ m. ap (model.read_lines m (links_of n table)) found.same ∙ read_fault m (links_of n table) unended [] 1 (step_unended (links_of n table));
-        kept = linked;
-        on = tt;
-        within = tt;
-      })
-    where
-      fault_is : {f g : Fault} → ◌≡◌ {A = Result ℕ Fault} (Err f) (Err g) → f ≡ g
-      fault_is e = cc
-  line_missing (Some end) fault found e = absurd (cc)

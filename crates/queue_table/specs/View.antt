@@ -7,7 +7,7 @@ use Rattle.std.proofs.Math.Option.{Option, none, some}
 use Rattle.std.proofs.lemmas.List.Edits.{sets}
 use Rattle.model.specs.Words.{All}
 use Rattle.model.specs.Sizes.{links_most, levels_most, queues_most}
-use Rattle.model.specs.Columns.{ended, lines}
+use Rattle.model.specs.Columns.{Line}
 use Rattle.model.specs.QueueTable as model
 use Rattle.model.specs.Orders.{Hop}
 use Rattle.model.specs.Reference as opened
@@ -15,7 +15,6 @@ use Rattle.queue_table.specs.declared.row.Row.{Row}
 use Rattle.queue_table.specs.declared.Fault.{Fault}
 use Rattle.queue_table.specs.declared.Fault.TheVariants.{Malformed, OutOfRange, OutOfTurn, Disagrees, TooLong}
 use Rattle.queue_table.specs.declared.Refusal.{Refusal}
-use Rattle.queue_table.specs.declared.Advance.{Advance}
 
 abbrev pub numbers_of : Row → model.Row
 numbers_of r =
@@ -181,21 +180,9 @@ step_of (Ok n) table = model.links (links_of n table)
 step_of (Err fault) table = model.fault (fault_code fault)
 
 -- The line was judged and added: `n` links before, and the array before and after.
-pub record LineAdded (n : ℕ) (table table' : List ℕ) (line : List ℕ) (s : Result ℕ Fault) : Type 0 where
-  pub same : step_of s table' ≡ model.line_step (links_of n table) (ended line)
+pub record LineAdded (n : ℕ) (table table' : List ℕ) (line : Line) (s : Result ℕ Fault) : Type 0 where
+  pub same : step_of s table' ≡ model.line_step (links_of n table) line
   pub kept : MatchResult s (λ m. Linked m table') (λ fault. Linked n table')
-
--- What the lines from `at` on say, numbered from m, once the first of them was taken.
-abbrev pub left_of : (m : ℕ) (text table : List ℕ) → Result Advance Fault → model.TableText
-left_of m text table (Ok a) = model.read_lines (suc m) (links_of a.links table) (lines (drop a.next text))
-left_of m text table (Err fault) = model.refused (fault_code fault) m
-
--- The line at `at` was taken: `n` links before, and the array before and after.
-pub record LineTaken (text : List ℕ) (at n : ℕ) (table table' : List ℕ) (a : Result Advance Fault) : Type 0 where
-  pub same : (m : ℕ) → model.read_lines m (links_of n table) (lines (drop at text)) ≡ left_of m text table' a
-  pub kept : MatchResult a (λ done. Linked done.links table') (λ fault. Linked n table')
-  pub on : IfOk a (λ done. at < done.next)
-  pub within : IfOk a (λ done. done.next ≤ length text)
 
 -- The verdict as the model says it, where the text gives this table.
 abbrev pub text_of : Result Unit Refusal → model.Table → model.TableText

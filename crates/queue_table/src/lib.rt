@@ -10,7 +10,8 @@ mod consistency;
 mod row;
 
 ghost use Rattle.std.specs.Prelude.{◌≡◌, ◌<◌, length};
-ghost use Rattle.queue_table.specs.View.{table_numbers, fault_code, Linked, Placed, numbers_of, row_stored, LineAdded, LineTaken, LinesRead, TableFilled};
+ghost use Rattle.columns.specs.View.{line_of};
+ghost use Rattle.queue_table.specs.View.{table_numbers, fault_code, Linked, Placed, numbers_of, row_stored, LineAdded, LinesRead, TableFilled};
 
 pub use access::{
     Hop, Link, Queue, entry_at, hop_at, is_queue, level_of, link_at, link_count, link_of, queue_at,
@@ -85,13 +86,6 @@ pub struct Refusal {
     pub line: u32,
 }
 
-// After a line: the number of links, and the position of the next line.
-#[derive(Clone, Copy)]
-struct Advance {
-    links: usize,
-    next: usize,
-}
-
 // A table by value. A refused text has no links.
 #[derive(Clone, Copy)]
 pub struct QueueTable {
@@ -121,32 +115,19 @@ fn store_row(r: Row, table: &mut [u32])
 
 // Judges a line after n links and adds it where nothing is against it. Gives the number of links from then on.
 #[tactic(auto, using(crate::proofs::TurnLaws::placed, crate::proofs::TurnLaws::step_malformed, crate::proofs::TurnLaws::line_refused))]
-fn add_line(line: &[u8], n: usize, table: &mut [u32]) -> Result<usize, Fault>
+fn add_line(line: Option<&[u8]>, n: usize, table: &mut [u32]) -> Result<usize, Fault>
     requires { Linked n table.old }
-    ensures { LineAdded n table.old table.new line.now result }
+    ensures { LineAdded n table.old table.new (line_of line.entry) result }
 {
-    let row = Row::read(line).ok_or(Fault::Malformed)?;
+    let bytes = line.ok_or(Fault::Malformed)?;
+    let row = Row::read(bytes).ok_or(Fault::Malformed)?;
     Links { count: n, table }.judge(row)?;
     store_row(row, table);
     Ok(row.link as usize)
 }
 
-// Judges and adds the line that starts at `at`, after n links.
-#[tactic(auto, using(crate::proofs::TurnLaws::read_fault, crate::proofs::TurnLaws::read_links))]
-fn take_line(text: &[u8], at: usize, n: usize, table: &mut [u32]) -> Result<Advance, Fault>
-    requires { (at < length text.now) × Linked n table.old }
-    ensures { LineTaken text.now at n table.old table.new result }
-{
-    let end = columns::next_line(text, at).ok_or(Fault::Malformed)?;
-    let links = add_line(&text[at..end], n, table)?;
-    Ok(Advance {
-        links,
-        next: end + 1,
-    })
-}
-
 // Reads the lines of a text into the array. Gives the number of links.
-#[tactic(auto, using(crate::proofs::ReadLaws::reading_begun, crate::proofs::ReadLaws::line_faulty, crate::proofs::ReadLaws::reading_ended))]
+#[tactic(auto, using(crate::proofs::ReadLaws::reading_begun, crate::proofs::ReadLaws::reading_next, crate::proofs::ReadLaws::reading_ended))]
 fn read_lines(text: &[u8], table: &mut [u32]) -> Result<usize, Refusal>
     requires { length table.old ≡ table_numbers }
     ensures { LinesRead text.now table.new result }
@@ -157,14 +138,14 @@ fn read_lines(text: &[u8], table: &mut [u32]) -> Result<usize, Refusal>
             line: 0,
         });
     }
-    let mut at = 0;
-    let mut line: u32 = 1;
+    let mut number: u32 = 1;
     let mut n = 0;
-    while at < text.len() {
-        let advance = take_line(text, at, n, table).map_err(|fault| Refusal { fault, line })?;
-        n = advance.links;
-        at = advance.next;
-        line += 1;
+    for line in columns::lines(text) {
+        n = add_line(line, n, table).map_err(|fault| Refusal {
+            fault,
+            line: number,
+        })?;
+        number += 1;
     }
     Ok(n)
 }

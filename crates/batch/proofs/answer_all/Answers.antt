@@ -8,17 +8,19 @@ use Rattle.columns.proofs.PartLaws.{text-put}
 use Rattle.batch.proofs.AnswerLaws.{answering-first, room-left, answering-next, answering-last}
 use Rattle.batch.proofs.answer_all.Goals as goal
 
-pub loop-at-init : goal.loop-at-init
-loop-at-init c =
-    answering-first c.args.orders.now c.args.table.now c.args.bits.now c.args.store.now c.args.figures.now c.args.answers.now c.requires.consistent_arrays c.requires.answerable
+pub loop-line-init : goal.loop-line-init
+loop-line-init c =
+    let args = c.args in
+    answering-first args.orders.now _ args.table.now args.bits.now args.store.now args.figures.now args.answers.now
+    (c.into_iter-line-iterator.ensures.into_iter_gives ∙ c.lines-line-items.ensures) c.requires.consistent_arrays c.requires.answerable
 
-pub loop-at-preserved : goal.loop-at-preserved
-loop-at-preserved c =
-    let at = c.loop-at in
-    let done = c.answer_next-advance.ensures in
-    let line = answer_line (at.number + 1) (answer_of c.answer_next-advance.result.answer) in
-    answering-next at.invariant done _
-    (ap (put_mid at.offset (length at.answers - at.offset) at.answers) c.write_line.ensures ∙ text-put at.answers line at.offset answer_bytes (room-left at.invariant done).0)
+pub loop-line-preserved : goal.loop-line-preserved
+loop-line-preserved c =
+    let at = c.loop-line in
+    let first = c.in-Some.ensures.steps in
+    let line = answer_line (at.number + 1) (answer_of c.carry_out-answer.result) in
+    answering-next at.invariant first c.carry_out-answer.ensures _
+    (ap (put_mid at.offset (length at.answers - at.offset) at.answers) c.write_line.ensures ∙ text-put at.answers line at.offset answer_bytes (room-left at.invariant first).0)
 
 pub returns : goal.returns
-returns c = answering-last c.loop-at.invariant c.loop-at-test.false
+returns c = answering-last c.loop-line.invariant c.in-None.ensures.steps.0
