@@ -7,21 +7,19 @@ use borrow.Rule.Slice.PartMut.{put_mid}
 use Rattle.model.specs.Words.{and_then}
 use Rattle.model.specs.Columns.{Line, ended, unended, lines, field_at, justified, written_at, end_line}
 use Rattle.model.specs.Total.{total}
-use Rattle.model.proofs.Laws.Columns.{lines-nothing}
 use Rattle.model.proofs.Laws.Answers.{justified-length}
 use Rattle.model.proofs.Laws.Batch.{line_bytes, lines-within}
 use Rattle.model.specs.Gate.{Gate, GateAnswer, turn, offer, open_gate}
-use Rattle.model.specs.OfferList.{Opening, Step, opening_fields, read_opening, step_fields, read_step, gate_line, step_text, steps_text, opened_text, opening_text, list_text, offers_text}
+use Rattle.model.specs.OfferList.{Opening, Step, opening_fields, read_opening, step_fields, read_step, gate_line, of_line, step_text, steps_text, opened_text, opening_text, list_text, offers_text}
 use Rattle.columns.proofs.PartLaws.{field_next, byte_next, text-put, Filling, filling-first, filling-room, filling-put, filling-last}
 use Rattle.std.specs.Prelude.{Some, None}
 use Rattle.std.specs.Prelude as code
-use Rattle.std.specs.Fn.{FnReturnsAt}
-use denote.Param.Members.{Shared}
+use Rattle.std.specs.Prelude.{MatchOption}
+use Rattle.columns.specs.View.{line_of}
 use denote.Ref.{Bor}
 use Rattle.offer_list.specs.declared.Opening as code-opening
 use Rattle.offer_list.specs.declared.Step as code_step
-use Rattle.offer_list.specs.View as line-read
-use Rattle.offer_list.specs.View.{gate_line_bytes, pair_at, opening_of, opening_in, step_of, step_in, LineRead, FirstStep, FirstOpening}
+use Rattle.offer_list.specs.View.{gate_line_bytes, pair_at, opening_of, opening_in, step_of, step_in, FirstStep}
 
 -- An answer line, field by field, and its bytes.
 pub gate-line-written : (l : List ℕ) (a : GateAnswer) → gate_line_bytes ≤ length l
@@ -88,41 +86,28 @@ opening-as line h p q e d =
     go (some x) (some y) (some z) none = refl
     go (some x) (some y) (some z) (some w) = refl
 
--- What a line says by a reader that reads what the model does: a step from `at` on, or the opening at 0.
-abbrev step_then : (ls : List Line) (n clock : ℕ) → Gate → Option Step → List ℕ
-step_then ls n clock g s = step_text n clock g s λ now g'. steps_text (suc n) now g' ls
+-- What a line says, by a reader that reads the bytes of one as the model does: a step, or the opening.
+module _ {T A : Type 0} (in' : code.Option T → Option A) (read : List ℕ → Option A) (no : in' None ≡ none) where
+  read_by : (line : code.Option (Bor (List ℕ))) (found : code.Option T) → MatchOption line (found ≡ None) (λ x. in' found ≡ read x.now)
+      → in' found ≡ of_line read (line_of line)
+  read_by None found e = ap in' e ∙ no
+  read_by (Some bytes) found e = e
 
-pub step-found : {F : Type 0} {g : Shared F (Bor (List ℕ) × Unit {0}) (code.Option code_step.Step)} {f : F} {text : List ℕ} {at : ℕ} {found : code.Option (code_step.Step × ℕ)}
-    → LineRead (FnReturnsAt g f) text at found
-    → ((line : Bor (List ℕ)) (s : code.Option code_step.Step) → g.post f (line, tt) s → step_in s ≡ read_step line.now)
-    → FirstStep text at found
-unfolding steps_text step_text
-step-found (line-read.unended first) reads = record { same = λ n clock g. ap (steps_text n clock g) first.same; within = tt }
-step-found {text} (line-read.malformed {end} first r) reads =
-    let is = reads r.shown _ r.says.met ∙ ap read_step r.shows in
-    record { same = λ n clock g. ap (steps_text n clock g) first.same ∙ ap (step_then (lines (drop (end + 1) text)) n clock g) (sym is); within = tt }
-step-found {text} (line-read.read {end} first r) reads =
-    let is = reads r.shown _ r.says.met ∙ ap read_step r.shows in
+pub step-found : {left others : List Line} (line : code.Option (Bor (List ℕ))) (found : code.Option code_step.Step) → left ≡ line_of line ∷ others
+    → MatchOption line (found ≡ None) (λ x. step_in found ≡ read_step x.now) → FirstStep left others found
+unfolding steps_text
+step-found {left} {others} line found first e =
+    let is = sym (read_by step_in read_step refl line found e) in
     record {
-      same = λ n clock g. ap (steps_text n clock g) first.same ∙ ap (step_then (lines (drop (end + 1) text)) n clock g) (sym is);
-      within = (omega (arith, first.within.0), omega (arith, first.within.1));
+      same = λ n clock g. ap (steps_text n clock g) first ∙ ap (λ (s : Option Step). step_text n clock g s λ now g'. steps_text (suc n) now g' others) is;
+      counted = ap (length {A = Line}) first;
     }
 
-pub opening-found : {F : Type 0} {g : Shared F (Bor (List ℕ) × Unit {0}) (code.Option code-opening.Opening)} {f : F} {text : List ℕ} {found : code.Option (code-opening.Opening × ℕ)}
-    → LineRead (FnReturnsAt g f) text 0 found
-    → ((line : Bor (List ℕ)) (o : code.Option code-opening.Opening) → g.post f (line, tt) o → opening_in o ≡ read_opening line.now)
-    → FirstOpening text found
-unfolding offers_text list_text opening_text
-opening-found (line-read.unended first) reads = record { same = ap list_text first.same; within = tt }
-opening-found {text} (line-read.malformed {end} first r) reads =
-    let is = reads r.shown _ r.says.met ∙ ap read_opening r.shows in
-    record { same = ap list_text first.same ∙ ap (λ (o : Option Opening). opening_text o (lines (drop (end + 1) text))) (sym is); within = tt }
-opening-found {text} (line-read.read {end} first r) reads =
-    let is = reads r.shown _ r.says.met ∙ ap read_opening r.shows in
-    record {
-      same = ap list_text first.same ∙ ap (λ (o : Option Opening). opening_text o (lines (drop (end + 1) text))) (sym is);
-      within = omega (arith, first.within.1);
-    }
+pub opening-found : (text : List ℕ) (others : List Line) (line : code.Option (Bor (List ℕ))) (found : code.Option code-opening.Opening) → lines text ≡ line_of line ∷ others
+    → MatchOption line (found ≡ None) (λ x. opening_in found ≡ read_opening x.now) → offers_text text ≡ opening_text (opening_in found) others
+unfolding offers_text list_text
+opening-found text others line found first e =
+    ap list_text first ∙ ap (λ (o : Option Opening). opening_text o others) (sym (read_by opening_in read_opening refl line found e))
 
 -- 18 bytes are printed for the 15 of a line that is read, so 6 for 5; and 14 where the list breaks off.
 steps-most : (n clock : ℕ) (g : Gate) (ls : List Line) → 5 * length (steps_text n clock g ls) ≤ 6 * total line_bytes ls + 70
@@ -168,67 +153,69 @@ printed-most text few = omega (arith, list-most (lines text), lines-within text)
 pub printed-room : (n : ℕ) (text : List ℕ) → 240014 ≤ n → length text ≤ 200000 → length (offers_text text) ≤ length {A = ℕ} (replicate n 0)
 printed-room n text enough few = omega (arith, enough, printed-most text few, length-replicate {A = ℕ} n 0)
 
--- Before the line that starts at `at`: the answers to it and those after it are left, and fill the area up to where all of them end.
-pub record Answering (text all before part : List ℕ) (g : Gate) (clock at line filled : ℕ) : Type 0 where
-  pub within : at ≤ length text
-  pub counted : line ≤ at + 2
-  pub sum : filled + length (steps_text line clock g (lines (drop at text))) ≡ length all
-  pub fills : Filling (all ++ drop (length all) before) (steps_text line clock g (lines (drop at text))) part (length before) filled
+-- Before each line: the answers to the lines left fill the area up to where all of them end.
+pub record Answering (lines : List Line) (all before part : List ℕ) (left : List Line) (g : Gate) (clock number filled : ℕ) : Type 0 where
+  pub counted : number + length left ≤ length lines + 2
+  pub sum : filled + length (steps_text number clock g left) ≡ length all
+  pub fills : Filling (all ++ drop (length all) before) (steps_text number clock g left) part (length before) filled
 
-pub answering-first : (text before : List ℕ) (g : Gate) (clock from : ℕ) → let all = steps_text 2 clock g (lines (drop from text)) in
-    from ≤ length text → length all ≤ length before → Answering text all before before g clock from 2 0
-answering-first text before g clock from within room =
-    record { within = within; counted = omega arith; sum = omega arith; fills = filling-first (steps_text 2 clock g (lines (drop from text))) before room }
+pub answering-first : (lines left : List Line) (before : List ℕ) (g : Gate) (clock : ℕ) → left ≡ lines → let all = steps_text 2 clock g lines in
+    length all ≤ length before → Answering lines all before before left g clock 2 0
+answering-first lines left before g clock same room =
+    rw same (record { counted = omega arith; sum = omega arith; fills = filling-first (steps_text 2 clock g lines) before room })
 
-module _ {text all before part : List ℕ} {g : Gate} {clock at line filled : ℕ} (now : Answering text all before part g clock at line filled) where
+module _ {lines : List Line} {all before part : List ℕ} {left : List Line} {g : Gate} {clock number filled : ℕ} (now : Answering lines all before part left g clock number filled) where
   -- A line that is read has room for its answer, and is followed by the next.
-  module _ {s : code_step.Step} {next : ℕ} (found : FirstStep text at (Some (s, next))) (reading : ℕ) (is : reading ≡ (clock + s.micros) % turn) (a : GateAnswer)
+  module _ {s : code_step.Step} {others : List Line} (found : FirstStep left others (Some s)) (reading : ℕ) (is : reading ≡ (clock + s.micros) % turn) (a : GateAnswer)
       (answered : a ≡ offer g s.length.0 reading) where
-    splits : steps_text line clock g (lines (drop at text)) ≡ gate_line a ++ steps_text (line + 1) reading a.gate (lines (drop next text))
+    splits : steps_text number clock g left ≡ gate_line a ++ steps_text (number + 1) reading a.gate others
     unfolding step_text
     splits =
-        found.same line clock g
-        ∙ ap (λ (r : ℕ). gate_line (offer g s.length.0 r) ++ steps_text (suc line) r (offer g s.length.0 r).gate (lines (drop next text))) (sym is)
-        ∙ ap (λ (b : GateAnswer). gate_line b ++ steps_text (suc line) reading b.gate (lines (drop next text))) (sym answered)
-        ∙ ap (λ (n : ℕ). gate_line a ++ steps_text n reading a.gate (lines (drop next text))) (sym (add-one line))
+        found.same number clock g
+        ∙ ap (λ (r : ℕ). gate_line (offer g s.length.0 r) ++ steps_text (suc number) r (offer g s.length.0 r).gate others) (sym is)
+        ∙ ap (λ (b : GateAnswer). gate_line b ++ steps_text (suc number) reading b.gate others) (sym answered)
+        ∙ ap (λ (n : ℕ). gate_line a ++ steps_text n reading a.gate others) (sym (add-one number))
 
     pub answering-next : (part' : List ℕ) → part' ≡ put_mid filled (length part - filled) part (gate_line a ++ drop gate_line_bytes (take (length part - filled) (drop filled part)))
-        → Answering text all before part' a.gate reading next (line + 1) (filled + gate_line_bytes)
+        → Answering lines all before part' others a.gate reading (number + 1) (filled + gate_line_bytes)
     answering-next part' put =
-        let more = steps_text (line + 1) reading a.gate (lines (drop next text)) in
+        let more = steps_text (number + 1) reading a.gate others in
         record {
-          within = found.within.1;
-          counted = omega (arith, now.counted, found.within.0);
+          counted = omega (arith, now.counted, found.counted);
           sum = omega (arith, now.sum, ap length splits, length-append (gate_line a) more, gate-line-long a);
           fills = filling-put now.fills (gate_line a) more splits gate_line_bytes (sym (gate-line-long a)) part' put;
         }
 
-  pub answer-room : {s : code_step.Step} {next : ℕ} → FirstStep text at (Some (s, next)) → filled + gate_line_bytes ≤ length part
-  answer-room {s} {next} found =
+  pub answer-room : {s : code_step.Step} {others : List Line} → FirstStep left others (Some s) → filled + gate_line_bytes ≤ length part
+  answer-room {s} {others} found =
       let reading = (clock + s.micros) % turn in
       let a = offer g s.length.0 reading in
-      filling-room now.fills (gate_line a) (steps_text (line + 1) reading a.gate (lines (drop next text))) (splits found reading refl a refl) gate_line_bytes (sym (gate-line-long a))
+      filling-room now.fills (gate_line a) (steps_text (number + 1) reading a.gate others) (splits found reading refl a refl) gate_line_bytes (sym (gate-line-long a))
 
   -- One that is malformed has room for what is said of it, and is the last.
-  module _ (found : FirstStep text at None) where
-    breaks : steps_text line clock g (lines (drop at text)) ≡ end_line line ++ []
-    breaks = found.same line clock g ∙ sym (append-nil (end_line line))
+  module _ {others : List Line} (found : FirstStep left others None) where
+    broken : steps_text number clock g left ≡ end_line number
+    unfolding step_text
+    broken = found.same number clock g
+
+    breaks : steps_text number clock g left ≡ end_line number ++ []
+    breaks = broken ∙ sym (append-nil (end_line number))
 
     pub end-room : filled + 14 ≤ length part
-    end-room = filling-room now.fills (end_line line) [] breaks 14 (sym (end-line-long line))
+    end-room = filling-room now.fills (end_line number) [] breaks 14 (sym (end-line-long number))
 
-    pub answering-broken : (part' : List ℕ) → part' ≡ put_mid filled (length part - filled) part (end_line line ++ drop 14 (take (length part - filled) (drop filled part)))
+    pub answering-broken : (part' : List ℕ) → part' ≡ put_mid filled (length part - filled) part (end_line number ++ drop 14 (take (length part - filled) (drop filled part)))
         → (part' ≡ all ++ drop (filled + 14) before) × (filled + 14 ≡ length all) × (length part' ≡ length before)
     answering-broken part' put =
-        let done = filling-put now.fills (end_line line) [] breaks 14 (sym (end-line-long line)) part' put in
-        let sum : filled + 14 ≡ length all = omega (arith, now.sum, ap length (found.same line clock g), end-line-long line) in
+        let done = filling-put now.fills (end_line number) [] breaks 14 (sym (end-line-long number)) part' put in
+        let sum : filled + 14 ≡ length all = omega (arith, now.sum, ap length broken, end-line-long number) in
         (filling-last done refl ∙ ap (λ (n : ℕ). all ++ drop n before) (sym sum), sum, done.same_size)
 
   -- Past the last line nothing is left.
-  pub answering-last : length text ≤ at → (part ≡ all ++ drop filled before) × (filled ≡ length all)
+  pub answering-last : left ≡ [] → (part ≡ all ++ drop filled before) × (filled ≡ length all)
   unfolding steps_text
-  answering-last past =
-      let nothing : steps_text line clock g (lines (drop at text)) ≡ [] = ap (steps_text line clock g) (lines-nothing text at past) in
+  answering-last end =
+      let nothing : steps_text number clock g left ≡ [] = ap (steps_text number clock g) end in
       let sum : filled ≡ length all = omega (arith, now.sum, ap length nothing) in
       (filling-last now.fills nothing ∙ ap (λ (n : ℕ). all ++ drop n before) (sym sum), sum)
 
@@ -245,6 +232,11 @@ module _ (o : Opening) (ls : List Line) (a : GateAnswer) (is : a ≡ open_gate o
 
   pub opened-done : a.code ≡ 0 → opening_text (some o) ls ≡ gate_line a ++ steps_text 2 o.reading a.gate ls
   opened-done code = opened-as (eq-eqb a.code 0 code)
+
+  -- Behind the line there is room for what follows.
+  pub opened-followed : a.code ≡ 0 → (size : ℕ) → length (opening_text (some o) ls) ≤ size → gate_line_bytes + length (steps_text 2 o.reading a.gate ls) ≤ size
+  opened-followed code size room =
+      omega (arith, room, ap length (opened-done code), length-append (gate_line a) (steps_text 2 o.reading a.gate ls), gate-line-long a)
 
   pub opened-room : gate_line_bytes ≤ length (opening_text (some o) ls)
   opened-room =
@@ -265,7 +257,10 @@ line-then before area line more bytes long is size room =
     ∙ sym (append_assoc line more (drop (gate_line_bytes + bytes) before))
 
 -- Nothing is printed of an empty list.
-pub no_text : (text : List ℕ) → length text ≡ 0 → offers_text text ≡ []
-unfolding offers_text list_text lines
-no_text [] e = refl
-no_text (b ∷ bs) e = absurd (omega (arith, e))
+pub no_text : (text : List ℕ) → lines text ≡ [] → offers_text text ≡ []
+unfolding offers_text list_text
+no_text text e = ap list_text e
+
+pub unopened : (others : List Line) → opening_text none others ≡ end_line 1
+unfolding opening_text
+unopened others = refl

@@ -1,15 +1,13 @@
 // A list of offers to a gate as a text, and what is printed of it (W-207).
 #![tactic(auto)]
 
-ghost use Rattle.std.specs.Prelude.{◌≡◌, ◌+◌, ◌<◌, ◌≤◌, ◌++◌, length, drop};
-ghost use Rattle.std.specs.Fn.{FnReturnsAt};
+ghost use Rattle.std.specs.Prelude.{◌≡◌, ◌+◌, ◌<◌, ◌≤◌, ◌++◌, ◌^◌, length, drop};
 ghost use Rattle.std.proofs.Math.Option.{some};
-ghost use Rattle.model.specs.Columns.{lines};
 ghost use Rattle.model.specs.OfferList.{read_opening, read_step, gate_line, steps_text, opening_text, offers_text};
 ghost use Rattle.sender_gate.specs.View.{gate_of, answer_of};
-ghost use Rattle.offer_list.specs.View.{gate_line_bytes, pair_at, pair_in, opening_of, opening_in, step_in, LineRead};
+ghost use Rattle.offer_list.specs.View.{gate_line_bytes, pair_at, pair_in, opening_of, opening_in, step_in};
 
-use columns::{END, LF};
+use columns::{END, LF, LineIter};
 use sender_gate::{Gate, GateAnswer};
 use units::{Bytes, Rate};
 
@@ -80,17 +78,6 @@ fn read_step(line: &[u8]) -> Option<Step>
     })
 }
 
-// What the line that starts at `at` says, and where the next one starts; none where it is unended or malformed.
-fn read_line<T, F: Fn(&[u8]) -> Option<T>>(text: &[u8], at: usize, read: F) -> Option<(T, usize)>
-    requires within { at < length text.now }
-    requires callable { F.IsAlwaysCallable read }
-    ensures { LineRead (FnReturnsAt F.Fn read) text.now at result }
-{
-    let end = columns::next_line(text, at)?;
-    let fields = read(&text[at..end])?;
-    Some((fields, end + 1))
-}
-
 // An answer line at the front of `part`.
 fn write_answer(answer: GateAnswer, part: &mut [u8])
     requires { gate_line_bytes ≤ length part.old }
@@ -101,38 +88,38 @@ fn write_answer(answer: GateAnswer, part: &mut [u8])
     part[17] = LF;
 }
 
-// Offer after offer, from a position of the list on, written to the front of `part`: how many bytes that takes.
-fn answer_steps(text: &[u8], from: usize, first: Gate, reading: u32, part: &mut [u8]) -> usize
-    requires { (from ≤ length text.now) × (length (steps_text 2 reading (gate_of first) (lines (drop from text.now))) ≤ length part.old) }
-    ensures part_after { part.new ≡ steps_text 2 reading (gate_of first) (lines (drop from text.now)) ++ drop result part.old }
-    ensures value { result ≡ length (steps_text 2 reading (gate_of first) (lines (drop from text.now))) }
+// Offer after offer, written to the front of `part`: how many bytes that takes.
+fn answer_steps(offers: LineIter<'_>, first: Gate, reading: u32, part: &mut [u8]) -> usize
+    requires few { length offers < 2 ^ 63 }
+    requires room { length (steps_text 2 reading (gate_of first) offers) ≤ length part.old }
+    ensures part_after { part.new ≡ steps_text 2 reading (gate_of first) offers.entry ++ drop result part.old }
+    ensures value { result ≡ length (steps_text 2 reading (gate_of first) offers.entry) }
 {
     let mut gate = first;
     let mut clock = reading;
-    let mut at = from;
-    let mut line: u64 = 2;
+    let mut number: u64 = 2;
     let mut filled = 0;
-    while at < text.len() {
-        let Some((step, next)) = read_line(text, at, read_step) else {
-            columns::write_end(&mut part[filled..], line);
+    for line in offers {
+        let Some(step) = line.and_then(read_step) else {
+            columns::write_end(&mut part[filled..], number);
             return filled + END;
         };
         clock = clock.wrapping_add(step.micros);
         let answer = sender_gate::offer(gate, step.length, clock);
         write_answer(answer, &mut part[filled..]);
         gate = answer.gate;
-        at = next;
-        line += 1;
+        number += 1;
         filled += ANSWER;
     }
     filled
 }
 
 // The same from the opening on.
-fn answer_opening(text: &[u8], next: usize, opening: Opening, area: &mut [u8]) -> usize
-    requires { (next ≤ length text.now) × (length (opening_text (some (opening_of opening)) (lines (drop next text.now))) ≤ length area.old) }
-    ensures area_after { area.new ≡ opening_text (some (opening_of opening)) (lines (drop next text.now)) ++ drop result area.old }
-    ensures value { result ≡ length (opening_text (some (opening_of opening)) (lines (drop next text.now))) }
+fn answer_opening(opening: Opening, offers: LineIter<'_>, area: &mut [u8]) -> usize
+    requires few { length offers < 2 ^ 63 }
+    requires room { length (opening_text (some (opening_of opening)) offers) ≤ length area.old }
+    ensures area_after { area.new ≡ opening_text (some (opening_of opening)) offers.entry ++ drop result area.old }
+    ensures value { result ≡ length (opening_text (some (opening_of opening)) offers.entry) }
 {
     let opened = sender_gate::open(opening.rate, opening.burst, opening.frame, opening.reading);
     write_answer(opened, area);
@@ -141,8 +128,7 @@ fn answer_opening(text: &[u8], next: usize, opening: Opening, area: &mut [u8]) -
     }
     ANSWER
         + answer_steps(
-            text,
-            next,
+            offers,
             opened.gate,
             opening.reading,
             &mut area[ANSWER..],
@@ -155,12 +141,13 @@ pub fn answer(text: &[u8], area: &mut [u8]) -> usize
     ensures area_after { area.new ≡ offers_text text.now ++ drop result area.old }
     ensures value { result ≡ length (offers_text text.now) }
 {
-    if text.is_empty() {
+    let mut lines = columns::lines(text);
+    let Some(line) = lines.next() else {
         return 0;
-    }
-    let Some((opening, next)) = read_line(text, 0, read_opening) else {
+    };
+    let Some(opening) = line.and_then(read_opening) else {
         columns::write_end(area, 1);
         return END;
     };
-    answer_opening(text, next, opening, area)
+    answer_opening(opening, lines, area)
 }

@@ -62,13 +62,10 @@ fn main(rt: HostRuntime) {
 }
 
 fn walk(rt: &impl Print, text: &[u8]) {
-    let mut at = 0;
-    while at < text.len() {
-        let Some(end) = columns::next_line(text, at) else {
-            refused(rt, Cause::Malformed);
-            return;
-        };
-        judge(rt, &text[at..end]);
-        at = end + 1;
+    for line in columns::lines(text) {
+        match line {
+            Some(line) => judge(rt, line),
+            None => refused(rt, Cause::Malformed),
+        }
     }
 }

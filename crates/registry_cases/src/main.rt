@@ -11,6 +11,7 @@ ghost use Rattle.std.specs.Prelude.{◌+◌, ◌≤◌, ◌<◌};
 
 use admission::Answer;
 use causes::Numbers;
+use columns::LF;
 use orders::Kind;
 use queue_table::TABLE_BYTES;
 use registry::Registry;
@@ -103,12 +104,10 @@ fn step(rt: &impl Print, registry: Registry, line: &[u8]) -> Registry {
     }
 }
 
+// Each line is handed on with its LF.
 fn walk(rt: &impl Print, text: &[u8], mut registry: Registry) {
-    let mut at = 0;
-    while at < text.len() {
-        let next = columns::next_line(text, at).map_or(text.len(), |end| end + 1);
-        registry = step(rt, registry, &text[at..next]);
-        at = next;
+    for line in text.split_inclusive(|byte| *byte == LF) {
+        registry = step(rt, registry, line);
     }
 }
 
