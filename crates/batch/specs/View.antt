@@ -1,5 +1,5 @@
 -- What the parts of a batch say in the terms of the model.
-use Rattle.std.specs.Prelude.{ℕ, suc, ◌*◌, ◌≤◌, ◌<◌, ◌≡◌, List, ◌∷◌, length, drop, replicate, Bool, eqb, Result, Ok, Err}
+use Rattle.std.specs.Prelude.{ℕ, ◌*◌, ◌≤◌, ◌≡◌, List, ◌∷◌, length, replicate, Bool, eqb, Result, Ok, Err}
 use Rattle.model.specs.Sizes.{order_lines, answer_bytes}
 use Rattle.model.specs.Columns.{Line, lines}
 use Rattle.model.specs.QueueTable.{accepted}

@@ -126,13 +126,7 @@ fn answer_opening(opening: Opening, offers: LineIter<'_>, area: &mut [u8]) -> us
     if opened.code != 0 {
         return ANSWER;
     }
-    ANSWER
-        + answer_steps(
-            offers,
-            opened.gate,
-            opening.reading,
-            &mut area[ANSWER..],
-        )
+    ANSWER + answer_steps(offers, opened.gate, opening.reading, &mut area[ANSWER..])
 }
 
 // What is printed of a list, written to the front of the area: how many bytes that takes.

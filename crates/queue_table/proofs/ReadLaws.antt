@@ -5,11 +5,10 @@ use mathlib.Core.Path.{◌≡◌, refl, sym, ◌∙◌, ap}
 use mathlib.Core.List.{List, [], ◌∷◌, reverse}
 use native.Mathlib.Omega.{arith}
 use borrow.Author.Tests.{le-leb, lt-leb}
-use lib.ListN.{length, drop, set}
+use lib.ListN.{length, set}
 use Rattle.std.specs.Prelude.{Result, Ok, Err}
 use Rattle.model.specs.Sizes.{table_bytes}
 use Rattle.model.specs.Columns.{Line, lines}
-use Rattle.model.proofs.Laws.Columns.{lines-nothing}
 use Rattle.model.specs.QueueTable as model
 use Rattle.model.specs.Reference.{table_of}
 use Rattle.queue_table.specs.declared.Fault.{Fault}
@@ -67,9 +66,9 @@ module _ (text table : List ℕ) where
         linked = added.kept;
         counted = omega (arith, reading.counted, ap (length {A = Line}) first);
         same = rw (add-one number)
-        (sym (read_links number (links_of n table) line left' (links_of m table') (sym added.same))
-        ∙ sym (ap (model.read_lines number (links_of n table)) first)
-        ∙ reading.same);
+            (sym (read_links number (links_of n table) line left' (links_of m table') (sym added.same))
+            ∙ sym (ap (model.read_lines number (links_of n table)) first)
+            ∙ reading.same);
       }
 
   pub reading_ended : (left : List Line) (number n : ℕ) → Reading text table left number n → left ≡ [] → length text ≤ table_bytes

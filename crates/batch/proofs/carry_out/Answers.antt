@@ -1,7 +1,7 @@
 -- `batch::carry_out` meets its contract: the order that the line says is carried out; an unended line is 10.
-use Rattle.std.proofs.Common.{List, arith, sym, subst, rules}
+use Rattle.std.proofs.Common.{arith, sym, subst, rules}
 use Rattle.std.specs.Prelude.{Err}
-use Rattle.model.specs.Columns.{Line, ended, unended}
+use Rattle.model.specs.Columns.{ended, unended}
 use Rattle.model.specs.Orders as model
 use Rattle.model.proofs.Laws.Order.{Ranged, line-ranged}
 use Rattle.causes.specs.declared.Cause.TheVariants.{Malformed}

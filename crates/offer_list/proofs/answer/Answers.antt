@@ -1,5 +1,5 @@
 -- `offer_list::answer` meets its contract: by what is found in the first line.
-use Rattle.std.proofs.Common.{◌≡◌, ℕ, List, ◌++◌, length, drop, sym, ap, ◌∙◌, arith}
+use Rattle.std.proofs.Common.{ℕ, List, ◌++◌, length, drop, sym, ap, ◌∙◌, arith}
 use Rattle.std.specs.Prelude.{Some, None}
 use Rattle.columns.proofs.LineLaws.{few_lines}
 use Rattle.offer_list.proofs.ListLaws.{opening-found, unopened, end-line-long, no_text}

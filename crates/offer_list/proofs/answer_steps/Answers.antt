@@ -1,5 +1,5 @@
 -- `offer_list::answer_steps` meets its contract: before each line the answers to those that are left go on from what is written (`Answering`).
-use Rattle.std.proofs.Common.{◌-◌, length, refl, ap, sym}
+use Rattle.std.proofs.Common.{◌-◌, length, refl, ap}
 use Rattle.std.specs.Prelude.{Some, None}
 use borrow.Rule.Slice.PartMut.{put_mid}
 use Rattle.columns.proofs.PartLaws.{part-long}
