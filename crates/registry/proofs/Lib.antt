@@ -1,3 +1,4 @@
 pub mod CallLaws
 pub mod OpenLaws
 pub mod ConsistentLaws
+pub mod TestLaws
