@@ -1,4 +1,3 @@
 pub mod CallLaws
 pub mod OpenLaws
 pub mod ConsistentLaws
-pub mod TestLaws

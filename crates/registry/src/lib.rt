@@ -61,12 +61,22 @@ pub fn is_consistent(table: &[u32], bits: &[u64], store: &[u32], figures: &[u64]
     ensures consistent_arrays { result ≡ true → ConsistentArrays table.now bits.now store.now figures.now }
     ensures fact { result ≡ false → ConsistentArrays table.now bits.now store.now figures.now → ⊥ }
 {
-    flow_store::is_packed(bits, store)
-        && queue_table::consistent(table)
-        && flow_check::held_flows(table, bits, store)
-        && figures_right(table, bits, store, figures)
-        && figures::limited(figures)
-        && figures::links_meet(table, figures)
+    if !flow_store::is_packed(bits, store) {
+        return false;
+    }
+    if !queue_table::consistent(table) {
+        return false;
+    }
+    if !flow_check::held_flows(table, bits, store) {
+        return false;
+    }
+    if !figures_right(table, bits, store, figures) {
+        return false;
+    }
+    if !figures::limited(figures) {
+        return false;
+    }
+    figures::links_meet(table, figures)
 }
 
 // The order of a direct call's bytes, on arrays of any content: 42 first.
