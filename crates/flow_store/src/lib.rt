@@ -8,7 +8,7 @@
 // stands past the last held entry doesn't count.
 #![tactic(auto)]
 
-ghost use Rattle.std.specs.Prelude.{◌≡◌, ℕ, ◌+◌, ◌-◌, ◌^◌, ◌<◌, ◌≤◌, true, false, List, length, take, ◌≢◌, slice_index_or, slice_set};
+ghost use Rattle.std.specs.Prelude.{◌≡◌, ℕ, ◌+◌, ◌-◌, ◌^◌, ◌<◌, ◌≤◌, true, false, List, length, ◌≢◌, slice_index_or, slice_set};
 ghost use Rattle.std.proofs.Math.Option.{none};
 ghost use Rattle.model.specs.Words.{first_index};
 ghost use Rattle.model.specs.Sizes.{hops_most, slot_count};

@@ -21,7 +21,7 @@ use denote.Ref.{Bor}
 use Rattle.offer_list.specs.declared.Opening as code-opening
 use Rattle.offer_list.specs.declared.Step as code_step
 use Rattle.offer_list.specs.View as line-read
-use Rattle.offer_list.specs.View.{gate_line_bytes, pair_at, opening_of, opening_in, step_of, step_in, LineRead, FirstStep, FirstOpening}
+use Rattle.offer_list.specs.View.{gate_line_bytes, pair_at, opening_in, step_in, LineRead, FirstStep, FirstOpening}
 
 -- An answer line, field by field, and its bytes.
 pub gate-line-written : (l : List ℕ) (a : GateAnswer) → gate_line_bytes ≤ length l
