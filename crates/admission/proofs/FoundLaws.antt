@@ -1,6 +1,6 @@
 -- What a search for a flow number tells once its answer, or 13 for want of one, is known.
 -- Assumes nothing.
-use Rattle.std.specs.Prelude.{Result, Ok, Err, Some, None}
+use Rattle.std.specs.Prelude.{Ok, Err, Some, None}
 use Rattle.std.specs.Prelude as code
 use Rattle.std.specs.Option.{ok_or}
 use Prim.Native.Nat.{ℕ, ◌<◌}

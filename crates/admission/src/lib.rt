@@ -52,9 +52,10 @@ fn take_out(slot: usize, table: &[u32], bits: &mut [u64], store: &mut [u32], fig
     ensures consistent_arrays_2 { ConsistentArrays table.now bits.new store.new figures.new }
 {
     let flow = flow_store::flow_at(slot, store);
-    let path = flow_store::path_at(slot, store);
+    let entries = flow_store::path_of(slot, store);
+    let lower = figures::remove_path(flow.share, table, entries, figures);
     flow_store::remove(slot, bits, store);
-    if figures::remove_path(flow.share, table, path.entries(), figures) {
+    if lower {
         recount::raise_frames(bits, store, figures);
     }
 }
@@ -98,11 +99,10 @@ fn change_held(
         burst: given.burst,
         frame: was.frame,
     };
-    let path = flow_store::path_at(held, store);
-    let entries = path.entries();
+    let entries = flow_store::path_of(held, store);
     figures::check_change(was, share, table, figures, entries)?;
-    flow_store::change(held, given, store);
     figures::change_path(was, share, table, entries, figures);
+    flow_store::change(held, given, store);
     Ok(held as u32 + 1)
 }
 

@@ -6,7 +6,6 @@
 
 use batch::{ANSWER_BYTES, BatchResult, ORDER_BYTES, ORDER_LINES, Refusal};
 use queue_table::{Fault, TABLE_BYTES};
-use std::io;
 
 const TABLE: usize = TABLE_BYTES + 1;
 
@@ -40,19 +39,16 @@ fn tell_refusal(err: &impl Print, refusal: Refusal, line: u32) {
     };
 }
 
-fn tell_unwritten(err: &impl Print, printed: io::Result<()>) {
-    if printed.is_err() {
-        let _ = println!(err; "admit: the output can't be written");
-    }
-}
-
 fn run(rt: &impl Print, err: &impl Print, table: &[u8], orders: &[u8]) {
     let mut answers = [0u8; ANSWERS];
     match batch::answer(table, orders, &mut answers) {
-        Ok(count) => tell_unwritten(err, rt.write_all(&answers[..ANSWER_BYTES * count as usize])),
+        Ok(count) => {
+            let printed = rt.write_all(&answers[..ANSWER_BYTES * count as usize]);
+            text_files::tell_unwritten(err, b"admit", printed);
+        }
         Err(refusal) => {
             let BatchResult { code, line } = BatchResult::from(refusal);
-            tell_unwritten(err, println!(rt; "{code:3}{line:6}"));
+            text_files::tell_unwritten(err, b"admit", println!(rt; "{code:3}{line:6}"));
             tell_refusal(err, refusal, line);
         }
     }
@@ -60,9 +56,9 @@ fn run(rt: &impl Print, err: &impl Print, table: &[u8], orders: &[u8]) {
 
 fn main(rt: HostRuntime) {
     let err = rt.stderr();
-    let mut table = [0u8; TABLE];
-    let mut orders = [0u8; ORDERS];
-    let table_size = text_files::read_or_tell(&rt, &err, b"admit", b"table.txt", &mut table);
-    let orders_size = text_files::read_or_tell(&rt, &err, b"admit", b"orders.txt", &mut orders);
-    run(&rt, &err, &table[..table_size], &orders[..orders_size]);
+    let mut table_area = [0u8; TABLE];
+    let mut orders_area = [0u8; ORDERS];
+    let table = text_files::read_or_tell(&rt, &err, b"admit", b"table.txt", &mut table_area);
+    let orders = text_files::read_or_tell(&rt, &err, b"admit", b"orders.txt", &mut orders_area);
+    run(&rt, &err, table, orders);
 }

@@ -1,5 +1,5 @@
 // A flow counted in at each queue of its path, counted there by another share and taken out, and largest frames raised again.
-ghost use Rattle.std.specs.Prelude.{◌≡◌, false, ◌+◌, ◌*◌, ◌^◌, ◌≤◌, ◌<◌, length, get_or};
+ghost use Rattle.std.specs.Prelude.{◌≡◌, false, ◌+◌, ◌*◌, ◌^◌, ◌≤◌, ◌<◌, length};
 ghost use Rattle.model.specs.Words.{All};
 ghost use Rattle.model.specs.Sizes.{queues_most};
 ghost use Rattle.model.specs.WithFlow.{together};

@@ -8,17 +8,17 @@
 // stands past the last held entry doesn't count.
 #![tactic(auto)]
 
-ghost use Rattle.std.specs.Prelude.{◌≡◌, ℕ, ◌+◌, ◌-◌, ◌^◌, ◌<◌, ◌≤◌, true, false, List, length, take, ◌≢◌, slice_index_or, slice_set};
+ghost use Rattle.std.specs.Prelude.{◌≡◌, ℕ, ◌+◌, ◌-◌, ◌^◌, ◌<◌, ◌≤◌, true, false, List, length, ◌≢◌, slice_index_or, slice_set};
 ghost use Rattle.std.proofs.Math.Option.{none};
 ghost use Rattle.model.specs.Words.{first_index};
-ghost use Rattle.model.specs.Sizes.{hops_most, slot_count};
+ghost use Rattle.model.specs.Sizes.{slot_count};
 ghost use Rattle.model.specs.Reference.{holds, changed_slot};
 ghost use Rattle.units.specs.View.{aggregate_of};
 ghost use Rattle.orders.specs.View.{change_of, fields_of};
 ghost use Rattle.bit_words.specs.View.{is_set, LeastClear};
 ghost use Rattle.flow_store.specs.View.{store_numbers, slot_words, block_slots, hops_at, start_at, head_at, share_at, entries_in, slots_of, counts_from, Packed, PackedStore, PathInside, end_before, flow_stored, StartsMoved, path_inserted, path_removed, Narrow, ChangeNarrow, Placeable, Placed, FreeFrom, OthersFrom, FoundSlot};
 
-use orders::{Change, Flow, Path};
+use orders::{Change, Flow};
 use units::{Aggregate, Bytes, Micros, Rate};
 
 // How many slots there are, a multiple of BLOCK and of a word's bits, and how many hop entries for all of them together.
@@ -282,15 +282,6 @@ pub fn change(slot: usize, given: Change, store: &mut [u32])
 {
     store[RATES + slot] = given.rate.0 as u32;
     store[BURSTS + slot] = given.burst.0 as u32;
-}
-
-// A copy of the path of a held slot.
-pub fn path_at(slot: usize, store: &[u32]) -> Path
-    requires { (length store.now ≡ store_numbers) × (slot < slot_count) × PathInside store.now slot × (hops_at store.now slot ≤ hops_most) }
-    ensures value { length result ≡ hops_at store.now slot }
-    ensures entries_value { result ≡ entries_in store.now slot }
-{
-    Path::from_slice(path_of(slot, store))
 }
 
 // Takes the `hops` entries at position `start` out of a pool that is held up to `end`.

@@ -10,14 +10,9 @@ use recording::{ANSWERS, Form, TABLE};
 use registry::Registry;
 use text_files::LIST_AREA;
 
-// What standard error doesn't take is lost.
-fn tell(err: &impl Print, words: &[u8]) {
-    let _ = err.write_all(words);
-}
-
 fn tell_verdict(err: &impl Print, verdict: Result<(), Refusal>) {
     if let Err(refusal) = verdict {
-        tell(err, &recording::refusal_line(refusal.fault, refusal.line));
+        text_files::show(err, &recording::refusal_line(refusal.fault, refusal.line));
     }
 }
 
@@ -27,9 +22,7 @@ fn print_text(rt: &impl Print, err: &impl Print, registry: Registry) {
     let Ok(bytes) = order_text::write(registry, &mut area) else {
         return;
     };
-    if rt.write_all(&area[..bytes]).is_err() {
-        tell(err, b"handover: the output can't be written\n");
-    }
+    text_files::tell_unwritten(err, b"handover", rt.write_all(&area[..bytes]));
 }
 
 fn hand_over(rt: &impl Print, err: &impl Print, table: &[u8], calls: &[u8]) {
@@ -37,16 +30,16 @@ fn hand_over(rt: &impl Print, err: &impl Print, table: &[u8], calls: &[u8]) {
     let replayed = recording::replay(Form::ByValue, table, calls, &mut answers);
     tell_verdict(err, replayed.verdict);
     if replayed.end < calls.len() {
-        tell(err, &recording::end_line(replayed.end));
+        text_files::show(err, &recording::end_line(replayed.end));
     }
     print_text(rt, err, replayed.registry);
 }
 
 fn main(rt: HostRuntime) {
     let err = rt.stderr();
-    let mut table = [0; TABLE];
-    let mut calls = [0; LIST_AREA];
-    let n = text_files::read_or_tell(&rt, &err, b"handover", b"table.txt", &mut table);
-    let m = text_files::read_list(&rt, &err, b"handover", b"calls.txt", &mut calls);
-    hand_over(&rt, &err, &table[..n], &calls[..m]);
+    let mut table_area = [0; TABLE];
+    let mut calls_area = [0; LIST_AREA];
+    let table = text_files::read_or_tell(&rt, &err, b"handover", b"table.txt", &mut table_area);
+    let calls = text_files::read_list(&rt, &err, b"handover", b"calls.txt", &mut calls_area);
+    hand_over(&rt, &err, table, calls);
 }

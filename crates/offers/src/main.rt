@@ -12,14 +12,12 @@ fn print_answers(rt: &impl Print, err: &impl Print, text: &[u8])
 {
     let mut area = [0u8; PRINTED];
     let bytes = offer_list::answer(text, &mut area);
-    if rt.write_all(&area[..bytes]).is_err() {
-        let _ = println!(err; "offers: the output can't be written");
-    }
+    text_files::tell_unwritten(err, b"offers", rt.write_all(&area[..bytes]));
 }
 
 fn main(rt: HostRuntime) {
     let err = rt.stderr();
-    let mut text = [0u8; LIST_AREA];
-    let n = text_files::read_list(&rt, &err, b"offers", b"offers.txt", &mut text);
-    print_answers(&rt, &err, &text[..n]);
+    let mut area = [0u8; LIST_AREA];
+    let text = text_files::read_list(&rt, &err, b"offers", b"offers.txt", &mut area);
+    print_answers(&rt, &err, text);
 }

@@ -56,9 +56,8 @@ fn judge(rt: &impl Print, line: &[u8]) {
 }
 
 fn main(rt: HostRuntime) {
-    let mut space = [0u8; 8192];
-    let n = text_files::read(&rt, b"orders.txt", &mut space);
-    walk(&rt, &space[..n]);
+    let mut area = [0u8; 8192];
+    walk(&rt, text_files::read(&rt, b"orders.txt", &mut area));
 }
 
 fn walk(rt: &impl Print, text: &[u8]) {

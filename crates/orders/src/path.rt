@@ -31,19 +31,6 @@ impl Path {
         }
     }
 
-    // A copy of these entries.
-    pub fn from_slice(entries: &[u32]) -> Path
-        requires { length entries.now ≤ hops_most }
-        ensures { result ≡ entries.now }
-    {
-        let mut copied = [0; MOST_HOPS];
-        copied[..entries.len()].copy_from_slice(entries);
-        Path {
-            entries: copied,
-            hops: entries.len(),
-        }
-    }
-
     // One hop more.
     pub fn push(&mut self, entry: u32)
         requires { length self.old < hops_most }

@@ -1,6 +1,6 @@
 -- What the answers of this crate say in the terms of the model.
 use Rattle.std.specs.Prelude as code
-use Rattle.std.specs.Prelude.{ℕ, zero, suc, ◌+◌, ◌<◌, ◌≡◌, true, List, [], ◌∷◌, map, reverse, take, Some, None, Result, Ok, Err, IfOk, IfErr}
+use Rattle.std.specs.Prelude.{ℕ, zero, suc, ◌+◌, ◌<◌, ◌≡◌, true, List, [], ◌∷◌, map, reverse, take, Some, None, Result, IfOk, IfErr}
 use Rattle.std.specs.Result.{result_err}
 use Rattle.std.proofs.Math.Option.{Option, none, some}
 use Rattle.model.specs.Orders.{Hop}

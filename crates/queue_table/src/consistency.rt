@@ -1,5 +1,5 @@
 // Whether an array of any content holds a table that passes 2 to 4 (document 01, code 42).
-ghost use Rattle.std.specs.Prelude.{◌≡◌, ◌≤◌, ◌<◌, length};
+ghost use Rattle.std.specs.Prelude.{◌≡◌, ◌<◌, length};
 ghost use Rattle.model.specs.Sizes.{links_most, levels_most};
 ghost use Rattle.model.specs.QueueTable.{row_in_range};
 ghost use Rattle.model.specs.Consistent as model;

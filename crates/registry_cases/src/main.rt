@@ -23,11 +23,10 @@ const TABLE: usize = TABLE_BYTES + 1;
 // The longest area that is lent to the writer.
 const AREA: usize = 300;
 
-// What standard output doesn't take is lost.
 fn show(rt: &impl Print, answer: Answer) {
     let mut out = *b"             \n";
     answer_line::write_answer(answer, &mut out);
-    let _ = rt.write_all(&out);
+    text_files::show(rt, &out);
 }
 
 // The number in these columns of an x or w line, 0 where there is none.
@@ -76,8 +75,8 @@ fn show_text(rt: &impl Print, registry: Registry, area: &mut [u8]) {
         Err(cause) => (Numbers::from(cause).code, 0),
     };
     let _ = println!(rt; "{code:3}{bytes:6}");
-    let _ = rt.write_all(area);
-    let _ = rt.write_all(b"\n");
+    text_files::show(rt, area);
+    text_files::show(rt, b"\n");
 }
 
 // An area of at most AREA bytes.
@@ -117,11 +116,11 @@ fn judge(rt: &impl Print, table: &[u8], orders: &[u8]) {
 
 // None where there are no such files.
 fn judge_files(rt: &(impl Files + Print), table_name: &[u8], orders_name: &[u8]) -> Option<()> {
-    let mut table = [0; TABLE];
-    let n = text_files::try_read(rt, table_name, &mut table)?;
-    let mut orders = [0; 16384];
-    let m = text_files::try_read(rt, orders_name, &mut orders)?;
-    judge(rt, &table[..n], &orders[..m]);
+    let mut table_area = [0; TABLE];
+    let table = text_files::try_read(rt, table_name, &mut table_area)?;
+    let mut orders_area = [0; 16384];
+    let orders = text_files::try_read(rt, orders_name, &mut orders_area)?;
+    judge(rt, table, orders);
     Some(())
 }
 

@@ -8,7 +8,6 @@
 #![tactic(auto)]
 
 ghost use Rattle.std.specs.Prelude.{◌+◌, ◌*◌, ◌≤◌, ◌<◌, ◌≡◌, length};
-ghost use Rattle.text_files.specs.Counts.{IsPrefixLen};
 ghost use Rattle.model.specs.Sizes.{queues_most, hops_most, head_columns, hop_columns, slot_count};
 ghost use Rattle.queue_table.specs.View.{WellFormed};
 ghost use Rattle.flow_store.specs.View.{PackedStore};
@@ -21,18 +20,13 @@ use queue_table::{QUEUES, Refusal};
 use recording::{ANSWER, ANSWERS, Form, TABLE};
 use registry::Registry;
 use std::env::{Env, FillError};
-use text_files::LIST;
+use text_files::{LIST, show};
 
 // How many columns more a slot's line has than an order line.
 const PLACE: usize = 2;
 
 // The bytes of a slot's line with the most hops, and LF.
 const SLOT_LINE: usize = PLACE + HEAD_COLUMNS + HOP_COLUMNS * MOST_HOPS + 1;
-
-// What standard output doesn't take is lost.
-fn show(rt: &impl Print, line: &[u8]) {
-    let _ = rt.write_all(line);
-}
 
 fn show_verdict(rt: &impl Print, verdict: Result<(), Refusal>) {
     if let Err(refusal) = verdict {
@@ -63,22 +57,20 @@ fn show_queues(rt: &impl Print, table: &[u32], figures: &[u64])
     }
 }
 
-// A held slot's line: that of its flow, with the place in 4 columns instead of the kind in 2. How many bytes it has.
-fn write_flow(slot: usize, flow: Flow, entries: &[u32], out: &mut [u8]) -> usize
+// A held slot's line, at the start of `out`: that of its flow, with the place in 4 columns instead of the kind in 2.
+fn write_flow<'a>(slot: usize, flow: Flow, entries: &[u32], out: &'a mut [u8]) -> &'a [u8]
     requires { (slot < slot_count) × (flow.hops ≡ length entries.now) × (2 + head_columns + 1 + hop_columns * length entries.now ≤ length out.old) }
-    ensures { IsPrefixLen result out.new }
 {
     let bytes = order_text::write_line(flow, entries, &mut out[PLACE..]);
     columns::write_at(out, 1, 4, (slot + 1) as u64);
-    PLACE + bytes
+    &out[..PLACE + bytes]
 }
 
 fn show_flow(rt: &impl Print, slot: usize, flow: Flow, entries: &[u32])
     requires { (slot < slot_count) × (flow.hops ≡ length entries.now) × (length entries.now ≤ hops_most) }
 {
     let mut out = [b' '; SLOT_LINE];
-    let bytes = write_flow(slot, flow, entries, &mut out);
-    show(rt, &out[..bytes]);
+    show(rt, write_flow(slot, flow, entries, &mut out));
 }
 
 // A slot's line where it is held: a path has at most MOST_HOPS hops.
@@ -132,9 +124,9 @@ fn replay(rt: &impl Print, form: Form, table: &[u8], calls: &[u8]) {
 
 fn main(rt: HostRuntime) {
     let form = form_asked(&rt);
-    let mut table = [0; TABLE];
-    let mut calls = [0; LIST];
-    let n = text_files::read(&rt, b"table.txt", &mut table);
-    let m = text_files::read(&rt, b"calls.txt", &mut calls);
-    replay(&rt, form, &table[..n], &calls[..m]);
+    let mut table_area = [0; TABLE];
+    let mut calls_area = [0; LIST];
+    let table = text_files::read(&rt, b"table.txt", &mut table_area);
+    let calls = text_files::read(&rt, b"calls.txt", &mut calls_area);
+    replay(&rt, form, table, calls);
 }

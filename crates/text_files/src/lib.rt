@@ -1,13 +1,13 @@
-// The files that programs read.
+// The files that programs read, and what they say where a file or their output is not as it should be.
 #![tactic(auto)]
 
-ghost use Rattle.std.specs.Prelude.{◌≤◌, IfSome};
+ghost use Rattle.std.specs.Prelude.{◌≤◌, length, IfSome};
 ghost use Rattle.text_files.specs.Counts.{IsPrefixLen};
 
 use std::fs::File;
 use std::io::Read;
 use std::rt::Files;
-use std::str;
+use std::{io, str};
 
 // Only so many bytes of a list of calls or offers count. The area has one more, so that a longer list shows.
 pub const LIST: usize = 200_000;
@@ -43,65 +43,78 @@ fn take<F: Read + Drop>(mut file: F, text: &mut [u8]) -> usize
     done
 }
 
-// How many bytes of the file stand at the start of `text`, where it can be opened.
-pub fn try_read<R: Files>(rt: &R, name: &[u8], text: &mut [u8]) -> Option<usize>
-    ensures { IfSome result (λ n. IsPrefixLen n text.new) }
+// What of the file can be read and has room in `area`: the front of what stands in `area` then. None where it can't be opened.
+pub fn try_read<'a, R: Files>(rt: &R, name: &[u8], area: &'a mut [u8]) -> Option<&'a [u8]>
+    ensures { IfSome result (λ text. length text.now ≤ length area.old) }
 {
     let file = open(rt, name)?;
-    Some(take(file, text))
+    let n = take(file, area);
+    Some(&area[..n])
 }
 
-// The same, and none where it can't be opened.
-pub fn read<R: Files>(rt: &R, name: &[u8], text: &mut [u8]) -> usize
-    ensures { IsPrefixLen result text.new }
+// The same, and empty where it can't be opened.
+pub fn read<'a, R: Files>(rt: &R, name: &[u8], area: &'a mut [u8]) -> &'a [u8]
+    ensures { length result.now ≤ length area.old }
 {
-    try_read(rt, name, text).unwrap_or(0)
-}
-
-// What `program` says of a file on `err`. What `err` doesn't take is lost.
-fn tell<E: Print>(err: &E, program: &[u8], name: &[u8], words: &[u8]) {
-    let _ = err.write_all(program);
-    let _ = err.write_all(b": ");
-    let _ = err.write_all(name);
-    let _ = err.write_all(words);
+    try_read(rt, name, area).unwrap_or(&[])
 }
 
 // The same, and `program` says so where the file can't be opened.
-pub fn read_or_tell<R: Files, E: Print>(
+pub fn read_or_tell<'a, R: Files, E: Print>(
     rt: &R,
     err: &E,
     program: &[u8],
     name: &[u8],
-    text: &mut [u8],
-) -> usize
-    ensures { IsPrefixLen result text.new }
+    area: &'a mut [u8],
+) -> &'a [u8]
+    ensures { length result.now ≤ length area.old }
 {
-    let Some(n) = try_read(rt, name, text) else {
+    let Some(text) = try_read(rt, name, area) else {
         tell(err, program, name, b": can't be opened, counts as empty\n");
-        return 0;
+        return &[];
     };
-    n
+    text
 }
 
 // The same of a list, of which no more than LIST bytes count; `program` says so where there are more.
-pub fn read_list<R: Files, E: Print>(
+pub fn read_list<'a, R: Files, E: Print>(
     rt: &R,
     err: &E,
     program: &[u8],
     name: &[u8],
-    text: &mut [u8],
-) -> usize
-    ensures { IsPrefixLen result text.new × (result ≤ 200000) }
+    area: &'a mut [u8],
+) -> &'a [u8]
+    ensures { (length result.now ≤ length area.old) × (length result.now ≤ 200000) }
 {
-    let n = read_or_tell(rt, err, program, name, text);
-    if LIST < n {
+    let text = read_or_tell(rt, err, program, name, area);
+    if LIST < text.len() {
         tell(
             err,
             program,
             name,
             b": only the first 200,000 bytes count\n",
         );
-        return LIST;
+        return text.split_at(LIST).0;
     }
-    n
+    text
+}
+
+// Writes `text` to `out`. What `out` doesn't take is lost.
+pub fn show<P: Print>(out: &P, text: &[u8]) {
+    let _ = out.write_all(text);
+}
+
+// What `program` says of a file, or of its output, on `err`.
+fn tell<E: Print>(err: &E, program: &[u8], name: &[u8], words: &[u8]) {
+    show(err, program);
+    show(err, b": ");
+    show(err, name);
+    show(err, words);
+}
+
+// `program` says so where its output wasn't taken whole.
+pub fn tell_unwritten<E: Print>(err: &E, program: &[u8], printed: io::Result<()>) {
+    if printed.is_err() {
+        tell(err, program, b"the output", b" can't be written\n");
+    }
 }

@@ -1,6 +1,6 @@
 -- `admission::change_held` meets its contract: 17, then what the check of the links finds; else the slot and the figures hold the flow so changed.
 use Rattle.std.proofs.lemmas.Result.{err_from_is_err_and}
-use mathlib.Core.Path.{ap, ◌∙◌}
+use mathlib.Core.Path.{ap}
 use native.Mathlib.Omega.{arith}
 use Rattle.model.specs.Formula.{Aggregate}
 use Rattle.model.specs.Orders.{change}
@@ -8,7 +8,7 @@ use Rattle.causes.specs.declared.Cause.TheVariants.{FrameAboveBurst}
 use Rattle.flow_store.proofs.ViewLaws.{path_inside}
 use Rattle.figures.proofs.SizeLaws.{limited-below}
 use Rattle.admission.proofs.ConsistentLaws.{limited, speeds-within, stepped-refused}
-use Rattle.admission.proofs.ReleaseLaws.{ranged, share-ranged, path-ranged, path-counted}
+use Rattle.admission.proofs.ReleaseLaws.{share-ranged, path-ranged, path-counted}
 use Rattle.admission.proofs.ChangeLaws.{narrow, bit, over-burst, path-on-table, found-cause, path-moved, own-at-source, stepped-changed}
 use Rattle.admission.proofs.change_held.Goals as goal
 
@@ -19,12 +19,12 @@ returns-then-given-was c =
     let frame = ap (λ (a : Aggregate). a.frame) c.flow_at.ensures.share_value in
     stepped-refused _ _ _ _ kept (change _) FrameAboveBurst (over-burst _ _ _ _ kept c.args.given c.args.held first inside (omega (arith, frame, c.if-given-was.true)))
 
-pub path_at-path-requires : goal.path_at-path-requires
-path_at-path-requires c =
+pub path_of-entries-requires : goal.path_of-entries-requires
+path_of-entries-requires c =
     let kept = c.requires.consistent_arrays in
     let (first, inside) = c.requires.held_value in
     let held = bit _ _ _ _ kept c.args.given c.args.held first inside in
-    (kept.stored.store_long, inside, path_inside _ _ kept.stored.packed c.args.held inside held, (ranged _ _ _ _ kept c.args.held inside held).few)
+    (kept.stored.store_long, inside, path_inside _ _ kept.stored.packed c.args.held inside held)
 
 pub check_change-requires : goal.check_change-requires
 check_change-requires c =
@@ -32,7 +32,7 @@ check_change-requires c =
     let (first, inside) = c.requires.held_value in
     let held = bit _ _ _ _ kept c.args.given c.args.held first inside in
     let share = c.flow_at.ensures.share_value in
-    let path = c.entries-entries.ensures ∙ c.path_at-path.ensures.entries_value in
+    let path = c.path_of-entries.ensures in
     let on-table = path-on-table _ _ _ _ kept c.args.given c.args.held first inside _ _ share path in
     record {
       at_source = (
@@ -49,7 +49,7 @@ returns-in_err-check_change c =
     let kept = c.requires.consistent_arrays in
     let (first, inside) = c.requires.held_value in
     let refused = err_from_is_err_and c.from_residual.result c.from_residual.ensures.1 in
-    let found = found-cause _ _ _ _ kept c.args.given c.args.held first inside _ _ c.flow_at.ensures.share_value (c.entries-entries.ensures ∙ c.path_at-path.ensures.entries_value) c.if-given-was.false _ c.in_err-check_change.ensures in
+    let found = found-cause _ _ _ _ kept c.args.given c.args.held first inside _ _ c.flow_at.ensures.share_value c.path_of-entries.ensures c.if-given-was.false _ c.in_err-check_change.ensures in
     rw (refused.1, refused.2) (stepped-refused _ _ _ _ kept (change _) _ found)
 
 pub change-requires : goal.change-requires
@@ -61,7 +61,7 @@ change_path-requires c =
     let (first, inside) = c.requires.held_value in
     let held = bit _ _ _ _ kept c.args.given c.args.held first inside in
     let share = c.flow_at.ensures.share_value in
-    let path = c.entries-entries.ensures ∙ c.path_at-path.ensures.entries_value in
+    let path = c.path_of-entries.ensures in
     record {
       at_source = (
         share-ranged _ _ _ _ kept c.args.held inside held _ _ share path,
@@ -76,7 +76,7 @@ returns c =
     let kept = c.requires.consistent_arrays in
     let (first, inside) = c.requires.held_value in
     let share = c.flow_at.ensures.share_value in
-    let path = c.entries-entries.ensures ∙ c.path_at-path.ensures.entries_value in
+    let path = c.path_of-entries.ensures in
     stepped-changed _ _ _ _ kept c.args.given c.args.held first inside c.requires.given_value
     (found-cause _ _ _ _ kept c.args.given c.args.held first inside _ _ share path c.if-given-was.false _ c.in_ok-check_change.ensures)
     (c.change.ensures.by_index _) (c.change.ensures.by_index_2 _ kept.stored)
