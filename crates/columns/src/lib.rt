@@ -1,8 +1,7 @@
 // Decimal fields in fixed columns, and the lines of a text (document 01, "Columns").
 #![tactic(auto)]
 
-ghost use Rattle.std.specs.Prelude.{◌≡◌, ◌++◌, cond, ◌+◌, ◌%◌, ◌≤◌, ◌<◌, eqb, length, drop};
-ghost use Rattle.std.specs.Prelude.{List};
+ghost use Rattle.std.specs.Prelude.{◌≡◌, ◌++◌, cond, ◌+◌, ◌%◌, ◌≤◌, ◌<◌, List, eqb, length, drop};
 ghost use Rattle.std.specs.Iterator.{YieldsFirstBy, item_count};
 ghost use Rattle.model.specs.Columns.{Line, lines, field, field_at, digits, justified, written_at, end_line, between};
 ghost use Rattle.columns.specs.View.{value_of, line_of, AfterBlanks, lf_within, SameLine, FirstLine};

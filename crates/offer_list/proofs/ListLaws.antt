@@ -12,9 +12,8 @@ use Rattle.model.proofs.Laws.Batch.{line_bytes, lines-within}
 use Rattle.model.specs.Gate.{Gate, GateAnswer, turn, offer, open_gate}
 use Rattle.model.specs.OfferList.{Opening, Step, opening_fields, read_opening, step_fields, read_step, gate_line, of_line, step_text, steps_text, opened_text, opening_text, list_text, offers_text}
 use Rattle.columns.proofs.PartLaws.{field_next, byte_next, text-put, Filling, filling-first, filling-room, filling-put, filling-last}
-use Rattle.std.specs.Prelude.{Some, None}
+use Rattle.std.specs.Prelude.{Some, None, MatchOption}
 use Rattle.std.specs.Prelude as code
-use Rattle.std.specs.Prelude.{MatchOption}
 use Rattle.columns.specs.View.{line_of}
 use denote.Ref.{Bor}
 use Rattle.offer_list.specs.declared.Opening as code-opening
