@@ -6,6 +6,7 @@
 
 use batch::{ANSWER_BYTES, BatchResult, ORDER_BYTES, ORDER_LINES, Refusal};
 use queue_table::{Fault, TABLE_BYTES};
+use std::io;
 
 const TABLE: usize = TABLE_BYTES + 1;
 
@@ -39,16 +40,22 @@ fn tell_refusal(err: &impl Print, refusal: Refusal, line: u32) {
     };
 }
 
+fn tell_unwritten(err: &impl Print, printed: io::Result<()>) {
+    if printed.is_err() {
+        let _ = println!(err; "admit: the output can't be written");
+    }
+}
+
 fn run(rt: &impl Print, err: &impl Print, table: &[u8], orders: &[u8]) {
     let mut answers = [0u8; ANSWERS];
     match batch::answer(table, orders, &mut answers) {
         Ok(count) => {
             let printed = rt.write_all(&answers[..ANSWER_BYTES * count as usize]);
-            text_files::tell_unwritten(err, b"admit", printed);
+            tell_unwritten(err, printed);
         }
         Err(refusal) => {
             let BatchResult { code, line } = BatchResult::from(refusal);
-            text_files::tell_unwritten(err, b"admit", println!(rt; "{code:3}{line:6}"));
+            tell_unwritten(err, println!(rt; "{code:3}{line:6}"));
             tell_refusal(err, refusal, line);
         }
     }

@@ -12,7 +12,7 @@ use Rattle.model.specs.Columns.{Line, ended, unended, prepend, lines}
 use Rattle.model.proofs.Laws.Columns.{line_step, line-start}
 use Rattle.model.proofs.Laws.Test.{or-neither}
 use denote.Ref.{Bor}
-use Rattle.std.specs.Prelude.{Result, Some, None, Ok, Err}
+use Rattle.std.specs.Prelude.{Result, Some, None, Err}
 use Rattle.std.specs.Prelude as code
 use Rattle.std.specs.Option.{ok_or}
 use Rattle.columns.specs.View.{line_of, lf_within, SameLine}

@@ -12,7 +12,7 @@ use text_files::LIST_AREA;
 
 fn tell_verdict(err: &impl Print, verdict: Result<(), Refusal>) {
     if let Err(refusal) = verdict {
-        text_files::show(err, &recording::refusal_line(refusal.fault, refusal.line));
+        let _ = err.write_all(&recording::refusal_line(refusal.fault, refusal.line));
     }
 }
 
@@ -22,7 +22,9 @@ fn print_text(rt: &impl Print, err: &impl Print, registry: Registry) {
     let Ok(bytes) = order_text::write(registry, &mut area) else {
         return;
     };
-    text_files::tell_unwritten(err, b"handover", rt.write_all(&area[..bytes]));
+    if rt.write_all(&area[..bytes]).is_err() {
+        let _ = println!(err; "handover: the output can't be written");
+    }
 }
 
 fn hand_over(rt: &impl Print, err: &impl Print, table: &[u8], calls: &[u8]) {
@@ -30,7 +32,7 @@ fn hand_over(rt: &impl Print, err: &impl Print, table: &[u8], calls: &[u8]) {
     let replayed = recording::replay(Form::ByValue, table, calls, &mut answers);
     tell_verdict(err, replayed.verdict);
     if replayed.end < calls.len() {
-        text_files::show(err, &recording::end_line(replayed.end));
+        let _ = err.write_all(&recording::end_line(replayed.end));
     }
     print_text(rt, err, replayed.registry);
 }

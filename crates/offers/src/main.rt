@@ -12,7 +12,9 @@ fn print_answers(rt: &impl Print, err: &impl Print, text: &[u8])
 {
     let mut area = [0u8; PRINTED];
     let bytes = offer_list::answer(text, &mut area);
-    text_files::tell_unwritten(err, b"offers", rt.write_all(&area[..bytes]));
+    if rt.write_all(&area[..bytes]).is_err() {
+        let _ = println!(err; "offers: the output can't be written");
+    }
 }
 
 fn main(rt: HostRuntime) {

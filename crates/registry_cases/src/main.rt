@@ -26,7 +26,7 @@ const AREA: usize = 300;
 fn show(rt: &impl Print, answer: Answer) {
     let mut out = *b"             \n";
     answer_line::write_answer(answer, &mut out);
-    text_files::show(rt, &out);
+    let _ = rt.write_all(&out);
 }
 
 // The number in these columns of an x or w line, 0 where there is none.
@@ -75,8 +75,8 @@ fn show_text(rt: &impl Print, registry: Registry, area: &mut [u8]) {
         Err(cause) => (Numbers::from(cause).code, 0),
     };
     let _ = println!(rt; "{code:3}{bytes:6}");
-    text_files::show(rt, area);
-    text_files::show(rt, b"\n");
+    let _ = rt.write_all(area);
+    let _ = rt.write_all(b"\n");
 }
 
 // An area of at most AREA bytes.

@@ -20,13 +20,18 @@ use queue_table::{QUEUES, Refusal};
 use recording::{ANSWER, ANSWERS, Form, TABLE};
 use registry::Registry;
 use std::env::{Env, FillError};
-use text_files::{LIST, show};
+use text_files::LIST;
 
 // How many columns more a slot's line has than an order line.
 const PLACE: usize = 2;
 
 // The bytes of a slot's line with the most hops, and LF.
 const SLOT_LINE: usize = PLACE + HEAD_COLUMNS + HOP_COLUMNS * MOST_HOPS + 1;
+
+// What standard output doesn't take is lost.
+fn show(rt: &impl Print, bytes: &[u8]) {
+    let _ = rt.write_all(bytes);
+}
 
 fn show_verdict(rt: &impl Print, verdict: Result<(), Refusal>) {
     if let Err(refusal) = verdict {

@@ -7,7 +7,7 @@ ghost use Rattle.text_files.specs.Counts.{IsPrefixLen};
 use std::fs::File;
 use std::io::Read;
 use std::rt::Files;
-use std::{io, str};
+use std::str;
 
 // Only so many bytes of a list of calls or offers count. The area has one more, so that a longer list shows.
 pub const LIST: usize = 200_000;
@@ -99,22 +99,10 @@ pub fn read_list<'a, R: Files, E: Print>(
     text
 }
 
-// Writes `text` to `out`. What `out` doesn't take is lost.
-pub fn show<P: Print>(out: &P, text: &[u8]) {
-    let _ = out.write_all(text);
-}
-
-// What `program` says of a file, or of its output, on `err`.
+// What `program` says of a file on `err`. What `err` doesn't take is lost.
 fn tell<E: Print>(err: &E, program: &[u8], name: &[u8], words: &[u8]) {
-    show(err, program);
-    show(err, b": ");
-    show(err, name);
-    show(err, words);
-}
-
-// `program` says so where its output wasn't taken whole.
-pub fn tell_unwritten<E: Print>(err: &E, program: &[u8], printed: io::Result<()>) {
-    if printed.is_err() {
-        tell(err, program, b"the output", b" can't be written\n");
-    }
+    let _ = err.write_all(program);
+    let _ = err.write_all(b": ");
+    let _ = err.write_all(name);
+    let _ = err.write_all(words);
 }
