@@ -16,21 +16,15 @@ use crate::shares::{changed_at, counted_at, sum_past};
 use causes::Cause;
 use link_check::check_link;
 use queue_table::{LEVELS, Queue, entry_at, level_of, link_at, link_count, link_of, queue_at};
-use units::{Aggregate, Bytes, Micros};
+use std::array;
+use units::{Aggregate, Micros};
 
 // The queues of a link's eight levels, the link counted from 0.
 fn link_queues(link: usize, table: &[u32]) -> [Queue; LEVELS]
     requires { (link < links_most) × (length table.now ≡ table_numbers) }
     ensures { (queues_of result ≡ up_to levels_most (queue_at table.now link)) × All Narrow result }
 {
-    let mut queues = [Queue {
-        threshold: Micros(0),
-        buffer: Bytes(0),
-    }; LEVELS];
-    for p in 0..LEVELS {
-        queues[p] = queue_at(entry_at(link, p), table);
-    }
-    queues
+    array::from_fn(|p| queue_at(entry_at(link, p), table))
 }
 
 // What the check of a link, counted from 0, finds with these levels.

@@ -19,6 +19,7 @@ ghost use Rattle.figures.specs.View.{figure_numbers, figure_at, level_figures, B
 pub use checking::{check_change, check_links, links_meet};
 pub use counting::{add_path, change_path, raise_path, remove_path};
 use queue_table::{LEVELS, QUEUES, entry_at};
+use std::array;
 use units::{Aggregate, Bytes, Rate};
 
 // How many numbers a queue has in the array, and where they stand among these: the rate sum stands first.
@@ -49,15 +50,7 @@ pub(crate) fn link_levels(link: usize, figures: &[u64]) -> [Aggregate; LEVELS]
     requires { (link < links_most) × (length figures.now ≡ figure_numbers) }
     ensures { aggregates_of result ≡ level_figures figures.now link }
 {
-    let mut levels = [Aggregate {
-        rate: Rate(0),
-        burst: Bytes(0),
-        frame: Bytes(0),
-    }; LEVELS];
-    for p in 0..LEVELS {
-        levels[p] = figure(entry_at(link, p), figures);
-    }
-    levels
+    array::from_fn(|p| figure(entry_at(link, p), figures))
 }
 
 // The largest burst sum of a queue of a consistent registry: its buffer is a number of 32 bits.

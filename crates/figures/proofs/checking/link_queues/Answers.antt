@@ -1,26 +1,18 @@
--- `figures::checking::link_queues` meets its contract. The invariant: the queues before `p` are loaded.
-use mathlib.Core.Path.{refl, ap, ◌∙◌}
-use native.Mathlib.Omega.{arith}
-use lib.ListN.{length-set}
+-- `figures::checking::link_queues` meets its contract: what stands at each index is the queue there.
+use Rattle.std.proofs.Common.{rules, ◌≡◌, ℕ, ◌<◌, slice_index_or}
+use Rattle.model.specs.Sizes.{levels_most}
 use Rattle.link_check.specs.View.{queue_of, Narrow}
-use Rattle.queue_table.specs.View.{up_to, threshold_at, buffer_at, queue_at}
-use Rattle.figures.proofs.LoadLaws.{loaded-next, loaded-all}
+use Rattle.queue_table.specs.declared.Queue.{Queue}
+use Rattle.queue_table.specs.View.{threshold_at, buffer_at, queue_at}
+use Rattle.figures.proofs.LoadLaws.{loaded, loaded_all}
 use Rattle.figures.proofs.checking.link_queues.Goals as goal
 
-pub loop-p-init : goal.loop-p-init
-unfolding up_to
-loop-p-init c = (refl, refl, tt)
-
-pub loop-p-preserved : goal.loop-p-preserved
+pub returns : goal.returns
 unfolding queue_at
-loop-p-preserved c =
-    let at = c.loop-p in
-    let args = c.args in
-    let table = args.table.now in
-    let read = c.queue_at.ensures.threshold_value in
-    let entry = c.entry_at.ensures.0 in (
-      length-set at.queues at.p c.queue_at.result ∙ at.invariant.0,
-      loaded-next queue_of at.queues at.p c.queue_at.result (queue_at table args.link) (omega (arith, at.invariant.0)) at.invariant.1
-          (λ t. record { threshold = (read.0 ∙ ap (threshold_at table) entry) t; buffer = (read.1 ∙ ap (buffer_at table) entry) t }),
-      loaded-all Narrow at.queues at.p c.queue_at.result (omega (arith, at.invariant.0)) at.invariant.2 c.queue_at.ensures.threshold_bound,
-    )
+returns c =
+    let queues = c.from_fn.result in
+    let stands = queue_at c.args.table.now c.args.link in
+    let long = c.from_fn.ensures.items.long in
+    let each : (i : ℕ) (d : Queue) → i < levels_most → queue_of (slice_index_or queues i d) ≡ stands i = λ i d h. let k = (c.from_fn.ensures.items.at i d h).2 in search (rules, k) in
+    let narrow : (i : ℕ) (d : Queue) → i < levels_most → Narrow (slice_index_or queues i d) = λ i d h. let k = (c.from_fn.ensures.items.at i d h).2 in search (rules, k) in
+    (loaded queue_of queues levels_most stands long each, loaded_all Narrow queues levels_most long narrow)
