@@ -5,6 +5,7 @@ pub mod RemoveLaws
 pub mod RaiseLaws
 pub mod ClearLaws
 pub mod LoadLaws
+pub mod RangeLaws
 pub mod SizeLaws
 pub mod LinkLaws
 pub mod CheckLaws

@@ -140,10 +140,5 @@ pub fn links_meet(table: &[u32], figures: &[u64]) -> bool
     requires link_speeds { LinkSpeeds table.now }
     ensures { LinksMet table.now figures.now result }
 {
-    for link in 0..link_count(table) {
-        if !link_meets(link, table, figures) {
-            return false;
-        }
-    }
-    true
+    (0..link_count(table)).all(|link| link_meets(link, table, figures))
 }

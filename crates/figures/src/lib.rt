@@ -61,13 +61,10 @@ pub fn limited(figures: &[u64]) -> bool
     requires { length figures.now ≡ figure_numbers }
     ensures { (result ≡ true) ↔ Limited figures.now }
 {
-    for e in 0..QUEUES {
+    (0..QUEUES).all(|e| {
         let own = figure(e, figures);
-        if own.rate.0 > 10_000_000 || own.burst.0 > MOST_BURST || own.frame.0 > 1542 {
-            return false;
-        }
-    }
-    true
+        own.rate.0 <= 10_000_000 && own.burst.0 <= MOST_BURST && own.frame.0 <= 1542
+    })
 }
 
 // The figures of no flow.

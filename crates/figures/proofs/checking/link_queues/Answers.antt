@@ -3,7 +3,7 @@ use Rattle.std.proofs.Common.{rules, ◌≡◌, ℕ, ◌<◌, slice_index_or}
 use Rattle.model.specs.Sizes.{levels_most}
 use Rattle.link_check.specs.View.{queue_of, Narrow}
 use Rattle.queue_table.specs.declared.Queue.{Queue}
-use Rattle.queue_table.specs.View.{threshold_at, buffer_at, queue_at}
+use Rattle.queue_table.specs.View.{queue_at}
 use Rattle.figures.proofs.LoadLaws.{loaded, loaded_all}
 use Rattle.figures.proofs.checking.link_queues.Goals as goal
 
