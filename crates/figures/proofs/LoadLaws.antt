@@ -18,11 +18,11 @@ module _ {A B : Type 0} (f : A → B) (l : List A) (n : ℕ) (g : ℕ → B) (lo
       ap (map f) (take-suc l k d (omega (arith, h, long))) ∙ map-append f (take k l) (get_or l k d ∷ [])
       ∙ ap₂ (λ (m : List B) (b : B). m ++ (b ∷ [])) (first d same k (omega (arith, h))) (same k (omega (arith, h)))
 
-  -- What the array holds, where no index needs an element past the end.
   empty : map f [] ≡ up_to zero g
   unfolding up_to
   empty = refl
 
+  -- What the array holds, where no index needs an element past the end.
   pub loaded : ((i : ℕ) (d : A) → i < n → f (get_or l i d) ≡ g i) → map f l ≡ up_to n g
   loaded same = case l refl
     where
