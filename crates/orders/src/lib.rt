@@ -83,6 +83,9 @@ pub struct Change {
 // What stands where no hops were read: no queue has this link or level.
 const NO_HOPS: [Hop; MOST_HOPS] = [Hop { link: 0, level: 0 }; MOST_HOPS];
 
+// An order with its hops, or why a line gives none.
+type Reading = Result<(Order, [Hop; MOST_HOPS]), Unread>;
+
 // What a line gives, and the hops of its path where that is a registration: the first `hops` of them. The rest is free.
 #[derive(Clone, Copy)]
 pub struct OrderLine {
@@ -219,7 +222,7 @@ fn read_path(line: &[u8], count: u32) -> Option<[Hop; MOST_HOPS]>
 }
 
 #[tactic(auto, unfolding(model::specs::Orders::registration, model::specs::Orders::registration_of, model::specs::Orders::with_path, model::specs::Orders::hops_in_range, model::specs::Columns::between))]
-fn read_registration(line: &[u8]) -> Result<(Order, [Hop; MOST_HOPS]), Unread>
+fn read_registration(line: &[u8]) -> Reading
     ensures result_value { read_as result ≡ registration line.now }
     ensures hops_fit { IfOk result (λ read. hops_fit (Ok read.0)) }
 {
@@ -290,7 +293,7 @@ impl From<OtherKind> for Unread {
 
 // The order of a line, without its LF, and its hops.
 #[tactic(auto, unfolding(model::specs::Orders::read_order, model::specs::Orders::order_of_kind, model::specs::Orders::kind_order))]
-fn read_line(line: &[u8]) -> Result<(Order, [Hop; MOST_HOPS]), Unread>
+fn read_line(line: &[u8]) -> Reading
     ensures result_value { read_as result ≡ read_order line.now }
     ensures hops_fit { IfOk result (λ read. hops_fit (Ok read.0)) }
 {
@@ -304,7 +307,7 @@ fn read_line(line: &[u8]) -> Result<(Order, [Hop; MOST_HOPS]), Unread>
 
 // The order of a line that has to be of this kind.
 #[tactic(auto, unfolding(model::specs::Reference::line_of_kind))]
-fn read_own_kind(kind: Kind, line: &[u8]) -> Result<(Order, [Hop; MOST_HOPS]), Unread>
+fn read_own_kind(kind: Kind, line: &[u8]) -> Reading
     ensures result_value { read_as result ≡ line_of_kind (kind_number (kind_of kind)) line.now (field_at 1 2 line.now) }
     ensures hops_fit { IfOk result (λ read. hops_fit (Ok read.0)) }
 {
@@ -317,7 +320,7 @@ fn read_own_kind(kind: Kind, line: &[u8]) -> Result<(Order, [Hop; MOST_HOPS]), U
 
 // The order of the one line that these bytes have to be.
 #[tactic(auto, using(crate::proofs::CallLaws::call_laws), unfolding(model::specs::Reference::only_line))]
-fn read_only_line(kind: Kind, bytes: &[u8]) -> Result<(Order, [Hop; MOST_HOPS]), Unread>
+fn read_only_line(kind: Kind, bytes: &[u8]) -> Reading
     ensures result_value { read_as result ≡ only_line (kind_number (kind_of kind)) (lines bytes.now) }
     ensures hops_fit { IfOk result (λ read. hops_fit (Ok read.0)) }
 {
@@ -332,7 +335,7 @@ fn read_only_line(kind: Kind, bytes: &[u8]) -> Result<(Order, [Hop; MOST_HOPS]),
 }
 
 // What was read of a line, as an `OrderLine`.
-fn with_hops(read: Result<(Order, [Hop; MOST_HOPS]), Unread>) -> OrderLine
+fn with_hops(read: Reading) -> OrderLine
     requires { IfOk read (λ read. hops_fit (Ok read.0)) }
     ensures result_value { order_of result ≡ read_as read }
     ensures hops_fit { hops_fit result.order }
