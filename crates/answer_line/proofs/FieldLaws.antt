@@ -9,7 +9,7 @@ use lib.Seq.{take_at, drop_at, drop-drop}
 use Rattle.model.specs.Columns.{justified, written_at}
 use Rattle.model.specs.Reference.{Answer}
 use Rattle.model.specs.Answers.{answer_columns, answer_line}
-use Rattle.model.proofs.Laws.Answers.{justified-length, line-length}
+use Rattle.model.proofs.Laws.Answers.{justified-length}
 use Rattle.model.proofs.Laws.List.{drop-set}
 use Rattle.columns.proofs.PartLaws.{field_next}
 
@@ -54,6 +54,3 @@ module _ (l begun : List ℕ) (number : ℕ) (long : 20 ≤ length l) (is : begu
       ap₂ (λ (x y : List ℕ). x ++ (answer_columns a ++ y)) front rest
       ∙ ap (λ (t : List ℕ). n ++ t) (sym (append_assoc (answer_columns a) (10 ∷ []) (drop 20 l)))
       ∙ sym (append_assoc n (answer_columns a ++ (10 ∷ [])) (drop 20 l))
-
-pub filled-length : (l : List ℕ) (number : ℕ) (a : Answer) → 20 ≤ length l → length (answer_line number a ++ drop 20 l) ≡ length l
-filled-length l number a long = simp (length-append, line-length, length-drop) (omega (arith, long))

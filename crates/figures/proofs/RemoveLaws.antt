@@ -42,10 +42,6 @@ module _ (figures : List ℕ) (e : ℕ) (share : Aggregate) (inside : frame_posi
   burst-kept : get_or rate_stored (burst_position e) 0 ≡ get_or figures (burst_position e) 0
   burst-kept = get_or-set_other figures (own_numbers * e) (burst_position e) rates 0 (omega arith)
 
-  pub burst-room : share.burst ≤ get_or rate_stored (burst_position e) 0
-  unfolding figure_at
-  burst-room = omega (arith, burst-kept, counted.1)
-
   rate-left : get_or sums_stored (own_numbers * e) 0 ≡ rates
   rate-left =
       get_or-set_other rate_stored (burst_position e) (own_numbers * e) _ 0 (omega arith)

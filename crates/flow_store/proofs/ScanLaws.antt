@@ -95,8 +95,3 @@ module _ (number : ℕ) (store : List ℕ) where
       go : Dec (j < m) → get_or store j 0 ≡ number → ⊥
       go (yes h) = before j low h
       go (no h) = after j (omega arith) lt
-
-  pub others-one : (i : ℕ) → (get_or store i 0 ≡ number → ⊥) → OthersFrom number store i (i + 1)
-  others-one i other j low lt =
-      let same : j ≡ i = omega arith in
-      rw same other

@@ -185,13 +185,6 @@ module _ {first registry : Registry} {calls area area' : List ℕ} {at count : �
   pub line-room : count < length area / call_answer_bytes → call_answer_bytes * count + call_answer_bytes ≤ length area
   line-room h = omega arith
 
-  pub part_room : count < length area / call_answer_bytes → call_answer_bytes ≤ length (take (length area' - call_answer_bytes * count) (drop (call_answer_bytes * count) area'))
-  part_room h =
-      let k = call_answer_bytes * count in
-      let long : call_answer_bytes ≤ length (drop k area') = omega (arith, length-drop k area', same_size, line-room h) in
-      let whole = take_all (length area' - k) (drop k area') (omega (arith, length-drop k area')) in
-      subst (λ (l : List ℕ). call_answer_bytes ≤ length l) (sym whole) long
-
 -- No call is left, for want of room or since the next isn't whole: all are made.
 module _ {first registry : Registry} {calls area area' : List ℕ} {most at count : ℕ} (g : Going first calls area most registry at count area') where
   pub full : most ≤ count → g.done ≡ calls_in most calls
