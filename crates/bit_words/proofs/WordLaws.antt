@@ -42,8 +42,10 @@ module _ (words : List ℕ) where
     set-where : (b : ℕ) → b < word_bits → bit ((2 ^ word_bits - 1) - get_or words i 0) b ≡ 0 → bit (get_or words i 0) b ≡ 1
     set-where b l e = omega (arith, not-bit word_bits (get_or words i 0) b fits l, bit-lt (get_or words i 0) b)
 
-    pub least-found : (t : ℕ) → i < length words → LowestSet word_bits ((2 ^ word_bits - 1) - get_or words i 0) t → LeastClear words (word_bits * i + t)
-    least-found t inside low =
+    pub least-found : {clear : ℕ} → clear ≡ (2 ^ word_bits - 1) - get_or words i 0 → (t : ℕ) → i < length words → LowestSet word_bits clear t
+        → LeastClear words (word_bits * i + t)
+    least-found e t inside lowest =
+        let low = rw e at lowest in
         record {
           inside = omega (arith, low.inside);
           set_before = set_more i t (omega (arith, low.inside)) below (λ b l. set-where b (omega (arith, low.inside)) (low.clear-before b l));
