@@ -1,6 +1,5 @@
 -- `units::within_backlog` meets its contract: the burst sum is within the buffer, and what it leaves of it holds the quotient exactly where
 -- the products say so. Assumes nothing.
-use mathlib.Core.Path.{sym, ◌∙◌}
 use native.Mathlib.Omega.{arith}
 use borrow.Author.Tests.{lt-leb}
 use Rattle.model.specs.Formula.{backlog_bound}
@@ -16,4 +15,4 @@ pub returns-else-burst-buffer : goal.returns-else-burst-buffer
 unfolding backlog_bound
 returns-else-burst-buffer c =
     let args = c.args in
-    lt-leb args.burst.0 args.buffer.0 c.if-burst-buffer.false ∙ sym (lt-leb (backlog_bound args.rate.0 args.burst.0 args.y.0 args.res.0) args.buffer.0 (omega arith))
+    simp (lt-leb args.burst.0 args.buffer.0 c.if-burst-buffer.false, lt-leb (backlog_bound args.rate.0 args.burst.0 args.y.0 args.res.0) args.buffer.0 (omega arith))
