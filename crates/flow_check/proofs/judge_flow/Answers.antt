@@ -5,7 +5,7 @@ use mathlib.Core.List.{List}
 use native.Mathlib.Omega.{arith}
 use borrow.Author.Tests.{lt-ltb, le-ltb}
 use lib.Dec.{leb, ltb}
-use Rattle.std.specs.Prelude.{Some, None, is_some}
+use Rattle.std.specs.Prelude.{Some, None, is_some, true, false}
 use Rattle.std.specs.Prelude as code
 use Rattle.model.specs.Words.{first_index}
 use Rattle.model.specs.Sizes.{slot_count}
@@ -39,9 +39,10 @@ pub returns-then-is_some : goal.returns-then-is_some
 unfolding flow_of
 returns-then-is_some c =
     let args = c.args in
+    let told : is_some c.find.result ≡ true = grind arith in
     record {
       first = sym (early-held (state args.table.now args.bits.now args.store.now) (line_flow args.flow args.hops.now)
-          (held args.bits.now args.store.now args.flow.number c.find.result c.find.ensures ∙ sym c.is_some.ensures ∙ c.if-is_some.true));
+          (held args.bits.now args.store.now args.flow.number c.find.result c.find.ensures ∙ told));
       named = tt;
     }
 
@@ -49,9 +50,10 @@ pub returns-then-flow : goal.returns-then-flow
 unfolding flow_of
 returns-then-flow c =
     let args = c.args in
+    let told : is_some c.find.result ≡ false = grind arith in
     record {
       first = sym (early-frame (state args.table.now args.bits.now args.store.now) (line_flow args.flow args.hops.now)
-          (held args.bits.now args.store.now args.flow.number c.find.result c.find.ensures ∙ sym c.is_some.ensures ∙ c.if-is_some.false) (lt-ltb _ _ c.if-flow.true));
+          (held args.bits.now args.store.now args.flow.number c.find.result c.find.ensures ∙ told) (lt-ltb _ _ c.if-flow.true));
       named = tt;
     }
 
@@ -59,8 +61,9 @@ pub returns : goal.returns
 unfolding flow_of
 returns c =
     let args = c.args in
+    let told : is_some c.find.result ≡ false = grind arith in
     record {
       first = c.judge_path.ensures.first ∙ sym (early-path (state args.table.now args.bits.now args.store.now) (line_flow args.flow args.hops.now)
-          (held args.bits.now args.store.now args.flow.number c.find.result c.find.ensures ∙ sym c.is_some.ensures ∙ c.if-is_some.false) (le-ltb _ _ c.if-flow.false));
+          (held args.bits.now args.store.now args.flow.number c.find.result c.find.ensures ∙ told) (le-ltb _ _ c.if-flow.false));
       named = c.judge_path.ensures.named;
     }
