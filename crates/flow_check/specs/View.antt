@@ -1,5 +1,5 @@
 -- What the answers of this crate say in the terms of the model.
-use Rattle.std.specs.Prelude.{ℕ, ◌+◌, ◌/◌, ◌≤◌, ◌≡◌, Bool, true, ◌&&◌, List, [], ◌∷◌, ◌++◌, map, length, leb, ltb, eqb, Result, IfOk}
+use Rattle.std.specs.Prelude.{ℕ, ◌+◌, ◌/◌, ◌≤◌, ◌≡◌, Bool, true, ◌&&◌, List, [], ◌∷◌, ◌++◌, map, length, leb, ltb, eqb, Result, Ok, Err, IfOk}
 use Rattle.std.proofs.Math.Option.{Option, none, some}
 use Rattle.model.specs.Words.{first_index, is_none}
 use Rattle.model.specs.Sizes.{number_most}
@@ -8,7 +8,7 @@ use Rattle.model.specs.Orders as model
 use Rattle.model.specs.Reference as model-causes
 use Rattle.model.specs.Outcomes.{early_findings}
 use Rattle.model.specs.Consistent.{flow_in_range}
-use Rattle.causes.specs.View.{finding_of}
+use Rattle.causes.specs.View.{cause_of, finding_of}
 use Rattle.causes.specs.declared.Cause.{Cause}
 use Rattle.orders.specs.declared.Flow.{Flow}
 use Rattle.queue_table.specs.declared.access.Hop.{Hop}
@@ -16,6 +16,7 @@ use Rattle.orders.specs.View.{line_path, line_flow}
 use Rattle.queue_table.specs.View.{table_of, hop_at, AllQueues}
 use Rattle.bit_words.specs.View.{word_bits, is_set, LeastClear}
 use Rattle.flow_store.specs.View.{slots_of}
+use Rattle.flow_check.specs.declared.NoRoom.{NoRoom}
 
 -- 16, 15 and 20 of a path.
 unfoldable pub entry_findings : Table → (deadline : ℕ) → List model.Hop → List (Option model-causes.Cause)
@@ -47,11 +48,21 @@ pub record FlowJudged (f : Flow) (hops : List Hop) (table bits store : List ℕ)
       ≡ model-causes.first_cause (early_findings (record { table = table_of table; slots = slots_of bits store }) (line_flow f hops))
   pub named : IfOk r (PathNamed f hops table)
 
+-- What a flow lacks, none where there is room.
+abbrev pub lack_of : Result ℕ NoRoom → Option model-causes.Cause
+lack_of (Ok slot) = none
+lack_of (Err lack) = some (cause_of lack.cause)
+
+-- The lowest free slot, whether there is room or not.
+abbrev pub slot_of : Result ℕ NoRoom → ℕ
+slot_of (Ok slot) = slot
+slot_of (Err lack) = lack.slot
+
 -- 30 and 31 against a flow with so many hops; and the lowest free slot.
-pub record RoomJudged (hops : ℕ) (bits store : List ℕ) (r : Result ℕ Cause) : Type 0 where
+pub record RoomJudged (hops : ℕ) (bits store : List ℕ) (r : Result ℕ NoRoom) : Type 0 where
   pub first : (f : model.Flow) → length f.path ≡ hops
-      → finding_of r ≡ model-causes.first_cause (model-causes.room_findings (slots_of bits store) f)
-  pub slot : IfOk r (LeastClear bits)
+      → lack_of r ≡ model-causes.first_cause (model-causes.room_findings (slots_of bits store) f)
+  pub slot : LeastClear bits (slot_of r)
 
 -- 11, 12, 17, 14, 16, 15 and 20 of a held flow beside the others: what consistency asks of it but the links.
 unfoldable pub flow_alone : Table → List model.Flow → model.Flow → Bool

@@ -25,6 +25,21 @@ use units::Micros;
 // How many words mark flow numbers: number n at bit n % 64 of word n / 64.
 const NUMBER_WORDS: usize = MOST_NUMBER / bit_words::WORD + 1;
 
+// Why there is no room for a flow. The lowest free slot stands beside it, past all slots where none is free.
+#[derive(Clone, Copy, Debug, PartialEq, Eq)]
+pub struct NoRoom {
+    pub cause: Cause,
+    pub slot: usize,
+}
+
+impl From<NoRoom> for Cause {
+    ghost from_gives = { λ lack cause. cause ≡ lack.cause };
+
+    fn from(lack: NoRoom) -> Cause {
+        lack.cause
+    }
+}
+
 // 16, 15 and 20 over a path whose entries are queues.
 fn judge_entries(deadline: Micros, table: &[u32], entries: &[u32]) -> Result<(), Cause>
     requires { WellFormed table.now × AllQueues table.now entries.now × (length entries.now ≤ hops_most) }
@@ -79,16 +94,22 @@ pub fn judge_flow(
 }
 
 // 30, then 31 for a path of so many hops; else the slot that is free.
-pub fn judge_room(hops: u32, bits: &[u64], store: &[u32]) -> Result<usize, Cause>
+pub fn judge_room(hops: u32, bits: &[u64], store: &[u32]) -> Result<usize, NoRoom>
     requires { PackedStore bits.now store.now × (hops ≤ hops_most) }
     ensures { RoomJudged hops bits.now store.now result }
 {
     let slot = flow_store::first_free(bits);
     if SLOTS <= slot {
-        return Err(Cause::NoSlot);
+        return Err(NoRoom {
+            cause: Cause::NoSlot,
+            slot,
+        });
     }
     if POOL - (hops as usize) < flow_store::held_entries(bits, store) {
-        return Err(Cause::NoEntries);
+        return Err(NoRoom {
+            cause: Cause::NoEntries,
+            slot,
+        });
     }
     Ok(slot)
 }

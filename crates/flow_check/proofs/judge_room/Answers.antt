@@ -1,7 +1,7 @@
 -- `flow_check::judge_room` meets its contract: 30, then 31. The least clear bit is the lowest free slot, and the position where the
 -- last held path ends is the count of the held entries. Assumes nothing.
 use Prim.Native.Nat.{ℕ}
-use mathlib.Core.Path.{◌≡◌, sym, ◌∙◌, ap}
+use mathlib.Core.Path.{◌≡◌, sym, ◌∙◌, ap, subst}
 use mathlib.Core.Bool.{not}
 use mathlib.Core.List.{List}
 use native.Mathlib.Omega.{arith}
@@ -33,7 +33,7 @@ returns-then-slot-ge-SLOTS c =
     let store = c.args.store.now in
     record {
       first = λ f long. sym (room-slots (slots_of bits store) f (full bits store _ c.requires.0 c.first_free-slot.ensures ∙ ap not (le-ltb _ slot_count c.if-slot-ge-SLOTS.true)));
-      slot = tt;
+      slot = subst (LeastClear bits) (omega arith) c.first_free-slot.ensures;
     }
 
 pub returns-then-hops-held_entries : goal.returns-then-hops-held_entries
@@ -43,7 +43,7 @@ returns-then-hops-held_entries c =
     let free = full bits store _ c.requires.0 c.first_free-slot.ensures ∙ ap not (lt-ltb _ slot_count c.if-slot-ge-SLOTS.false) in
     record {
       first = λ f long. sym (room-hops (slots_of bits store) f free (omega (arith, c.if-hops-held_entries.true, c.held_entries.ensures, held-hops bits store c.requires.0, long, c.requires.1)));
-      slot = tt;
+      slot = subst (LeastClear bits) (omega arith) c.first_free-slot.ensures;
     }
 
 pub returns : goal.returns
