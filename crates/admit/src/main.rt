@@ -67,5 +67,5 @@ fn main(rt: HostRuntime) {
     let mut orders_area = [0u8; ORDERS];
     let table = text_files::read_or_tell(&rt, &err, b"admit", b"table.txt", &mut table_area);
     let orders = text_files::read_or_tell(&rt, &err, b"admit", b"orders.txt", &mut orders_area);
-    run(&rt, &err, table, orders);
+    run(&rt, &err, &table_area[..table], &orders_area[..orders]);
 }

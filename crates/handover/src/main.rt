@@ -43,5 +43,5 @@ fn main(rt: HostRuntime) {
     let mut calls_area = [0; LIST_AREA];
     let table = text_files::read_or_tell(&rt, &err, b"handover", b"table.txt", &mut table_area);
     let calls = text_files::read_list(&rt, &err, b"handover", b"calls.txt", &mut calls_area);
-    hand_over(&rt, &err, table, calls);
+    hand_over(&rt, &err, &table_area[..table], &calls_area[..calls]);
 }

@@ -20,6 +20,6 @@ fn print_answers(rt: &impl Print, err: &impl Print, text: &[u8])
 fn main(rt: HostRuntime) {
     let err = rt.stderr();
     let mut area = [0u8; LIST_AREA];
-    let text = text_files::read_list(&rt, &err, b"offers", b"offers.txt", &mut area);
-    print_answers(&rt, &err, text);
+    let bytes = text_files::read_list(&rt, &err, b"offers", b"offers.txt", &mut area);
+    print_answers(&rt, &err, &area[..bytes]);
 }

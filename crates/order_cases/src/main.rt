@@ -6,17 +6,19 @@ use causes::{Cause, Numbers};
 use orders::{Flow, MOST_HOPS, Order, Unread};
 use units::{Aggregate, Bytes, Micros, Rate};
 
-// What standard output doesn't take is lost.
+// Written column by column: with `println!` 910 lines took over four times the instructions. What standard output doesn't take is lost.
 fn show(rt: &impl Print, code: u32, flow: Flow, link: u32, level: u32) {
-    let number = flow.number;
-    let rate = flow.share.rate.0;
-    let burst = flow.share.burst.0;
-    let frame = flow.share.frame.0;
-    let deadline = flow.deadline.0;
-    let hops = flow.hops;
-    let _ = println!(rt;
-        "{code:3}{number:6}{rate:9}{burst:8}{frame:5}{deadline:9}{hops:3}{link:5}{level:3}"
-    );
+    let mut out = *b"                                                   \n";
+    columns::write_at(&mut out, 1, 3, u64::from(code));
+    columns::write_at(&mut out, 4, 9, u64::from(flow.number));
+    columns::write_at(&mut out, 10, 18, flow.share.rate.0);
+    columns::write_at(&mut out, 19, 26, flow.share.burst.0);
+    columns::write_at(&mut out, 27, 31, flow.share.frame.0);
+    columns::write_at(&mut out, 32, 40, flow.deadline.0);
+    columns::write_at(&mut out, 41, 43, u64::from(flow.hops));
+    columns::write_at(&mut out, 44, 48, u64::from(link));
+    columns::write_at(&mut out, 49, 51, u64::from(level));
+    let _ = rt.write_all(&out);
 }
 
 // A line with a code, a flow number, a rate and a burst only.
@@ -57,7 +59,8 @@ fn judge(rt: &impl Print, line: &[u8]) {
 
 fn main(rt: HostRuntime) {
     let mut area = [0u8; 8192];
-    walk(&rt, text_files::read(&rt, b"orders.txt", &mut area));
+    let bytes = text_files::read(&rt, b"orders.txt", &mut area);
+    walk(&rt, &area[..bytes]);
 }
 
 fn walk(rt: &impl Print, text: &[u8]) {

@@ -120,7 +120,7 @@ fn judge_files(rt: &(impl Files + Print), table_name: &[u8], orders_name: &[u8])
     let table = text_files::try_read(rt, table_name, &mut table_area)?;
     let mut orders_area = [0; 16384];
     let orders = text_files::try_read(rt, orders_name, &mut orders_area)?;
-    judge(rt, table, orders);
+    judge(rt, &table_area[..table], &orders_area[..orders]);
     Some(())
 }
 

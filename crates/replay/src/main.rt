@@ -65,6 +65,7 @@ fn show_queues(rt: &impl Print, table: &[u32], figures: &[u64])
 // A held slot's line, at the start of `out`: that of its flow, with the place in 4 columns instead of the kind in 2.
 fn write_flow<'a>(slot: usize, flow: Flow, entries: &[u32], out: &'a mut [u8]) -> &'a [u8]
     requires { (slot < slot_count) × (flow.hops ≡ length entries.now) × (2 + head_columns + 1 + hop_columns * length entries.now ≤ length out.old) }
+    ensures { length result.now ≤ length out.old }
 {
     let bytes = order_text::write_line(flow, entries, &mut out[PLACE..]);
     columns::write_at(out, 1, 4, (slot + 1) as u64);
@@ -133,5 +134,5 @@ fn main(rt: HostRuntime) {
     let mut calls_area = [0; LIST];
     let table = text_files::read(&rt, b"table.txt", &mut table_area);
     let calls = text_files::read(&rt, b"calls.txt", &mut calls_area);
-    replay(&rt, form, table, calls);
+    replay(&rt, form, &table_area[..table], &calls_area[..calls]);
 }

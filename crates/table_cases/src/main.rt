@@ -41,10 +41,10 @@ fn judge(rt: &impl Print, text: &[u8]) {
 // Whether there is such a file.
 fn judge_file(rt: &(impl Files + Print), name: &[u8]) -> bool {
     let mut area = [0u8; TEXT];
-    let Some(text) = text_files::try_read(rt, name, &mut area) else {
+    let Some(bytes) = text_files::try_read(rt, name, &mut area) else {
         return false;
     };
-    judge(rt, text);
+    judge(rt, &area[..bytes]);
     true
 }
 

@@ -1,7 +1,7 @@
-// The files that programs read, and what they say where a file or their output is not as it should be.
+// The files that programs read, and what they say where a file is not as it should be.
 #![tactic(auto)]
 
-ghost use Rattle.std.specs.Prelude.{◌≤◌, length, IfSome};
+ghost use Rattle.std.specs.Prelude.{◌≤◌, IfSome};
 ghost use Rattle.text_files.specs.Counts.{IsPrefixLen};
 
 use std::fs::File;
@@ -43,60 +43,59 @@ fn take<F: Read + Drop>(mut file: F, text: &mut [u8]) -> usize
     done
 }
 
-// What of the file can be read and has room in `area`: the front of what stands in `area` then. None where it can't be opened.
-pub fn try_read<'a, R: Files>(rt: &R, name: &[u8], area: &'a mut [u8]) -> Option<&'a [u8]>
-    ensures { IfSome result (λ text. length text.now ≤ length area.old) }
+// How many bytes of the file stand at the start of `text`, where it can be opened.
+pub fn try_read<R: Files>(rt: &R, name: &[u8], text: &mut [u8]) -> Option<usize>
+    ensures { IfSome result (λ n. IsPrefixLen n text.new) }
 {
     let file = open(rt, name)?;
-    let n = take(file, area);
-    Some(&area[..n])
+    Some(take(file, text))
 }
 
-// The same, and empty where it can't be opened.
-pub fn read<'a, R: Files>(rt: &R, name: &[u8], area: &'a mut [u8]) -> &'a [u8]
-    ensures { length result.now ≤ length area.old }
+// The same, and none where it can't be opened.
+pub fn read<R: Files>(rt: &R, name: &[u8], text: &mut [u8]) -> usize
+    ensures { IsPrefixLen result text.new }
 {
-    try_read(rt, name, area).unwrap_or(&[])
+    try_read(rt, name, text).unwrap_or(0)
 }
 
 // The same, and `program` says so where the file can't be opened.
-pub fn read_or_tell<'a, R: Files, E: Print>(
+pub fn read_or_tell<R: Files, E: Print>(
     rt: &R,
     err: &E,
     program: &[u8],
     name: &[u8],
-    area: &'a mut [u8],
-) -> &'a [u8]
-    ensures { length result.now ≤ length area.old }
+    text: &mut [u8],
+) -> usize
+    ensures { IsPrefixLen result text.new }
 {
-    let Some(text) = try_read(rt, name, area) else {
+    let Some(n) = try_read(rt, name, text) else {
         tell(err, program, name, b": can't be opened, counts as empty\n");
-        return &[];
+        return 0;
     };
-    text
+    n
 }
 
 // The same of a list, of which no more than LIST bytes count; `program` says so where there are more.
-pub fn read_list<'a, R: Files, E: Print>(
+pub fn read_list<R: Files, E: Print>(
     rt: &R,
     err: &E,
     program: &[u8],
     name: &[u8],
-    area: &'a mut [u8],
-) -> &'a [u8]
-    ensures { (length result.now ≤ length area.old) × (length result.now ≤ 200000) }
+    text: &mut [u8],
+) -> usize
+    ensures { IsPrefixLen result text.new × (result ≤ 200000) }
 {
-    let text = read_or_tell(rt, err, program, name, area);
-    if LIST < text.len() {
+    let n = read_or_tell(rt, err, program, name, text);
+    if LIST < n {
         tell(
             err,
             program,
             name,
             b": only the first 200,000 bytes count\n",
         );
-        return text.split_at(LIST).0;
+        return LIST;
     }
-    text
+    n
 }
 
 // What `program` says of a file on `err`. What `err` doesn't take is lost.
