@@ -98,8 +98,8 @@ fn call_arrays(
     admission::apply(line.order, &line.hops, table, bits, store, figures)
 }
 
-// A call of any kind.
-pub fn step(mut registry: Registry, kind: Kind, bytes: &[u8]) -> Called
+// A direct call of any kind on any registry whatever.
+fn call(mut registry: Registry, kind: Kind, bytes: &[u8]) -> Called
     ensures { Performs registry (call_of (kind_of kind) bytes.now) result }
 {
     let answer = call_arrays(
@@ -117,21 +117,32 @@ pub fn step(mut registry: Registry, kind: Kind, bytes: &[u8]) -> Called
 pub fn register(registry: Registry, bytes: &[u8]) -> Called
     ensures { Performs registry (call_of registering bytes.now) result }
 {
-    step(registry, Kind::Register, bytes)
+    call(registry, Kind::Register, bytes)
 }
 
 // Releases the flow that one order line with its LF names.
 pub fn release(registry: Registry, bytes: &[u8]) -> Called
     ensures { Performs registry (call_of releasing bytes.now) result }
 {
-    step(registry, Kind::Release, bytes)
+    call(registry, Kind::Release, bytes)
 }
 
 // Changes rate and burst of the flow that one order line with its LF names.
 pub fn change(registry: Registry, bytes: &[u8]) -> Called
     ensures { Performs registry (call_of changing bytes.now) result }
 {
-    step(registry, Kind::Change, bytes)
+    call(registry, Kind::Change, bytes)
+}
+
+// One call of any kind.
+pub fn step(registry: Registry, kind: Kind, bytes: &[u8]) -> Called
+    ensures { Performs registry (call_of (kind_of kind) bytes.now) result }
+{
+    match kind {
+        Kind::Register => register(registry, bytes),
+        Kind::Release => release(registry, bytes),
+        Kind::Change => change(registry, bytes),
+    }
 }
 
 // An empty registry on a table text; without queues where the text is refused.

@@ -44,6 +44,10 @@ pub fn change(registry: &mut Registry, bytes: &[u8]) -> Answer
 pub fn step(mut registry: Registry, kind: Kind, bytes: &[u8]) -> Called
     ensures { Performs registry (call_of (kind_of kind) bytes.now) result }
 {
-    let answer = call(&mut registry, kind, bytes);
+    let answer = match kind {
+        Kind::Register => register(&mut registry, bytes),
+        Kind::Release => release(&mut registry, bytes),
+        Kind::Change => change(&mut registry, bytes),
+    };
     Called { answer, registry }
 }
