@@ -10,14 +10,16 @@ use Rattle.model.specs.Columns.{lines}
 use Rattle.model.specs.QueueTable.{Table, TableText, accepted}
 use Rattle.model.specs.Reference.{State, opened}
 use Rattle.model.specs.Batch.{Batch, refused_batch, done_batch, too_long, too_short, after_table, batch}
-use Rattle.std.specs.Prelude.{Ok, Err}
+use Rattle.std.specs.Prelude.{Result, Ok, Err}
 use Rattle.queue_table.specs.declared.Refusal.{Refusal}
 use Rattle.queue_table.specs.View.{table_of, fault_code, TableFilled}
 use Rattle.flow_store.specs.View.{slot_words, store_numbers}
 use Rattle.figures.specs.View.{figure_numbers}
 use Rattle.admission.specs.View.{state_of, ConsistentArrays}
 use Rattle.admission.proofs.OpenLaws.{empty, empty-consistent}
-use Rattle.batch.specs.View.{no_bits, no_flows, no_figures}
+use Rattle.batch.specs.declared.Refusal as whole
+use Rattle.batch.specs.declared.Refusal.TheVariants.{Table as OfTable, OrdersTooLong, AreaTooShort}
+use Rattle.batch.specs.View.{no_bits, no_flows, no_figures, result_of, result_in, batch_of}
 
 module _ (t : Table) (s : State) (orders area : List ℕ) where
   abbrev judged : Batch
@@ -63,3 +65,11 @@ pub refused-table : (text table orders area : List ℕ) (refusal : Refusal) → 
     → refused_batch (fault_code refusal.fault) refusal.line area ≡ batch text orders area
 unfolding batch after_table
 refused-table text table orders area refusal filled = ap (λ (t : TableText). after_table t (opened text) orders area) filled.same
+
+-- What a host in C gets says the same.
+pub as-numbers : (r : Result ℕ whole.Refusal) (area : List ℕ) → result_of (result_in r) area ≡ batch_of r area
+unfolding refused_batch
+as-numbers (Ok count) area = refl
+as-numbers (Err (OfTable of_table)) area = refl
+as-numbers (Err OrdersTooLong) area = refl
+as-numbers (Err AreaTooShort) area = refl

@@ -56,6 +56,13 @@ abbrev pub batch_of : Result ℕ Refusal → (area : List ℕ) → model.Batch
 batch_of (Ok count) area = record { code = 0; line = count; area = area }
 batch_of (Err refusal) area = refused_with refusal area
 
+-- The same as the numbers that a host in C gets.
+abbrev pub result_in : Result ℕ Refusal → BatchResult
+result_in (Ok count) = record { code = 0; line = count }
+result_in (Err (Table of_table)) = record { code = fault_code of_table.fault; line = of_table.line }
+result_in (Err OrdersTooLong) = record { code = 41; line = 0 }
+result_in (Err AreaTooShort) = record { code = 40; line = 0 }
+
 -- The orders were judged and answered on an empty registry.
 abbrev pub OrdersDone : (table orders area area' : List ℕ) → Result ℕ Refusal → Type 0
 OrdersDone table orders area area' r =

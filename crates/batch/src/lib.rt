@@ -10,7 +10,7 @@ ghost use Rattle.model.specs.Columns.{lines};
 ghost use Rattle.model.specs.Batch.{batch};
 ghost use Rattle.admission.specs.View.{ConsistentArrays};
 ghost use Rattle.columns.specs.View.{line_of};
-ghost use Rattle.batch.specs.View.{no_bits, no_flows, no_figures, LineDone, Answerable, Answered, OrdersDone, result_of, refused_with, batch_of, is_lf, Batched};
+ghost use Rattle.batch.specs.View.{no_bits, no_flows, no_figures, LineDone, Answerable, Answered, OrdersDone, result_of, refused_with, batch_of, result_in, is_lf, Batched};
 ghost use Rattle.batch.specs.declared.Refusal.TheVariants.{Table};
 
 use admission::Answer;
@@ -180,6 +180,7 @@ fn judge_orders(orders: &[u8], table: &[u32], answers: &mut [u8]) -> Result<u32,
 // A batch over byte areas: how many order lines were answered, in 20 bytes each, the rest of the area left as it was. Refused, it
 // writes nothing.
 pub fn answer(table: &[u8], orders: &[u8], answers: &mut [u8]) -> Result<u32, Refusal>
+    ensures batched { Batched table.now orders.now answers.old answers.new (result_in result) }
     ensures done { batch_of result answers.new ≡ batch table.now orders.now answers.old }
     ensures few { IfOk result (λ count. count ≤ order_lines) }
 {
