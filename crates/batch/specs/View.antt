@@ -1,5 +1,5 @@
 -- What the parts of a batch say in the terms of the model.
-use Rattle.std.specs.Prelude.{ℕ, ◌*◌, ◌≤◌, ◌≡◌, List, ◌∷◌, length, replicate, Bool, eqb, Result, Ok, Err}
+use Rattle.std.specs.Prelude.{ℕ, ◌*◌, ◌≤◌, ◌≡◌, List, [], ◌∷◌, length, replicate, Bool, eqb, Result, Ok, Err}
 use Rattle.model.specs.Sizes.{order_lines, answer_bytes}
 use Rattle.model.specs.Columns.{Line, lines}
 use Rattle.model.specs.QueueTable.{accepted}
@@ -59,9 +59,7 @@ batch_of (Err refusal) area = refused_with refusal area
 -- The same as the numbers that a host in C gets.
 abbrev pub result_in : Result ℕ Refusal → BatchResult
 result_in (Ok count) = record { code = 0; line = count }
-result_in (Err (Table of_table)) = record { code = fault_code of_table.fault; line = of_table.line }
-result_in (Err OrdersTooLong) = record { code = 41; line = 0 }
-result_in (Err AreaTooShort) = record { code = 40; line = 0 }
+result_in (Err refusal) = record { code = (refused_with refusal []).code; line = (refused_with refusal []).line }
 
 -- The orders were judged and answered on an empty registry.
 abbrev pub OrdersDone : (table orders area area' : List ℕ) → Result ℕ Refusal → Type 0
